@@ -1,0 +1,11 @@
+pub mod Polynomials
+pub mod Rings
+pub mod Integers
+pub mod IntegerTerms
+pub mod IntegerOrder
+pub mod IntegerOmega
+pub mod FractionLaws
+pub mod Rationals
+pub mod RationalTerms
+pub mod Signs
+pub mod FractionsInRationals

@@ -1,0 +1,4 @@
+// Whole numbers and fractions: rounding.
+pub fn one() -> u8 {
+    1
+}
