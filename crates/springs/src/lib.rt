@@ -1,0 +1,4 @@
+// One end of a stack as a chain of springs.
+pub fn one() -> u8 {
+    1
+}
