@@ -9,3 +9,4 @@ pub mod Rationals
 pub mod RationalTerms
 pub mod Signs
 pub mod FractionsInRationals
+pub mod ByteLaws

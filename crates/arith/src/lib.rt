@@ -1,4 +1,3 @@
-// Whole numbers and fractions: rounding.
-pub fn one() -> u8 {
-    1
-}
+// Whole numbers in bytes, rounded quotients and least roots.
+
+pub mod bytes; // bytes.rt: numbers read from bytes and written to them
