@@ -10,3 +10,4 @@ pub mod RationalTerms
 pub mod Signs
 pub mod FractionsInRationals
 pub mod ByteLaws
+pub mod Quotients

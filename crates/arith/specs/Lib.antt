@@ -1,2 +1,3 @@
 pub mod Fractions
 pub mod Bytes
+pub mod Rounding
