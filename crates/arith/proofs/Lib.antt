@@ -11,3 +11,4 @@ pub mod Signs
 pub mod FractionsInRationals
 pub mod ByteLaws
 pub mod Quotients
+pub mod RootLaws

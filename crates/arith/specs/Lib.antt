@@ -1,3 +1,4 @@
 pub mod Fractions
 pub mod Bytes
 pub mod Rounding
+pub mod Roots
