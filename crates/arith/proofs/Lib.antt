@@ -12,3 +12,5 @@ pub mod FractionsInRationals
 pub mod ByteLaws
 pub mod Quotients
 pub mod RootLaws
+pub mod Sizes
+pub mod Ceilings

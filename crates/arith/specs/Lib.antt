@@ -2,3 +2,4 @@ pub mod Fractions
 pub mod Bytes
 pub mod Rounding
 pub mod Roots
+pub mod Sizes
