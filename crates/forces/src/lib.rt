@@ -1,5 +1,7 @@
 // Every reported force of a stack: rackings, posts and lashes of both ends.
 
+mod levels; // levels.rt: rackings and posts, from the top level down
+
 // The figures of one end: racking per tier, compression per level from 0, tension per level from 0, and each lash's tension,
 // athwart and vertical part, all in N.
 pub struct EndFigures {
@@ -14,6 +16,19 @@ pub struct EndFigures {
 pub struct Figures {
     pub door: EndFigures,
     pub closed: EndFigures,
+}
+
+// Of each level: racking of the tier over it, compression and tension.
+pub struct LevelFigures {
+    pub racking: [i32; 10],
+    pub compression: [u64; 11],
+    pub tension: [u64; 10],
+}
+
+// Vertical parts on the two posts.
+pub struct Uplift {
+    pub lee: u64,
+    pub windward: u64,
 }
 
 pub fn both(d: EndFigures, c: EndFigures) -> Figures {
