@@ -1,2 +1,4 @@
 pub mod Facts
+pub mod Arrays
 pub mod LevelLaws
+pub mod Descent

@@ -8,10 +8,10 @@ ghost use lib.Signed.{quotZ};
 ghost use Rattle.arith.specs.Sizes.{Small};
 ghost use Rattle.forces.specs.Fixed.{rackingFigure, postFigure, notBelow};
 ghost use Rattle.forces.specs.Steps.{compressed, tensed, Measured, Levelled};
-use sheet::Tier;
-use arith::rounding::ceil_div;
 use crate::LevelFigures;
 use crate::Uplift;
+use arith::rounding::ceil_div;
+use sheet::Tier;
 
 // The racking of a tier of spring k, from the shifts of its upper and its lower level.
 fn racking_part(k: u64, upper: u64, lower: u64) -> i64

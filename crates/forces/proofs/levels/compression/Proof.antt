@@ -1,37 +1,25 @@
 use Rattle.arith.proofs.Sizes.{small-neg, small-weaken}
-use mathlib.Core.Path.{_≡_, refl, ap, _∙_}
 use lib.Dec.{lit<, lit≤}
-use lib.IntN.{pos, _+ℤ_}
 use Rattle.forces.proofs.LevelLaws.{held}
 use borrow.Author.Needs.{needs}
 use Rattle.forces.proofs.levels.compression.Statement.{statement}
 use Rattle.forces.proofs.levels.compression.Tie as tie
-use Rattle.forces.proofs.levels.compression.Reads as reads
-use Rattle.forces.proofs.levels.compression.Lts as lts
-use Rattle.forces.proofs.levels.negative.Reads as negative-reads
-use Rattle.forces.proofs.levels.post_figure.Reads as post-figure-reads
-use Rattle.forces.proofs.levels.post_sum.Reads as post-sum-reads
 
--- src/levels.rt:85:9
 post-sum-requires : tie.Need-post-sum-requires
 post-sum-requires c κs = search needs
 
--- src/levels.rt:86:26
 negative-requires : tie.Need-negative-requires
 negative-requires c κs = rw (held (c .before .pre .1) (lit< tt)) (small-weaken (c .before .pre .1) (lit≤ tt))
 
--- src/levels.rt:86:9
 post-sum-requires-2 : tie.Need-post-sum-requires-2
 post-sum-requires-2 c κs =
     let b = c .before .before in
     let n = small-neg (b .pre .1) in
     (b .pre .0, simp (held (b .pre .1) (lit< tt), c .negative .ensures, held n (lit< tt)) n, b .pre .3)
 
--- src/levels.rt:84:5
 post-figure-requires : tie.Need-post-figure-requires
 post-figure-requires c κs = search needs
 
--- src/levels.rt:80:1
 returns : tie.Need-returns
 returns c =
     let b = c .before .before .before .before in

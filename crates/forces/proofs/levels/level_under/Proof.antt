@@ -5,38 +5,25 @@ use Rattle.forces.proofs.LevelLaws.{held}
 use borrow.Author.Needs.{needs}
 use Rattle.forces.proofs.levels.level_under.Statement.{statement}
 use Rattle.forces.proofs.levels.level_under.Tie as tie
-use Rattle.forces.proofs.levels.level_under.Reads as reads
-use Rattle.forces.proofs.levels.level_under.Lts as lts
-use Rattle.forces.proofs.levels.compression.Reads as compression-reads
-use Rattle.forces.proofs.levels.lean_of.Reads as lean-of-reads
-use Rattle.forces.proofs.levels.moment_under.Reads as moment-under-reads
-use Rattle.forces.proofs.levels.tension.Reads as tension-reads
 
--- src/levels.rt:150:9
 moment-under-requires : tie.Need-moment-under-requires
 moment-under-requires c κs = search needs
 
--- src/levels.rt:151:9
 lean-of-requires : tie.Need-lean-of-requires
 lean-of-requires c κs = search needs
 
--- src/levels.rt:154:14
 add-t11 : tie.Need-add-t11
 add-t11 c = search needs
 
--- src/levels.rt:155:19
 add-t12 : tie.Need-add-t12
 add-t12 c = search needs
 
--- src/levels.rt:162:22
 compression-requires : tie.Need-compression-requires
 compression-requires c κs = search needs
 
--- src/levels.rt:163:18
 tension-requires : tie.Need-tension-requires
 tension-requires c κs = search needs
 
--- src/levels.rt:141:1
 returns : tie.Need-returns
 unfolding leeFound windwardFound
 returns c =

@@ -1,4 +1,3 @@
-use Prim.Native.Nat.{_≤_}
 use mathlib.Core.Path.{refl}
 use native.Mathlib.Omega.{arith}
 use lib.Dec.{lit<}
@@ -8,21 +7,16 @@ use Rattle.forces.proofs.LevelLaws.{held, turned, moment-small}
 use borrow.Author.Needs.{needs}
 use Rattle.forces.proofs.levels.moment_under.Statement.{statement}
 use Rattle.forces.proofs.levels.moment_under.Tie as tie
-use Rattle.forces.proofs.levels.moment_under.Reads as reads
-use Rattle.forces.proofs.levels.moment_under.Lts as lts
 
--- src/levels.rt:117:6
 cast-result : tie.Need-cast-result
 cast-result c = search needs
 
--- src/levels.rt:117:5
 mul-result : tie.Need-mul-result
 mul-result c =
     let a = c .args in
     rw (divisor (a .height) (omega arith), held (c .pre .1) (lit< tt))
     (fits64 (turned (a .height) (a .part) (a .above) (c .pre .2) (c .pre .1) (c .pre .0)) (lit< tt))
 
--- src/levels.rt:117:5
 add-result : tie.Need-add-result
 add-result c =
     let a = c .args in
@@ -30,7 +24,6 @@ add-result c =
     let m = moment-small (a .height) (a .part) (a .above) (c .pre .2) (c .pre .1) (c .pre .0) in
     simp (divisor (a .height) (omega arith), held (c .pre .1) (lit< tt), held t (lit< tt), held (c .pre .0) (lit< tt)) (fits64 m (lit< tt))
 
--- src/levels.rt:113:1
 returns : tie.Need-returns
 returns c =
     let a = c .args in

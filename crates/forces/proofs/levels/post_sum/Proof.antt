@@ -7,33 +7,26 @@ use Rattle.forces.proofs.LevelLaws.{held, leaned, post-small}
 use borrow.Author.Needs.{needs}
 use Rattle.forces.proofs.levels.post_sum.Statement.{statement}
 use Rattle.forces.proofs.levels.post_sum.Tie as tie
-use Rattle.forces.proofs.levels.post_sum.Reads as reads
-use Rattle.forces.proofs.levels.post_sum.Lts as lts
 
--- src/levels.rt:69:6
 cast-result : tie.Need-cast-result
 cast-result c = search needs
 
--- src/levels.rt:69:5
 add-result : tie.Need-add-result
-add-result c =     let a = c .args in
+add-result c = let a = c .args in
     rw (divisor (a .weight) (omega arith), held (c .pre .1) (lit< tt))
     (fits64 (leaned (a .weight) (a .vertical) (a .lean) (c .pre .0) (c .pre .1) (c .pre .2)) (lit< tt))
 
--- src/levels.rt:69:31
 cast-result-2 : tie.Need-cast-result-2
 cast-result-2 c = search needs
 
--- src/levels.rt:69:5
 add-result-2 : tie.Need-add-result-2
-add-result-2 c =     let a = c .args in
+add-result-2 c = let a = c .args in
     let l = leaned (a .weight) (a .vertical) (a .lean) (c .pre .0) (c .pre .1) (c .pre .2) in
     simp (divisor (a .weight) (omega arith), held (c .pre .1) (lit< tt), held l (lit< tt), divisor (a .vertical) (omega arith))
     (fits64 (post-small (a .weight) (a .vertical) (a .lean) (c .pre .0) (c .pre .1) (c .pre .2)) (lit< tt))
 
--- src/levels.rt:65:1
 returns : tie.Need-returns
-returns c =     let a = c .args in
+returns c = let a = c .args in
     let l = leaned (a .weight) (a .vertical) (a .lean) (c .pre .0) (c .pre .1) (c .pre .2) in
     let s = post-small (a .weight) (a .vertical) (a .lean) (c .pre .0) (c .pre .1) (c .pre .2) in
     simp

@@ -1,22 +1,15 @@
-use mathlib.Core.Path.{_≡_, ap, refl, _∙_}
-use lib.Dec.{lit<, T}
-use lib.IntN.{pos, natAbs}
+use lib.Dec.{lit<}
 use mir.Syntax.{w64}
 use mir.ValLaws.{toZ-ofZ}
-use Rattle.arith.proofs.Sizes.{fits64, small-neg, abs-neg}
+use Rattle.arith.proofs.Sizes.{small-neg, abs-neg}
 use Rattle.forces.proofs.LevelLaws.{held, neg-size, pos-size, size-fits}
 use borrow.Author.Needs.{needs}
 use Rattle.forces.proofs.levels.size.Statement.{statement}
 use Rattle.forces.proofs.levels.size.Tie as tie
-use Rattle.forces.proofs.levels.size.Reads as reads
-use Rattle.forces.proofs.levels.size.Lts as lts
-use Rattle.forces.proofs.levels.negative.Reads as negative-reads
 
--- src/levels.rt:36:16
 negative-requires : tie.Need-negative-requires
 negative-requires c κs = search needs
 
--- src/levels.rt:36:16
 cast-result : tie.Need-cast-result
 cast-result c =
     let b = c .before .before in
@@ -25,14 +18,12 @@ cast-result c =
     let e = simp h at (c .before .if1 .taken) in
     rw (simp h at (c .negative .ensures), held (small-neg (b .pre)) (lit< tt), neg-size x e) (tt, size-fits x (b .fits .x))
 
--- src/levels.rt:36:9
 returns : tie.Need-returns
 returns c =
     let b = c .before .before in
     let h = toZ-ofZ w64 (b .args .x) (b .fits .x) in
     rw (simp h at (c .negative .ensures), held (small-neg (b .pre)) (lit< tt)) (abs-neg (b .args .x))
 
--- src/levels.rt:38:5
 cast-result-2 : tie.Need-cast-result-2
 cast-result-2 c =
     let x = c .before .args .x in
@@ -40,7 +31,6 @@ cast-result-2 c =
     let e = simp (toZ-ofZ w64 x f) at (c .if1 .left) in
     rw (toZ-ofZ w64 x f, pos-size x e) (tt, size-fits x f)
 
--- src/levels.rt:31:1
 returns-2 : tie.Need-returns-2
 returns-2 c = search needs
 

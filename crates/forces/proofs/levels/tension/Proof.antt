@@ -4,38 +4,27 @@ use Rattle.forces.proofs.LevelLaws.{held}
 use borrow.Author.Needs.{needs}
 use Rattle.forces.proofs.levels.tension.Statement.{statement}
 use Rattle.forces.proofs.levels.tension.Tie as tie
-use Rattle.forces.proofs.levels.tension.Reads as reads
-use Rattle.forces.proofs.levels.tension.Lts as lts
-use Rattle.forces.proofs.levels.negative.Reads as negative-reads
-use Rattle.forces.proofs.levels.post_figure.Reads as post-figure-reads
-use Rattle.forces.proofs.levels.post_sum.Reads as post-sum-reads
 
--- src/levels.rt:96:18
 post-sum-requires : tie.Need-post-sum-requires
 post-sum-requires c κs = search needs
 
--- src/levels.rt:96:9
 negative-requires : tie.Need-negative-requires
 negative-requires c κs = search needs
 
--- src/levels.rt:97:35
 negative-requires-2 : tie.Need-negative-requires-2
 negative-requires-2 c κs =
     let b = c .before .before in
     rw (held (b .pre .1) (lit< tt)) (small-weaken (b .pre .1) (lit≤ tt))
 
--- src/levels.rt:97:18
 post-sum-requires-2 : tie.Need-post-sum-requires-2
 post-sum-requires-2 c κs =
     let b = c .before .before .before in
     let n = small-neg (b .pre .1) in
     (b .pre .0, simp (held (b .pre .1) (lit< tt), c .negative2 .ensures, held n (lit< tt)) n, b .pre .3)
 
--- src/levels.rt:97:9
 negative-requires-3 : tie.Need-negative-requires-3
 negative-requires-3 c κs = search needs
 
--- src/levels.rt:95:5
 post-figure-requires : tie.Need-post-figure-requires
 post-figure-requires c κs =
     let s = c .before .before .before .before .post-sum .ensures in
@@ -46,7 +35,6 @@ post-figure-requires c κs =
     let f = simp (held (t .1) (lit< tt)) at (c .negative3 .ensures) in
     (simp (e, held m (lit< tt)) m, simp (f, held n (lit< tt)) n)
 
--- src/levels.rt:91:1
 returns : tie.Need-returns
 returns c =
     let b = c .before .before .before .before .before .before in
