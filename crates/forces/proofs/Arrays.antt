@@ -9,10 +9,10 @@ use lib.Seq.{drop-cons, drop-length, getD-set-same, getD-set-other, getD-take, l
 use Rattle.forces.specs.Steps.{Filled}
 
 module _ {A : Type 0} where
-  -- entries lo to hi - 1 of an array of this size are P, and those behind them blank
-  pub record Between (blank : A) (P : ℕ → A) (size lo hi : ℕ) (r : List A) : Type 0 where
+  -- entries lo to hi - 1 of an array of this size have P, and those behind them blank
+  pub record Between (blank : A) (P : ℕ → A → Type 0) (size lo hi : ℕ) (r : List A) : Type 0 where
     pub long : length r ≡ size
-    pub each : (i : ℕ) → lo ≤ i → i < hi → getD r i blank ≡ P i
+    pub each : (i : ℕ) → lo ≤ i → i < hi → P i (getD r i blank)
     pub rest : (i : ℕ) → hi ≤ i → getD r i blank ≡ blank
 
   blank-entry : (blank : A) (n i : ℕ) → getD (replicate n blank) i blank ≡ blank
@@ -20,7 +20,7 @@ module _ {A : Type 0} where
   blank-entry blank (suc n) zero = refl
   blank-entry blank (suc n) (suc i) = blank-entry blank n i
 
-  pub between-none : (blank : A) (P : ℕ → A) (size at : ℕ) → Between blank P size at at (replicate size blank)
+  pub between-none : (blank : A) (P : ℕ → A → Type 0) (size at : ℕ) → Between blank P size at at (replicate size blank)
   between-none blank P size at =
       record {
         long = length-replicate size blank;
@@ -30,10 +30,10 @@ module _ {A : Type 0} where
 
   -- the entry below those filled
   pub fill-below :
-      (blank : A) (P : ℕ → A) (size lo hi : ℕ) (r : List A) (v : A) →
+      (blank : A) (P : ℕ → A → Type 0) (size lo hi : ℕ) (r : List A) (v : A) →
       lo < hi →
       lo < size →
-      v ≡ P lo →
+      P lo v →
       Between blank P size (suc lo) hi r →
       Between blank P size lo hi (set r lo v)
   fill-below blank P size lo hi r v h room e b =
@@ -43,18 +43,18 @@ module _ {A : Type 0} where
         rest = λ i l. getD-set-other r lo i v blank (λ q. omega arith) ∙ b .rest i l;
       }
     where
-      each : (i : ℕ) → lo ≤ i → i < hi → getD (set r lo v) i blank ≡ P i
+      each : (i : ℕ) → lo ≤ i → i < hi → P i (getD (set r lo v) i blank)
       each i l m =
           elim (ℕ-discrete i lo) [
-            | yes q ↦ rw q (getD-set-same r lo v blank (omega (arith, b .long)) ∙ e)
-            | no ne ↦ getD-set-other r lo i v blank ne ∙ b .each i (omega arith) m
+            | yes q ↦ rw (q, getD-set-same r lo v blank (omega (arith, b .long))) e
+            | no ne ↦ rw (getD-set-other r lo i v blank ne) (b .each i (omega arith) m)
           ]
 
   -- the entry over those filled
   pub fill-above :
-      (blank : A) (P : ℕ → A) (size lo hi : ℕ) (r : List A) (v : A) →
+      (blank : A) (P : ℕ → A → Type 0) (size lo hi : ℕ) (r : List A) (v : A) →
       hi < size →
-      v ≡ P hi →
+      P hi v →
       Between blank P size lo hi r →
       Between blank P size lo (suc hi) (set r hi v)
   fill-above blank P size lo hi r v room e b =
@@ -64,14 +64,14 @@ module _ {A : Type 0} where
         rest = λ i l. getD-set-other r hi i v blank (λ q. omega arith) ∙ b .rest i (omega arith);
       }
     where
-      each : (i : ℕ) → lo ≤ i → i < suc hi → getD (set r hi v) i blank ≡ P i
+      each : (i : ℕ) → lo ≤ i → i < suc hi → P i (getD (set r hi v) i blank)
       each i l m =
           elim (ℕ-discrete i hi) [
-            | yes q ↦ rw q (getD-set-same r hi v blank (omega (arith, b .long)) ∙ e)
-            | no ne ↦ getD-set-other r hi i v blank ne ∙ b .each i l (omega arith)
+            | yes q ↦ rw (q, getD-set-same r hi v blank (omega (arith, b .long))) e
+            | no ne ↦ rw (getD-set-other r hi i v blank ne) (b .each i l (omega arith))
           ]
 
-  pub filled : {blank : A} {P : ℕ → A} {size hi : ℕ} {r : List A} → Between blank P size 0 hi r → Filled blank hi P r
+  pub filled : {blank : A} {f : ℕ → A} {size hi : ℕ} {r : List A} → Between blank (λ i x. x ≡ f i) size 0 hi r → Filled blank hi f r
   filled b = record { each = λ i h. b .each i zero-le h; rest = b .rest }
 
   -- the first m entries, from entry i on

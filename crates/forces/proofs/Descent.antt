@@ -31,9 +31,9 @@ turn = 2896 * 2 ^ 45
 module _ (n : ℕ) (k : List ℕ) (tiers : List Tier) (d most least lee windward : List ℕ) where
   pub record Descended (racking : List ℤ) (compressions tensions : List ℕ) (moment : ℤ) (lees windwards i : ℕ) : Type 0 where
     pub within : i ≤ n
-    pub racked : Between (pos 0) (λ j. rackingFigure (rackingPart (getD k j 0) d j)) 10 i n racking
-    pub pressed : Between 0 (compressionAt n k (take n tiers) d most least lee windward) 11 i (suc n) compressions
-    pub lifted : Between 0 (tensionAt n k (take n tiers) d most least lee windward) 10 i n tensions
+    pub racked : Between (pos 0) (λ j x. x ≡ rackingFigure (rackingPart (getD k j 0) d j)) 10 i n racking
+    pub pressed : Between 0 (λ j x. x ≡ compressionAt n k (take n tiers) d most least lee windward j) 11 i (suc n) compressions
+    pub lifted : Between 0 (λ j x. x ≡ tensionAt n k (take n tiers) d most least lee windward j) 10 i n tensions
     pub moment-is : moment ≡ momentOf k d (drop i (take n tiers)) i
     pub lees-are : lees ≡ total (drop i (take (suc n) lee))
     pub windwards-are : windwards ≡ total (drop i (take (suc n) windward))

@@ -8,12 +8,25 @@ use lib.IntN.{ℤ, pos, negℤ, _+ℤ_, _-ℤ_, _*ℤ_}
 use Rattle.sheet.specs.declared.Tier.{Tier}
 use Rattle.sheet.specs.declared.Lash.{Lash}
 use Rattle.forces.specs.declared.LevelFigures.{LevelFigures}
-use Rattle.forces.specs.Fixed.{noTier, rackingPart, rackingFigure, leeFound, windwardFound, postFigure}
+use Rattle.forces.specs.declared.Weights.{Weights}
+use Rattle.forces.specs.Fixed.{noTier, levelLoad, halfWeight, rackingPart, rackingFigure, leeFound, windwardFound, postFigure}
 
 -- the first n entries of a list are P, and those behind them blank
 pub record Filled {A : Type 0} (blank : A) (n : ℕ) (P : ℕ → A) (r : List A) : Type 0 where
   pub each : (i : ℕ) → i < n → getD r i blank ≡ P i
   pub rest : (i : ℕ) → n ≤ i → getD r i blank ≡ blank
+
+-- the loads on the levels over n tiers
+pub record Loaded (share factor n : ℕ) (ts : List Tier) (r : List ℕ) : Type 0 where
+  pub each : (i : ℕ) → i < n → getD r i 0 ≡ levelLoad share factor (getD ts i noTier) (getD ts (suc i) noTier)
+  pub small : (i : ℕ) → i < n → getD r i 0 ≤ 2 ^ 46
+
+-- half of the weight above each level
+pub record Weighed (ts : List Tier) (w : Weights) : Type 0 where
+  pub most : (i : ℕ) → getD (w .most) i 0 ≡ halfWeight (λ t. t .avmax) ts i
+  pub least : (i : ℕ) → getD (w .least) i 0 ≡ halfWeight (λ t. t .avmin) ts i
+  pub most-light : (i : ℕ) → getD (w .most) i 0 ≤ 2 ^ 40
+  pub least-light : (i : ℕ) → getD (w .least) i 0 ≤ 2 ^ 40
 
 unfoldable pub total : List ℕ → ℕ
 total [] = 0

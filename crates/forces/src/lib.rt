@@ -1,5 +1,6 @@
 // Every reported force of a stack: rackings, posts and lashes of both ends.
 
+mod loads; // loads.rt: the loads on the levels and the weights above them
 mod levels; // levels.rt: rackings and posts, from the top level down
 
 // The figures of one end: racking per tier, compression per level from 0, tension per level from 0, and each lash's tension,
@@ -16,6 +17,12 @@ pub struct EndFigures {
 pub struct Figures {
     pub door: EndFigures,
     pub closed: EndFigures,
+}
+
+// Half of V above each level, with A_Vmax and with A_Vmin.
+pub struct Weights {
+    pub most: [u64; 11],
+    pub least: [u64; 11],
 }
 
 // Of each level: racking of the tier over it, compression and tension.
