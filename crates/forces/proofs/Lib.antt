@@ -1,2 +1,4 @@
 pub mod Facts
 pub mod LashLength
+pub mod RoundedDown
+pub mod LashStiffness
