@@ -2,3 +2,4 @@ pub mod Facts
 pub mod LashLength
 pub mod RoundedDown
 pub mod LashStiffness
+pub mod LevelStiffness
