@@ -3,3 +3,4 @@ pub mod LashLength
 pub mod RoundedDown
 pub mod LashStiffness
 pub mod LevelStiffness
+pub mod LevelLoads
