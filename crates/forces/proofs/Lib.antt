@@ -4,3 +4,4 @@ pub mod RoundedDown
 pub mod LashStiffness
 pub mod LevelStiffness
 pub mod LevelLoads
+pub mod Inputs
