@@ -1,2 +1,4 @@
 pub mod Chain
 pub mod Elimination
+pub mod Lashes
+pub mod Levels
