@@ -5,3 +5,5 @@ pub mod Levels
 pub mod Growth
 pub mod OneSolution
 pub mod Stability
+pub mod Ranges
+pub mod Residuals
