@@ -3,9 +3,10 @@ use mathlib.Core.Path.{_≡_, refl, sym, ap, ap₂, subst, _∙_}
 use mathlib.Core.Logic.{_⊎_, inl, inr}
 use mathlib.Core.Bool.{Bool, true, false, not, cond}
 use mathlib.Core.List.{List, [], _∷_}
-use Prim.Native.Nat.{ℕ, zero, suc, _+_, _<_}
+use Prim.Native.Nat.{ℕ, zero, suc, _+_, _<_, _≤_}
 use native.Mathlib.Nat.{zero-add, add-suc, suc-add}
 use native.Mathlib.Omega.{arith}
+use native.Mathlib.Decide.{decLe}
 use lib.Dec.{T}
 use lib.IntN.{ℤ, pos, negsuc}
 use Rattle.arith.proofs.Polynomials.{v, kp, kn, _⊕_, _⊖_, _⊗_, ⊖_}
@@ -71,6 +72,20 @@ below-from : (f : ℕ → ℚ) (i m : ℕ) → below f i +ℚ sumℚ f (numbers 
 unfolding sumℚ
 below-from f zero m = plus-zero (sumℚ f (numbers 0 m)) ∙ ap (λ n. sumℚ f (numbers 0 n)) (sym (zero-add m))
 below-from f (suc i) m = plus-assoc (below f i) (f i) (sumℚ f (numbers (suc i) m)) ∙ below-from f i (suc m) ∙ ap (λ n. sumℚ f (numbers 0 n)) (add-suc i m ∙ sym (suc-add i m))
+
+-- the same shifts up to level n need the same loads, where no tier stands on it
+pub load-same : (K k d e : ℕ → ℚ) (n : ℕ) → K n ≡ natℚ 0 → ((i : ℕ) → i ≤ n → d i ≡ e i) → (i : ℕ) → i < n → load K k d i ≡ load K k e i
+load-same K k d e n top h i l =
+    ap₂ (λ f x. f +ℚ k i *ℚ x) (ap₂ _-ℚ_ (ap₂ (λ x y. K i *ℚ (x -ℚ y)) (h (suc i) l) (h i (omega arith))) (over (decLe (suc (suc i)) n))) (h (suc i) l)
+  where
+    none : (x y : ℚ) → natℚ 0 *ℚ x ≡ natℚ 0 *ℚ y
+    none = ∀₂ ℚR _ λ ρ. simp qq (by-ring tt)
+
+    over : Dec (suc (suc i) ≤ n) → force K d (suc i) ≡ force K e (suc i)
+    over (yes b) = ap₂ (λ x y. K (suc i) *ℚ (x -ℚ y)) (h (suc (suc i)) b) (h (suc i) l)
+    over (no b) =
+        let z : K (suc i) ≡ natℚ 0 = ap K {x = suc i} {y = n} (omega arith) ∙ top in
+        ap (λ x. x *ℚ (d (suc (suc i)) -ℚ d (suc i))) z ∙ none (d (suc (suc i)) -ℚ d (suc i)) (e (suc (suc i)) -ℚ e (suc i)) ∙ sym (ap (λ x. x *ℚ (e (suc (suc i)) -ℚ e (suc i))) z)
 
 -- a spring of no stiffness
 slack : (s d : ℚ) → s *ℚ (natℚ 0 *ℚ d) ≡ natℚ 0
