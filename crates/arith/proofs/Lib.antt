@@ -11,3 +11,8 @@ pub mod Signs
 pub mod FractionsInRationals
 pub mod ByteLaws
 pub mod Quotients
+pub mod RootLaws
+pub mod Sizes
+pub mod Ceilings
+pub mod RationalRounding
+pub mod RoundingLaws
