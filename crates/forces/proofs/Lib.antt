@@ -1,3 +1,5 @@
 pub mod Facts
 pub mod Errors
 pub mod LashLength
+pub mod LashForces
+pub mod Newtons
