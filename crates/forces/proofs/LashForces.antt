@@ -61,22 +61,22 @@ module _ (l : Lash) (long : 0 < lashLength l) (wide : 0 < l .ly) where
   unit-width : natℚ (l .ly) *ℚ recipℚ (natℚ (l .ly)) ≡ natℚ 1
   unit-width = recip-times (natℚ (l .ly)) (above-0 (l .ly) wide)
 
-  pub pull-is : (D : Frac) → mk (pull l D) ≡ stiffness l *ℚ mk D *ℚ natℚ (lashLength l) /ℚ natℚ (l .ly)
+  pub pull-is : (D : Frac) → mk (pull l D) ≡ stiffness l *ℚ mk D *ℚ (natℚ (lashLength l) /ℚ natℚ (l .ly))
   pull-is D =
       pull-q l D
       ∙ go (E l) (natℚ (l .ly)) (mk D) (per-square l) (per-length l) (natℚ (lashLength l)) (recipℚ (natℚ (l .ly))) (unit-length l long) unit-width
-      ∙ ap (λ k. k *ℚ mk D *ℚ natℚ (lashLength l) /ℚ natℚ (l .ly)) (sym (stiffness-q l))
+      ∙ ap (λ k. k *ℚ mk D *ℚ (natℚ (lashLength l) /ℚ natℚ (l .ly))) (sym (stiffness-q l))
     where
-      go : (E y D s r L q : ℚ) → L *ℚ r ≡ natℚ 1 → y *ℚ q ≡ natℚ 1 → E *ℚ y *ℚ D *ℚ s ≡ E *ℚ y *ℚ natℚ 1 *ℚ s *ℚ y *ℚ r *ℚ D *ℚ L *ℚ q
+      go : (E y D s r L q : ℚ) → L *ℚ r ≡ natℚ 1 → y *ℚ q ≡ natℚ 1 → E *ℚ y *ℚ D *ℚ s ≡ E *ℚ y *ℚ natℚ 1 *ℚ s *ℚ y *ℚ r *ℚ D *ℚ (L *ℚ q)
       go = ∀₇ ℚR _ λ ρ. simp qq λ a b. by-eqs (mul-eq (⊖ (v 0 ⊗ v 1 ⊗ v 2 ⊗ v 3 ⊗ v 1 ⊗ v 6)) a ⊹ mul-eq (⊖ (v 0 ⊗ v 1 ⊗ v 2 ⊗ v 3)) b) tt
 
-  pub vertical-is : (D : Frac) → mk (verticalPart l D) ≡ stiffness l *ℚ mk D *ℚ natℚ (l .lz) /ℚ natℚ (l .ly)
+  pub vertical-is : (D : Frac) → mk (verticalPart l D) ≡ stiffness l *ℚ mk D *ℚ (natℚ (l .lz) /ℚ natℚ (l .ly))
   vertical-is D =
       vertical-q l D
       ∙ go (E l) (natℚ (l .ly)) (mk D) (per-square l) (natℚ (l .lz)) (per-length l) (recipℚ (natℚ (l .ly))) unit-width
-      ∙ ap (λ k. k *ℚ mk D *ℚ natℚ (l .lz) /ℚ natℚ (l .ly)) (sym (stiffness-q l))
+      ∙ ap (λ k. k *ℚ mk D *ℚ (natℚ (l .lz) /ℚ natℚ (l .ly))) (sym (stiffness-q l))
     where
-      go : (E y D s z r q : ℚ) → y *ℚ q ≡ natℚ 1 → E *ℚ y *ℚ D *ℚ s *ℚ z *ℚ r ≡ E *ℚ y *ℚ natℚ 1 *ℚ s *ℚ y *ℚ r *ℚ D *ℚ z *ℚ q
+      go : (E y D s z r q : ℚ) → y *ℚ q ≡ natℚ 1 → E *ℚ y *ℚ D *ℚ s *ℚ z *ℚ r ≡ E *ℚ y *ℚ natℚ 1 *ℚ s *ℚ y *ℚ r *ℚ D *ℚ (z *ℚ q)
       go = ∀₇ ℚR _ λ ρ. simp qq λ b. by-eqs (mul-eq (⊖ (v 0 ⊗ v 1 ⊗ v 2 ⊗ v 3 ⊗ v 4 ⊗ v 5)) b) tt
 
 -- the stiffness that the check computes with is that number of 2^-22 N/mm, rounded down

@@ -3,3 +3,4 @@ pub mod Errors
 pub mod LashLength
 pub mod LashForces
 pub mod Newtons
+pub mod Shown

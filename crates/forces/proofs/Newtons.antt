@@ -1,14 +1,17 @@
 -- Whole numbers in 2^-18 N beside exact forces: what a quotient towards zero loses.
 use mathlib.Core.Path.{_≡_, refl, sym, ap, ap₂, subst, _∙_}
 use Prim.Native.Nat.{ℕ, zero, suc, _+_, _*_, _/_, _^_, _≤_, _<_}
+use native.Mathlib.Omega.{arith}
+use native.Mathlib.Nat.{mul-comm}
 use lib.Dec.{lit≤}
 use lib.IntN.{ℤ, pos, negsuc, negℤ, _+ℤ_, _*ℤ_}
 use lib.Signed.{quotZ}
 use Rattle.arith.proofs.Polynomials.{v, kp, kn, _⊕_, _⊖_, _⊗_, ⊖_}
-use Rattle.arith.proofs.Rings.{∀₂, ∀₃, ∀₅, by-ring, by-cert, to, times, _⊞_, _⊠_}
-use Rattle.arith.proofs.Rationals.{ℚR, ℚ, int, _+ℚ_, _*ℚ_, _/ℚ_, recipℚ, negℚ, _≤ℚ_, recip-times, recip-nn, int-plus, int-times, nn-int, nn-times}
+use Rattle.arith.proofs.Rings.{∀₂, ∀₃, ∀₄, ∀₅, ∀₆, by-ring, by-cert, to, times, _⊞_, _⊠_}
+use Rattle.arith.proofs.Rationals.{ℚR, ℚ, int, _+ℚ_, _*ℚ_, _/ℚ_, recipℚ, negℚ, _≤ℚ_, <→≤, recip-times, recip-nn, int-plus, int-times, nn-int, nn-times}
 use Rattle.arith.proofs.RationalTerms.{qq, q-int-neg}
-use Rattle.arith.proofs.RationalRounding.{above-0, unit, unit-times, Down, div-down, down-low, down-high, nat-q}
+use Rattle.arith.proofs.RationalRounding.{above-0, unit, unit-times, div-down, down-low, down-high, nat-q, div-le, ceil-up, up-le, up-lt}
+use Rattle.forces.specs.Fixed.{ceil}
 use Rattle.forces.proofs.Errors.{natℚ, Off, off-neg}
 
 -- a whole number of 2^-18 N, in N
@@ -66,6 +69,33 @@ module _ (c : ℕ) (c0 : 0 < c) where
     where
       turn : (x r : ℚ) → negℚ (x *ℚ r) ≡ negℚ x *ℚ r
       turn = ∀₂ ℚR _ λ ρ. simp qq (by-ring tt)
+
+-- x × N / y rounded down and up
+module _ (x N y : ℕ) (y0 : 0 < y) where
+  regroup : (x N h r : ℚ) → x *ℚ (N *ℚ h) *ℚ r ≡ x *ℚ h *ℚ (N *ℚ r)
+  regroup = ∀₄ ℚR _ λ ρ. simp qq (by-ring tt)
+
+  pub share-off : Off (newtons (pos 1)) (newtons (pos (x * N / y))) (newtons (pos x) *ℚ (natℚ N /ℚ natℚ y))
+  share-off = subst (λ z. Off (newtons (pos 1)) (newtons (pos (x * N / y))) z) (ap (λ z. z /ℚ natℚ y) (newtons-scale (pos x) (pos N)) ∙ regroup (natℚ x) (natℚ N) (recipℚ (natℚ (2 ^ 18))) (recipℚ (natℚ y))) (quot-off y y0 (pos (x * N)))
+
+  scale : (x N y r m h : ℚ) → natℚ 0 ≤ℚ h → x *ℚ N *ℚ r ≤ℚ m → x *ℚ h *ℚ (N *ℚ r) ≤ℚ m *ℚ h
+  scale = ∀₆ ℚR _ λ ρ. simp qq λ h0 l. by-cert (to h0 ⊠ to l) tt
+
+  scale-up : (x N y r m h : ℚ) → natℚ 0 ≤ℚ h → m ≤ℚ x *ℚ N *ℚ r +ℚ natℚ 1 → m *ℚ h ≤ℚ x *ℚ h *ℚ (N *ℚ r) +ℚ natℚ 1 *ℚ h
+  scale-up = ∀₆ ℚR _ λ ρ. simp qq λ h0 l. by-cert (to h0 ⊠ to l) tt
+
+  pub share-up : newtons (pos x) *ℚ (natℚ N /ℚ natℚ y) ≤ℚ newtons (pos (ceil (x * N) y))
+  share-up =
+      scale (natℚ x) (natℚ N) (natℚ y) (recipℚ (natℚ y)) (natℚ (ceil (x * N) y)) (recipℚ (natℚ (2 ^ 18))) (recip-nn (natℚ (2 ^ 18)))
+      (rw (int-times (pos x) (pos N)) at (up-le (above-0 y y0) (ceil-up (x * N) y y0)))
+
+  pub share-up-close : newtons (pos (ceil (x * N) y)) ≤ℚ newtons (pos x) *ℚ (natℚ N /ℚ natℚ y) +ℚ newtons (pos 1)
+  share-up-close =
+      scale-up (natℚ x) (natℚ N) (natℚ y) (recipℚ (natℚ y)) (natℚ (ceil (x * N) y)) (recipℚ (natℚ (2 ^ 18))) (recip-nn (natℚ (2 ^ 18)))
+      (rw (int-times (pos x) (pos N)) at (<→≤ (up-lt (above-0 y y0) (ceil-up (x * N) y y0))))
+
+  pub share-most : (k : ℕ) → N ≤ k * y → natℚ N /ℚ natℚ y ≤ℚ natℚ k
+  share-most k h = div-le (natℚ N) (natℚ y) (natℚ k) (above-0 y y0) (rw (sym (int-times (pos y) (pos k))) (nat-q N (y * k) (omega (arith, mul-comm y k))))
 
 -- the order of whole numbers
 pub newtons-le : (m n : ℕ) → m ≤ n → newtons (pos m) ≤ℚ newtons (pos n)
