@@ -1,57 +1,65 @@
--- The length of a lash is the least root: the least whole number whose square is the sum of its sides' squares or more.
-use mathlib.Core.Path.{_≡_, refl}
-use mathlib.Core.Bool.{Bool, true, false, cond}
+-- The length of a lash is the least root that document 01 asks for, and no more than 42 times the lash's width.
+use mathlib.Core.Path.{_≡_, refl, sym, subst}
+use mathlib.Core.Bool.{Bool, true, false, not, cond}
 use Prim.Native.Nat.{ℕ, zero, suc, _+_, _*_, _≤_, _<_}
-use native.Mathlib.Nat.{mul-le-mul, lt-of-not-le}
 use native.Mathlib.Omega.{arith}
-use lib.Dec.{leb}
-use borrow.Author.Tests.{leb-true, leb-false}
+use native.Mathlib.Nat.{mul-le-mul}
+use native.Mathlib.Decide.{decLe}
+use lib.Dec.{T, leb, leb→le, nleb→lt}
+use Rattle.arith.specs.Roots.{Least}
 use Rattle.sheet.specs.declared.Lash.{Lash}
 use Rattle.forces.specs.Lashes.{leastFrom, lashLength}
+use Rattle.forces.proofs.Facts.{LashFacts}
 
-abbrev pub sumSquares : Lash → ℕ
-sumSquares l = l .lx * l .lx + l .ly * l .ly + l .lz * l .lz
-
--- a search that may go as far as k + more, where the square is enough, ends at one that is
-found : (s k more : ℕ) → s ≤ (k + more) * (k + more) → s ≤ leastFrom s k more * leastFrom s k more
+-- no number below k is a root of s, and k + more is
+least-from : (s k more : ℕ) → ((j : ℕ) → s ≤ j * j → k ≤ j) → s ≤ (k + more) * (k + more) → Least s (leastFrom s k more)
 unfolding leastFrom
-found s k zero h = omega arith
-found s k (suc more) h = go (leb s (k * k)) refl (found s (suc k) more (omega arith))
+least-from s k zero below end = record { enough = omega (arith, end); least = below }
+least-from s k (suc more) below end = go (leb s (k * k)) refl (least-from s (suc k) more)
   where
-    go : (c : Bool) →
-        leb s (k * k) ≡ c →
-        s ≤ leastFrom s (suc k) more * leastFrom s (suc k) more →
-        s ≤ cond c k (leastFrom s (suc k) more) * cond c k (leastFrom s (suc k) more)
-    go true e later = leb-true s (k * k) e
-    go false e later = later
-
--- and no number from k on, with a square that is enough, lies under it
-none-under : (s k more j : ℕ) → k ≤ j → s ≤ j * j → leastFrom s k more ≤ j
-unfolding leastFrom
-none-under s k zero j h l = h
-none-under s k (suc more) j h l = go (leb s (k * k)) refl (λ b. none-under s (suc k) more j b l)
-  where
-    past : k * k < s → k < j
-    past b = lt-of-not-le (λ m. off (mul-le-mul m m) b)
+    go :
+        (b : Bool) →
+        leb s (k * k) ≡ b →
+        (((j : ℕ) → s ≤ j * j → suc k ≤ j) → s ≤ (suc k + more) * (suc k + more) → Least s (leastFrom s (suc k) more)) →
+        Least s (cond b k (leastFrom s (suc k) more))
+    go true e rest = record { enough = leb→le s (k * k) (subst T (sym e) tt); least = below }
+    go false e rest = rest above (omega (arith, end))
       where
-        off : j * j ≤ k * k → k * k < s → ⊥
-        off m b = omega arith
+        small : k * k < s
+        small = nleb→lt s (k * k) (subst (λ b. T (not b)) (sym e) tt)
 
-    go : (c : Bool) →
-        leb s (k * k) ≡ c →
-        (k < j → leastFrom s (suc k) more ≤ j) →
-        cond c k (leastFrom s (suc k) more) ≤ j
-    go true e later = h
-    go false e later = later (past (leb-false s (k * k) e))
+        clash : (j : ℕ) → s ≤ j * j → j ≤ k → ⊥
+        clash j h l = omega (arith, small, mul-le-mul l l)
 
-own-square : (s : ℕ) → s ≤ (0 + s) * (0 + s)
-own-square zero = omega arith
-own-square (suc s) = omega arith
+        above : (j : ℕ) → s ≤ j * j → suc k ≤ j
+        above j h = omega (arith, clash j h)
 
-pub length-enough : (l : Lash) → sumSquares l ≤ lashLength l * lashLength l
+square-up : (s : ℕ) → s ≤ s * s
+square-up zero = omega arith
+square-up (suc s) = omega arith
+
+-- the sum of the squares of a lash's sides
+abbrev pub squares : Lash → ℕ
+squares l = l .lx * l .lx + l .ly * l .ly + l .lz * l .lz
+
+pub length-least : (l : Lash) → Least (squares l) (lashLength l)
 unfolding lashLength
-length-enough l = found (sumSquares l) 0 (sumSquares l) (own-square (sumSquares l))
+length-least l = least-from (squares l) 0 (squares l) (λ j h. omega arith) (omega (arith, square-up (squares l)))
 
-pub length-least : (l : Lash) (k : ℕ) → sumSquares l ≤ k * k → lashLength l ≤ k
-unfolding lashLength
-length-least l k h = none-under (sumSquares l) 0 (sumSquares l) k (omega arith) h
+module _ {n : ℕ} {l : Lash} (f : LashFacts n l) where
+  -- a root that the least one does not pass
+  pub length-le : (k : ℕ) → squares l ≤ k * k → lashLength l ≤ k
+  length-le k h = length-least l .least k h
+
+  pub length-above : 1 ≤ lashLength l
+  length-above = go (lashLength l) (length-least l .enough) (f .ly)
+    where
+      go : (k : ℕ) → squares l ≤ k * k → 500 ≤ l .ly → 1 ≤ k
+      go zero h y = omega (arith, mul-le-mul y y)
+      go (suc k) h y = omega arith
+
+  pub length-ratio : lashLength l ≤ 42 * l .ly
+  length-ratio = length-le (42 * l .ly) (omega (arith, mul-le-mul (f .lx) (f .lx), mul-le-mul (f .lz-most) (f .lz-most), mul-le-mul (f .ly) (f .ly)))
+
+  pub vertical-ratio : l .lz ≤ 40 * l .ly
+  vertical-ratio = omega (arith, f .ly, f .lz-most)

@@ -10,13 +10,15 @@ use Rattle.arith.specs.Fractions.{Frac, nat, _+q_, sumq}
 use Rattle.springs.specs.Equations.{given}
 use Rattle.springs.specs.Promise.{Rounded, stiffnessAt}
 use Rattle.sheet.specs.declared.Lash.{Lash}
-use Rattle.forces.specs.Lashes.{hookLevel}
+use Rattle.forces.specs.Lashes.{hookLevel, athwartPart}
 use Rattle.forces.specs.Ends.{chainLash, chainLashes}
 use Rattle.forces.specs.Reported.{noLash}
 use Rattle.forces.specs.Fixed.{stiffnessOf, levelStiffness}
 use Rattle.forces.proofs.Facts.{LashFacts, countAt}
 use Rattle.forces.proofs.RoundedDown.{rounded-none, rounded-sum}
-use Rattle.forces.proofs.LashStiffness.{stiffness, stiffness-rounded, stiffness-most}
+use Rattle.forces.proofs.LashLength.{length-above}
+use Rattle.forces.proofs.LashForces.{stiffness-rounded}
+use Rattle.forces.proofs.LashStiffness.{stiffness-most}
 
 -- the facts of each lash of a list of them
 abbrev pub Each : ℕ → List Lash → Type 0
@@ -43,8 +45,8 @@ level-most n (l ∷ ls) f i = sum (eqb i (hookLevel l)) (stiffness-most l (each-
 pub level-rounded : (n : ℕ) (ls : List Lash) → Each n ls → (i : ℕ) → Rounded (2 ^ 22) (countAt ls i) (levelStiffness ls i) (stiffnessAt (chainLashes ls) i)
 unfolding levelStiffness countAt sumq chainLash
 level-rounded n [] f i = rounded-none (2 ^ 22)
-level-rounded n (l ∷ ls) f i = rounded-sum (mine (eqb i (hookLevel l)) (stiffness-rounded l (each-head l ls f))) (level-rounded n ls (each-tail l ls f) i)
+level-rounded n (l ∷ ls) f i = rounded-sum (mine (eqb i (hookLevel l)) (stiffness-rounded l (length-above (each-head l ls f)))) (level-rounded n ls (each-tail l ls f) i)
   where
-    mine : (c : Bool) → Rounded (2 ^ 22) 1 (stiffnessOf l) (stiffness l) → Rounded (2 ^ 22) (cond c 1 0) (cond c (stiffnessOf l) 0) (given c (stiffness l))
+    mine : (c : Bool) → Rounded (2 ^ 22) 1 (stiffnessOf l) (athwartPart l (nat 1)) → Rounded (2 ^ 22) (cond c 1 0) (cond c (stiffnessOf l) 0) (given c (athwartPart l (nat 1)))
     mine true h = h
     mine false h = rounded-none (2 ^ 22)

@@ -1,5 +1,9 @@
 pub mod Facts
+pub mod Errors
 pub mod LashLength
+pub mod LashForces
+pub mod Newtons
+pub mod Shown
 pub mod RoundedDown
 pub mod LashStiffness
 pub mod LevelStiffness
