@@ -8,4 +8,6 @@ pub mod RoundedDown
 pub mod LashStiffness
 pub mod LevelStiffness
 pub mod LevelLoads
+pub mod EndChain
 pub mod Inputs
+pub mod OneSolution
