@@ -25,9 +25,9 @@ use Rattle.forces.proofs.Facts.{TierFacts}
 use Rattle.forces.proofs.RoundedDown.{nat-times, nat-plus, rounded-quotient}
 
 -- F of a tier is the factor × 981 × mass × A_T / 200,000, and P 27 × length × height / 50,000
-push-frac : (t : Tier) → nat 200000 *q (half *q weight t *q thousandths (t .at)) ≈ nat (981 * push t)
-unfolding weight push recip
-push-frac t = record { cross = ap pos (go (t .mass) (t .at)) }
+push-frac : (t : Tier) (a : ℕ) → nat 200000 *q (half *q weight t *q thousandths a) ≈ nat (981 * (t .mass * a))
+unfolding weight recip
+push-frac t a = record { cross = ap pos (go (t .mass) a) }
   where
     go : (m a : ℕ) → 200000 * (1 * (m * 981) * (a * 1)) * 1 ≡ 981 * (m * a) * 200000
     go m a = omega arith
@@ -47,21 +47,23 @@ pub wind-times : (t : Tier) → natℚ 50000 *ℚ mk (wind t) ≡ natℚ (gust t
 unfolding int _*ℚ_
 wind-times t = of-≈ (nat 50000 *q wind t) (nat (gust t)) (gust-frac t)
 
-abbrev box : Tier → Frac
-box t = half *q weight t *q thousandths (t .at)
-
-box-times : (t : Tier) → natℚ 200000 *ℚ mk (box t) ≡ natℚ (981 * push t)
+-- half of a tier's weight × an acceleration
+pub half-weight-times : (t : Tier) (a : ℕ) →
+    natℚ 200000 *ℚ mk (half *q weight t *q thousandths a) ≡ natℚ (981 * (t .mass * a))
 unfolding int _*ℚ_
-box-times t = of-≈ (nat 200000 *q box t) (nat (981 * push t)) (push-frac t)
+half-weight-times t a = of-≈ (nat 200000 *q (half *q weight t *q thousandths a)) (nat (981 * (t .mass * a))) (push-frac t a)
 
-transverse-mk : (factor : Frac) (t : Tier) → mk (transverse factor t) ≡ mk (box t) *ℚ mk factor
+transverse-mk : (factor : Frac) (t : Tier) →
+    mk (transverse factor t) ≡ mk (half *q weight t *q thousandths (t .at)) *ℚ mk factor
 unfolding transverse _*ℚ_
 transverse-mk factor t = refl
 
 pub transverse-times : (factor : Frac) (t : Tier) →
     natℚ 200000 *ℚ mk (transverse factor t) ≡ natℚ (981 * push t) *ℚ mk factor
+unfolding push
 transverse-times factor t =
-    ap (λ z. natℚ 200000 *ℚ z) (transverse-mk factor t) ∙ law (natℚ 200000) (mk (box t)) (mk factor) (natℚ (981 * push t)) (box-times t)
+    ap (λ z. natℚ 200000 *ℚ z) (transverse-mk factor t)
+    ∙ law (natℚ 200000) (mk (half *q weight t *q thousandths (t .at))) (mk factor) (natℚ (981 * push t)) (half-weight-times t (t .at))
   where
     law : (c b f p : ℚ) → c *ℚ b ≡ p → c *ℚ (b *ℚ f) ≡ p *ℚ f
     law = ∀₄ ℚR _ λ ρ. simp qq λ e. by-eqs (mul-eq (v 2) e) tt
@@ -87,18 +89,18 @@ module _ (share factor : Frac) where
   abbrev pub passed : Tier → ℚ
   passed t = mk (transverse factor t) +ℚ mk (wind t)
 
-  abbrev above : List Tier → Frac
+  abbrev pub above : List Tier → Frac
   above ts = sumq (λ u. transverse factor u +q wind u) ts
 
   load-mk : (t : Tier) (ts : List Tier) → mk (load share factor t ts) ≡ own t +ℚ mk (above ts)
   unfolding load _*ℚ_ _+ℚ_
   load-mk t ts = refl
 
-  above-none : mk (above []) ≡ natℚ 0
+  pub above-none : mk (above []) ≡ natℚ 0
   unfolding sumq int
   above-none = refl
 
-  above-mk : (t : Tier) (ts : List Tier) → mk (above (t ∷ ts)) ≡ passed t +ℚ mk (above ts)
+  pub above-mk : (t : Tier) (ts : List Tier) → mk (above (t ∷ ts)) ≡ passed t +ℚ mk (above ts)
   unfolding sumq _+ℚ_
   above-mk t ts = refl
 
@@ -129,7 +131,7 @@ module _ (share factor : Frac) where
       law = ∀₄ ℚR _ λ ρ. simp qq (by-ring tt)
   load-between e (t ∷ ts) (suc i) = load-between e ts i
 
-half-times : natℚ 2 *ℚ mk half ≡ natℚ 1
+pub half-times : natℚ 2 *ℚ mk half ≡ natℚ 1
 unfolding int _*ℚ_ recip
 half-times = of-≈ (nat 2 *q half) (nat 1) (record { cross = refl })
 
@@ -138,7 +140,7 @@ abbrev number : ℕ → ℕ → Tier → Tier → ℕ
 number s f t u = 981 * f * (s * push t + (20 - s) * push u) + 40000 * (gust t + gust u)
 
 module _ (share factor : Frac) (s f : ℕ) (s20 : s ≤ 20) (share-is : nat 20 *q share ≈ nat s) (factor-is : nat 1000 *q factor ≈ nat f) where
-  share-times : natℚ 20 *ℚ mk share ≡ natℚ s
+  pub share-times : natℚ 20 *ℚ mk share ≡ natℚ s
   unfolding int _*ℚ_
   share-times = of-≈ (nat 20 *q share) (nat s) share-is
 

@@ -11,3 +11,5 @@ pub mod LevelLoads
 pub mod EndChain
 pub mod Inputs
 pub mod OneSolution
+pub mod Within
+pub mod LoadBounds
