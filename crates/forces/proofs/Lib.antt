@@ -13,3 +13,4 @@ pub mod Inputs
 pub mod OneSolution
 pub mod Within
 pub mod LoadBounds
+pub mod LashBounds
