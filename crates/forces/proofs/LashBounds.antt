@@ -96,7 +96,7 @@ module _ (n : ℕ) (Ds : List Frac) (lee : (i : ℕ) → natℚ 0 ≤ℚ mk (S.s
       one : (x : ℚ) → x ≤ℚ natℚ 1 *ℚ x
       one = ∀₁ ℚR _ λ ρ. simp qq (by-cert (num 0) tt)
 
-  all-least : (ls : List Lash) → Each n ls → natℚ 0 ≤ℚ mk (allParts ls)
+  pub all-least : (ls : List Lash) → Each n ls → natℚ 0 ≤ℚ mk (allParts ls)
   all-least ls f = sum-part (athwartOf Ds) (λ l lf. part-same (part-least l lf) refl) ls f .least
 
   pub one-part : (ls : List Lash) →

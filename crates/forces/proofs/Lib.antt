@@ -14,3 +14,4 @@ pub mod OneSolution
 pub mod Within
 pub mod LoadBounds
 pub mod LashBounds
+pub mod Bounds

@@ -106,6 +106,9 @@ within-more {a} {b} {x} h w = record { least = low (mk x) (natℚ a) (natℚ b) 
     high : (x a b : ℚ) → x ≤ℚ a → a ≤ℚ b → x ≤ℚ b
     high = ∀₃ ℚR _ λ ρ. simp qq λ h l. by-cert (to h ⊞ to l) tt
 
+pub within-same : {b : ℕ} {x y : Frac} → mk x ≡ mk y → Within b y → Within b x
+within-same {b} {x} {y} e w = record { least = rw e (w .least); most = rw e (w .most) }
+
 -- over a whole number c
 pub within-over : {b : ℕ} {x : Frac} (c : ℕ) → 0 < c → Within (c * b) x → Within b (x /q nat c)
 within-over {b} {x} c c0 w =
