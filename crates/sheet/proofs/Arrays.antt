@@ -1,0 +1,45 @@
+-- An array of blanks, set entry by entry from the front, is the entries and then blanks.
+use Prim.Native.Nat.{ℕ, zero, suc, _+_, _-_, _<_, _≤_}
+use mathlib.Core.List.{List, [], _∷_, _++_, map, append-assoc}
+use mathlib.Core.Path.{_≡_, refl, sym, ap, _∙_}
+use native.Mathlib.Nat.{add-zero, add-suc, suc-add, zero-add}
+use native.Mathlib.Numerals.{add-one}
+use native.Mathlib.Omega.{arith}
+use lib.ListN.{length, set, replicate, length-append, length-map, length-replicate}
+use lib.Seq.{set-at}
+use Rattle.sheet.specs.Layout.{from, below, padded}
+
+pub length-from : (i n : ℕ) → length (from i n) ≡ n
+unfolding from
+length-from i zero = refl
+length-from i (suc n) = ap suc (length-from (suc i) n)
+
+module _ {A : Type 0} (f : ℕ → A) (b : A) where
+  pub length-entries : (n : ℕ) → length (map f (below n)) ≡ n
+  length-entries n = length-map (from 0 n) f ∙ length-from 0 n
+
+  entries-more : (i n : ℕ) → map f (from i (suc n)) ≡ map f (from i n) ++ (f (i + n) ∷ [])
+  unfolding from
+  entries-more i zero = rw add-zero
+  entries-more i (suc n) =
+      ap {B = List A} (λ l. f i ∷ l)
+      (entries-more (suc i) n ∙ ap {B = List A} (λ m. map f (from (suc i) n) ++ (f m ∷ [])) (suc-add i n ∙ sym (add-suc i n)))
+
+  pub one-more :
+      (size n : ℕ) →
+      n < size →
+      set (padded size b (map f (below n))) n (f n) ≡ padded size b (map f (below (n + 1)))
+  one-more size n h =
+      rw (length-entries n, length-entries (n + 1), rest, add-one n)
+      (set-at (map f (below n)) b (replicate (size - (suc n)) b) (f n) n (length-entries n)
+      ∙ sym (append-assoc (map f (below n)) (f n ∷ []) (replicate (size - (suc n)) b))
+      ∙ ap {B = List A} (λ l. l ++ replicate (size - (suc n)) b) (sym more))
+    where
+      rest : size - n ≡ suc (size - suc n)
+      rest = omega arith
+
+      more : map f (below (suc n)) ≡ map f (below n) ++ (f n ∷ [])
+      more = entries-more 0 n ∙ ap {B = List A} (λ m. map f (below n) ++ (f m ∷ [])) (zero-add n)
+
+pub length-padded {ℓ} : {A : Type ℓ} (size : ℕ) (b : A) (l : List A) → length l ≤ size → length (padded size b l) ≡ size
+length-padded size b l h = simp (length-append, length-replicate) (omega arith)
