@@ -5,7 +5,7 @@ use mathlib.Core.Path.{_≡_, refl, sym, ap, _∙_}
 use native.Mathlib.Nat.{add-zero, add-suc, suc-add, zero-add}
 use native.Mathlib.Numerals.{add-one}
 use native.Mathlib.Omega.{arith}
-use lib.ListN.{length, set, replicate, length-append, length-map, length-replicate}
+use lib.ListN.{length, getD, List·getD-append, set, replicate, length-append, length-map, length-replicate}
 use lib.Seq.{set-at}
 use Rattle.sheet.specs.Layout.{from, below, padded}
 
@@ -24,6 +24,18 @@ module _ {A : Type 0} (f : ℕ → A) (b : A) where
   entries-more i (suc n) =
       ap {B = List A} (λ l. f i ∷ l)
       (entries-more (suc i) n ∙ ap {B = List A} (λ m. map f (from (suc i) n) ++ (f m ∷ [])) (suc-add i n ∙ sym (add-suc i n)))
+
+  entry : (i n k : ℕ) → k < n → getD (map f (from i n)) k b ≡ f (i + k)
+  unfolding from
+  entry i zero k h = absurd (omega (arith, h))
+  entry i (suc n) zero h = ap f (sym (add-zero i))
+  entry i (suc n) (suc k) h = entry (suc i) n k (omega (arith, h)) ∙ ap f (suc-add i k ∙ sym (add-suc i k))
+
+  pub held : (n size k : ℕ) → k < n → getD (padded size b (map f (below n))) k b ≡ f k
+  held n size k h =
+      List·getD-append (map f (below n)) (replicate (size - length (map f (below n))) b) b k (rw (length-entries n) h)
+      ∙ entry 0 n k h
+      ∙ ap f (zero-add k)
 
   pub one-more :
       (size n : ℕ) →

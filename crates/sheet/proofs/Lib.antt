@@ -4,3 +4,8 @@ pub mod Arrays
 pub mod Items
 pub mod Routes
 pub mod Clear
+pub mod Limits
+pub mod Taken
+pub mod Levels
+pub mod Refusal
+pub mod FirstBytes

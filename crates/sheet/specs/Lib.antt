@@ -2,3 +2,4 @@ pub mod Layout
 pub mod Refusals
 pub mod Lashings
 pub mod Routes
+pub mod Fits
