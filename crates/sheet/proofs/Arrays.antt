@@ -5,8 +5,8 @@ use mathlib.Core.Path.{_≡_, refl, sym, ap, _∙_}
 use native.Mathlib.Nat.{add-zero, add-suc, suc-add, zero-add}
 use native.Mathlib.Numerals.{add-one}
 use native.Mathlib.Omega.{arith}
-use lib.ListN.{length, getD, List·getD-append, set, replicate, length-append, length-map, length-replicate}
-use lib.Seq.{set-at}
+use lib.ListN.{length, getD, List·getD-append, set, take, replicate, length-append, length-map, length-replicate, length-take}
+use lib.Seq.{set-at, ext-getD}
 use Rattle.sheet.specs.Layout.{from, below, padded}
 
 pub length-from : (i n : ℕ) → length (from i n) ≡ n
@@ -37,6 +37,13 @@ module _ {A : Type 0} (f : ℕ → A) (b : A) where
       ∙ entry 0 n k h
       ∙ ap f (zero-add k)
 
+  pub entries-are : (l : List A) (n : ℕ) → length l ≡ n → ((k : ℕ) → k < n → f k ≡ getD l k b) → map f (below n) ≡ l
+  entries-are l n e h =
+      ext-getD b (map f (below n)) l (length-entries n ∙ sym e)
+      (λ k q.
+      let r : k < n = rw (length-entries n) at q in
+      entry 0 n k r ∙ ap f (zero-add k) ∙ h k r)
+
   pub one-more :
       (size n : ℕ) →
       n < size →
@@ -53,5 +60,12 @@ module _ {A : Type 0} (f : ℕ → A) (b : A) where
       more : map f (below (suc n)) ≡ map f (below n) ++ (f n ∷ [])
       more = entries-more 0 n ∙ ap {B = List A} (λ m. map f (below n) ++ (f m ∷ [])) (zero-add n)
 
-pub length-padded {ℓ} : {A : Type ℓ} (size : ℕ) (b : A) (l : List A) → length l ≤ size → length (padded size b l) ≡ size
+length-padded : {A : Type 0} (size : ℕ) (b : A) (l : List A) → length l ≤ size → length (padded size b l) ≡ size
 length-padded size b l h = simp (length-append, length-replicate) (omega arith)
+
+-- the entries of an array that is blank behind its count are as many as the count
+pub full : {A : Type 0} (size : ℕ) (b : A) (l : List A) (n : ℕ) → l ≡ padded size b (take n l) → n ≤ size → length (take n l) ≡ n
+full size b l n e h =
+    let short : length (take n l) ≤ n = rw (length-take n l) (omega arith) in
+    let whole : length l ≡ size = ap length e ∙ length-padded size b (take n l) (omega arith) in
+    length-take n l ∙ rw whole (omega arith)

@@ -54,6 +54,27 @@ clear-from f i (suc left) (suc k) h q =
 pub clear-each : (f : ℕ → List Row) (n k : ℕ) → Clear (flatMap f (below n)) → k < n → Clear (f k)
 clear-each f n k h q = rw zero-add at (clear-from f 0 n k h q)
 
+-- and the other way round
+
+pub clear-taken : (rs : List Row) → Clear rs → first rs ≡ Taken
+unfolding first
+clear-taken [] h = refl
+clear-taken (r ∷ rs) h = rw (h .0) (clear-taken rs (h .1))
+
+pub clear-join : (a b : List Row) → Clear a → Clear b → Clear (a ++ b)
+clear-join [] b h k = k
+clear-join (r ∷ rs) b h k = (h .0, clear-join rs b (h .1) k)
+
+clear-all-from : (f : ℕ → List Row) (i left : ℕ) → ((k : ℕ) → k < i + left → Clear (f k)) → Clear (flatMap f (from i left))
+unfolding flatMap from
+clear-all-from f i zero h = tt
+clear-all-from f i (suc left) h =
+    clear-join (f i) (flatMap f (from (suc i) left)) (h i (omega arith))
+    (clear-all-from f (suc i) left (λ k q. h k (omega (arith, q))))
+
+pub clear-all : (f : ℕ → List Row) (n : ℕ) → ((k : ℕ) → k < n → Clear (f k)) → Clear (flatMap f (below n))
+clear-all f n h = clear-all-from f 0 n (λ k q. h k (rw zero-add at q))
+
 -- the parts of the table
 
 pub head-there : (s : List ℕ) → Clear (headRows s) → 8 ≤ length s

@@ -9,3 +9,5 @@ pub mod Taken
 pub mod Levels
 pub mod Refusal
 pub mod FirstBytes
+pub mod ReadBack
+pub mod RoundTrip

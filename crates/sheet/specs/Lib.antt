@@ -3,3 +3,4 @@ pub mod Refusals
 pub mod Lashings
 pub mod Routes
 pub mod Fits
+pub mod Written
