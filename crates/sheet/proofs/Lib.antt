@@ -11,3 +11,5 @@ pub mod Refusal
 pub mod FirstBytes
 pub mod ReadBack
 pub mod RoundTrip
+pub mod WrittenBytes
+pub mod Examples
