@@ -1,16 +1,16 @@
 -- The exact forces of an end of a taken sheet are bounded, so that figures close to them fit the answer's four bytes.
-use mathlib.Core.Path.{_≡_, refl, sym, ap, subst, _∙_}
-use mathlib.Core.Bool.{Bool, true, false, cond}
-use mathlib.Core.List.{List, [], _∷_}
-use Prim.Native.Nat.{ℕ, zero, suc, _+_, _*_, _^_, _≤_, _<_}
+use mathlib.Core.Path.{_≡_, sym, _∙_}
+use mathlib.Core.Bool.{Bool}
+use mathlib.Core.List.{List}
+use Prim.Native.Nat.{ℕ, suc, _+_, _*_, _^_, _≤_, _<_}
 use native.Mathlib.Decide.{decLt}
 use native.Mathlib.Omega.{arith}
 use lib.ListN.{getD, length, drop, length-drop}
-use lib.IntN.{ℤ, pos}
-use Rattle.arith.specs.Fractions.{Frac, nat, _+q_, _-q_, _*q_, _/q_, negq, sumq, _≈_, _⊑_}
+use lib.IntN.{pos}
+use Rattle.arith.specs.Fractions.{Frac, nat, _-q_, _/q_, sumq}
 use Rattle.arith.proofs.Polynomials.{v, kn, ⊖_}
 use Rattle.arith.proofs.Rings.{∀₅, by-cert, to, times, _⊞_, _⊠_}
-use Rattle.arith.proofs.Rationals.{ℚR, ℚ, mk, int, _+ℚ_, _-ℚ_, _*ℚ_, _≤ℚ_, of-⊑}
+use Rattle.arith.proofs.Rationals.{ℚR, ℚ, mk, _-ℚ_, _*ℚ_, _≤ℚ_, of-⊑}
 use Rattle.arith.proofs.RationalTerms.{qq}
 use Rattle.arith.proofs.FractionsInRationals.{mk-int, mk-sub, of-≈}
 use Rattle.springs.specs.Equations as S
@@ -18,21 +18,20 @@ use Rattle.springs.proofs.Chain.{natℚ}
 use Rattle.springs.proofs.Levels.{springs, shifts, mk-racking, deck, spring-nn}
 use Rattle.sheet.specs.declared.Tier.{Tier}
 use Rattle.sheet.specs.declared.Lash.{Lash}
-use Rattle.sheet.specs.declared.Lashing.{Lashing}
 use Rattle.sheet.specs.declared.Sheet.{Sheet}
 use Rattle.sheet.specs.Routes.{routePercent}
 use Rattle.forces.specs.declared.EndFigures.{EndFigures}
 use Rattle.forces.specs.Loads.{classShare}
-use Rattle.forces.specs.Lashes.{hookLevel, pull, athwartPart, verticalPart}
-use Rattle.forces.specs.Ends.{End, Settled, tiersOf, lashesOf, chainTiers, chainLashes, routeFactor}
-use Rattle.forces.specs.Posts.{athwartOf, moment, turning, weightAbove, verticals, inCompression, inTension, onLee, onWindward, leeSum, windwardSum, lee, windward, compression, tension, greater, lower, atMost}
+use Rattle.forces.specs.Lashes.{pull, athwartPart, verticalPart}
+use Rattle.forces.specs.Ends.{End, Settled, tiersOf, lashesOf, routeFactor}
+use Rattle.forces.specs.Posts.{athwartOf, moment, weightAbove, verticals, inCompression, inTension, onLee, onWindward, lee, windward, compression, tension, greater, lower, atMost}
 use Rattle.forces.specs.Reported.{noLash, forceOf, EndReported, Fitting, EndFigured}
 use Rattle.forces.proofs.Facts.{TierFacts, Facts}
 use Rattle.forces.proofs.EndChain.{percent-most, tier-facts, endTiers, endLashes, end-length, end-stiff, share-is, factor-is}
 use Rattle.forces.proofs.OneSolution.{solutionOf, exists, leeward}
 use Rattle.forces.proofs.Within.{UpTo, Within, up-none, up-more, within-up, within-less, within-neg, within-sum, within-more, within-same, within-over, within-choice, reported-below}
-use Rattle.forces.proofs.LoadBounds.{EachTier, each-drop, weight-up, tier-up, turning-up}
-use Rattle.forces.proofs.LashBounds.{PartOf, part-up, allParts, all-least, one-part, from-part, all-from, pull-part, vertical-part, verticals-part, arms-part, keeps-lee, keeps-windward}
+use Rattle.forces.proofs.LoadBounds.{each-drop, weight-up, tier-up, turning-up}
+use Rattle.forces.proofs.LashBounds.{part-up, all-least, one-part, from-part, all-from, pull-part, vertical-part, verticals-part, arms-part, keeps-lee, keeps-windward}
 
 -- the figures behind the counts are 0
 pub record Blank (e : End) (t : Sheet) (f : EndFigures) : Type 0 where
@@ -47,7 +46,7 @@ module _ (e : End) {t : Sheet} (f : Facts t) where
   few = omega (arith, f .tiers, f .few)
 
   factor-small : 10 * routePercent (t .head .route) ≤ 1000
-  factor-small = omega (arith, percent-most (t .head .route))
+  factor-small = omega (arith, percent-most f)
 
   load-up : (i : ℕ) → UpTo 2440000 (S.tierAt (endTiers e t) i .Q)
   load-up i =

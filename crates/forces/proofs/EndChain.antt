@@ -1,14 +1,14 @@
 -- The exact chain of an end of a taken sheet: its springs and lashes are stiffer than zero, its level loads those of the whole numbers and not below zero.
 use mathlib.Core.Path.{_≡_, refl, sym, ap, subst, _∙_}
 use mathlib.Core.List.{List, [], _∷_}
-use Prim.Native.Nat.{ℕ, zero, suc, _+_, _*_, _-_, _^_, _≤_, _<_}
+use Prim.Native.Nat.{ℕ, zero, suc, _*_, _-_, _^_, _≤_, _<_}
 use native.Mathlib.Decide.{decLt}
 use native.Mathlib.Omega.{arith}
 use lib.ListN.{getD, length, List·getD-eq-default}
-use lib.IntN.{ℤ, pos}
+use lib.IntN.{pos}
 use Rattle.arith.specs.Fractions.{Frac, nat, recip, _*q_, _≈_, _⊑_, _⊏_}
-use Rattle.arith.proofs.Rings.{∀₂, by-cert, part, to, _⊞_}
-use Rattle.arith.proofs.Rationals.{ℚR, ℚ, mk, int, _*ℚ_, _≤ℚ_, nn-int, to-⊑}
+use Rattle.arith.proofs.Rings.{∀₂, part, to, _⊞_}
+use Rattle.arith.proofs.Rationals.{ℚR, ℚ, mk, _*ℚ_, _≤ℚ_, nn-int, to-⊑}
 use Rattle.arith.proofs.RationalTerms.{qq}
 use Rattle.arith.proofs.FractionsInRationals.{mk-int}
 use Rattle.springs.specs.Equations as S
@@ -17,7 +17,8 @@ use Rattle.springs.proofs.Chain.{natℚ}
 use Rattle.sheet.specs.declared.Tier.{Tier}
 use Rattle.sheet.specs.declared.Lash.{Lash}
 use Rattle.sheet.specs.declared.Sheet.{Sheet}
-use Rattle.sheet.specs.Routes.{routePercents, routePercent}
+use Rattle.sheet.specs.Routes.{routePercent}
+use Rattle.sheet.proofs.Routes.{percent-range}
 use Rattle.forces.specs.Loads.{classShare}
 use Rattle.forces.specs.Ends.{End, door, closed, springOf, tiersOf, lashesOf, chainTiers, chainLash, chainLashes, routeFactor}
 use Rattle.forces.specs.Fixed.{noTier, levelLoad}
@@ -28,18 +29,8 @@ use Rattle.forces.proofs.LevelStiffness.{Each, each-head, each-tail}
 use Rattle.forces.proofs.LevelLoads.{load-rounded}
 
 -- the route factor's percent is at most 100
-abbrev AtMost : ℕ → List ℕ → Type 0
-AtMost b [] = Unit {0}
-AtMost b (x ∷ xs) = (x ≤ b) × AtMost b xs
-
-entry-most : (b : ℕ) (xs : List ℕ) → AtMost b xs → (i : ℕ) → getD xs i 0 ≤ b
-entry-most b [] h i = omega arith
-entry-most b (x ∷ xs) (h, hs) zero = h
-entry-most b (x ∷ xs) (h, hs) (suc i) = entry-most b xs hs i
-
-pub percent-most : (route : ℕ) → routePercent route ≤ 100
-unfolding routePercent
-percent-most route = entry-most 100 routePercents (omega arith) route
+pub percent-most : {t : Sheet} → Facts t → routePercent (t .head .route) ≤ 100
+percent-most {t} f = percent-range (t .head .route) (omega (arith, f .route)) .1
 
 -- the facts of the tier over a level, also where there is none
 pub tier-facts : {t : Sheet} → Facts t → (i : ℕ) → TierFacts (getD (tiersOf t) i noTier)

@@ -1,7 +1,7 @@
 -- The solver's inputs, in whole numbers, for an end of a taken sheet: within the solver's limits, and near the exact chain of that end.
-use mathlib.Core.Path.{_≡_, sym, subst}
+use mathlib.Core.Path.{sym, subst}
 use mathlib.Core.List.{List}
-use Prim.Native.Nat.{ℕ, suc, _+_, _*_, _^_, _≤_, _<_}
+use Prim.Native.Nat.{ℕ, suc, _*_, _^_, _≤_, _<_}
 use native.Mathlib.Omega.{arith}
 use lib.ListN.{getD}
 use Rattle.arith.specs.Fractions.{nat, _≈_}
@@ -35,7 +35,7 @@ module _ {e : End} {t : Sheet} {k κ ω : List ℕ} (f : Facts t) (h : Inputs e 
   loaded-most : (i : ℕ) → i < t .ntiers → getD ω i 0 ≤ 2 ^ 46
   loaded-most i l =
       rw (h .loaded i l)
-      (load-most 9 (10 * routePercent (t .head .route)) (getD (tiersOf t) i noTier) (getD (tiersOf t) (suc i) noTier) (omega arith) (omega (arith, percent-most (t .head .route))) (tier-facts f i) (tier-facts f (suc i)))
+      (load-most 9 (10 * routePercent (t .head .route)) (getD (tiersOf t) i noTier) (getD (tiersOf t) (suc i) noTier) (omega arith) (omega (arith, percent-most f)) (tier-facts f i) (tier-facts f (suc i)))
 
   pub solvable : Solvable (t .ntiers) k κ ω
   solvable =

@@ -1,19 +1,18 @@
 -- The exact forces of an end's lashes, at shifts not to windward: each is at least zero and at most so many times the sum of all athwart parts.
 use mathlib.Core.Path.{_≡_, refl, sym, ap, ap₂, subst, _∙_}
 use mathlib.Core.Bool.{Bool, true, false}
-use mathlib.Core.List.{List, [], _∷_, map}
-use Prim.Native.Nat.{ℕ, zero, suc, _+_, _*_, _-_, _≤_, _<_}
+use mathlib.Core.List.{List, [], _∷_}
+use Prim.Native.Nat.{ℕ, zero, suc, _*_, _≤_, _<_}
 use native.Mathlib.Omega.{arith}
 use lib.Dec.{leb, ltb}
 use lib.ListN.{getD, length}
-use lib.IntN.{ℤ, pos}
+use lib.IntN.{pos}
 use borrow.Author.Tests.{le-leb, ltb-true}
 use Rattle.arith.specs.Fractions.{Frac, nat, _+q_, _-q_, _*q_, sumq}
-use Rattle.arith.proofs.Rings.{∀₁, ∀₂, ∀₃, ∀₄, ∀₅, by-ring, by-cert, to, num, _⊞_, _⊠_}
-use Rattle.arith.proofs.Rationals.{ℚR, ℚ, mk, int, _+ℚ_, _-ℚ_, _*ℚ_, _/ℚ_, recipℚ, _≤ℚ_, <→≤, nn-int, nn-times, recip-nn}
+use Rattle.arith.proofs.Rings.{∀₁, ∀₂, ∀₃, ∀₄, ∀₅, by-cert, to, num, _⊞_, _⊠_}
+use Rattle.arith.proofs.Rationals.{ℚR, ℚ, mk, _+ℚ_, _-ℚ_, _*ℚ_, _/ℚ_, recipℚ, _≤ℚ_, <→≤, nn-int, nn-times, recip-nn}
 use Rattle.arith.proofs.RationalTerms.{qq}
 use Rattle.arith.proofs.RationalRounding.{nat-q}
-use Rattle.arith.proofs.Signs.{same-le}
 use Rattle.arith.proofs.FractionsInRationals.{mk-int, mk-add, mk-sub, mk-mul, of-⊏}
 use Rattle.springs.specs.Equations as S
 use Rattle.springs.specs.Equations.{given}
@@ -22,7 +21,7 @@ use Rattle.sheet.specs.declared.Tier.{Tier}
 use Rattle.sheet.specs.declared.Lash.{Lash}
 use Rattle.sheet.specs.declared.Lashing.{Lashing}
 use Rattle.sheet.specs.declared.Lashing.the-variants.{Cross, Side}
-use Rattle.sheet.specs.Kinds.{lashingOf}
+use Rattle.sheet.specs.Lashings.{lashingOf}
 use Rattle.forces.specs.Lashes.{hookLevel, lashLength, pull, athwartPart, verticalPart}
 use Rattle.forces.specs.Ends.{chainLash, chainLashes}
 use Rattle.forces.specs.Posts.{levelHeight, athwartOf, onLee, onWindward, verticals}

@@ -1,16 +1,15 @@
 -- The athwart stiffness of a lash within document 01's limits: above zero, and at most 155,000 N/mm.
-use mathlib.Core.Path.{_≡_, refl}
-use Prim.Native.Nat.{ℕ, zero, suc, _+_, _*_, _/_, _^_, _≤_, _<_}
+use Prim.Native.Nat.{ℕ, _+_, _*_, _/_, _^_, _≤_}
 use native.Mathlib.Nat.{mul-le-mul, mul-le-mul-left, mul-le-mul-right, mul-pos, le-div-iff-mul-le, div-le-of-le-mul}
 use native.Mathlib.Omega.{arith}
 use lib.IntN.{ℤ, pos, _+ℤ_, _*ℤ_}
-use Rattle.arith.specs.Fractions.{Frac, nat, _⊏_}
+use Rattle.arith.specs.Fractions.{nat, _⊏_}
 use Rattle.arith.proofs.Polynomials.{v, kp, _⊖_}
 use Rattle.arith.proofs.Rings.{∀₃, by-cert, to, sq, num, contra, _⊞_, _⊠_}
 use Rattle.arith.proofs.Integers.{ℤR, _≼_, nn-pos}
 use Rattle.arith.proofs.IntegerTerms.{zq}
 use Rattle.arith.proofs.IntegerOmega.{nat-le, le-nat}
-use Rattle.arith.proofs.Rationals.{ℚR, ℚ, int, _*ℚ_, _≤ℚ_, nn-int}
+use Rattle.arith.proofs.Rationals.{ℚR, ℚ, _*ℚ_, _≤ℚ_, nn-int}
 use Rattle.arith.proofs.RationalTerms.{qq}
 use Rattle.arith.proofs.RationalRounding.{nat-q, lt-of}
 use Rattle.arith.proofs.FractionsInRationals.{mk-int, to-⊏}

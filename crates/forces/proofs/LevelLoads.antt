@@ -1,17 +1,17 @@
 -- The load on a level, Q of the tier under it less Q of the tier over it, from the two tiers alone; in whole numbers it is rounded down, below 2^18 N.
-use mathlib.Core.Path.{_≡_, refl, sym, ap, ap₂, subst, _∙_}
+use mathlib.Core.Path.{_≡_, refl, sym, ap, ap₂, _∙_}
 use mathlib.Core.Bool.{Bool, true, false, cond}
 use mathlib.Core.List.{List, [], _∷_}
-use Prim.Native.Nat.{ℕ, zero, suc, _+_, _*_, _-_, _/_, _^_, _≤_, _<_}
+use Prim.Native.Nat.{ℕ, zero, suc, _+_, _*_, _-_, _^_, _≤_}
 use native.Mathlib.Nat.{mul-le-mul, mul-le-mul-left, div-le-of-le-mul}
 use native.Mathlib.Omega.{arith}
 use lib.Dec.{eqb}
-use lib.ListN.{getD, length}
-use lib.IntN.{ℤ, pos, _+ℤ_, _*ℤ_}
-use Rattle.arith.specs.Fractions.{Frac, nat, _+q_, _-q_, _*q_, _/q_, recip, _≈_, sumq}
-use Rattle.arith.proofs.Polynomials.{v, kp, kn, _⊕_, _⊖_, _⊗_, ⊖_}
-use Rattle.arith.proofs.Rings.{∀₂, ∀₃, ∀₄, ∀₅, ∀₆, ∀₇, ∀₈, ∀₁₂, by-ring, by-cert, by-eqs, to, times, mul-eq, num, part, both, _⊞_, _⊠_, _⊹_}
-use Rattle.arith.proofs.Rationals.{ℚR, ℚ, mk, int, _+ℚ_, _-ℚ_, _*ℚ_, negℚ, recipℚ, _≤ℚ_}
+use lib.ListN.{getD}
+use lib.IntN.{pos}
+use Rattle.arith.specs.Fractions.{Frac, nat, _+q_, _*q_, recip, _≈_, sumq}
+use Rattle.arith.proofs.Polynomials.{v, kp, kn, _⊖_, _⊗_, ⊖_}
+use Rattle.arith.proofs.Rings.{∀₂, ∀₄, ∀₅, ∀₁₂, by-ring, by-eqs, times, mul-eq, part, both, _⊹_}
+use Rattle.arith.proofs.Rationals.{ℚR, ℚ, mk, int, _+ℚ_, _-ℚ_, _*ℚ_}
 use Rattle.arith.proofs.RationalTerms.{qq}
 use Rattle.arith.proofs.FractionsInRationals.{of-≈, to-≈, mk-int, mk-sub}
 use Rattle.springs.specs.Equations.{given}

@@ -1,12 +1,11 @@
 -- The stiffness of a level's lashes, in whole numbers: one unit a lash below the exact one, and at most 155,000 N/mm a lash.
-use mathlib.Core.Path.{_≡_, refl, subst}
 use mathlib.Core.Bool.{Bool, true, false, cond}
 use mathlib.Core.List.{List, [], _∷_}
-use Prim.Native.Nat.{ℕ, zero, suc, _+_, _*_, _^_, _≤_, _<_}
+use Prim.Native.Nat.{ℕ, suc, _+_, _*_, _^_, _≤_, _<_}
 use native.Mathlib.Omega.{arith}
 use lib.Dec.{eqb}
 use lib.ListN.{getD, length}
-use Rattle.arith.specs.Fractions.{Frac, nat, _+q_, sumq}
+use Rattle.arith.specs.Fractions.{nat, sumq}
 use Rattle.springs.specs.Equations.{given}
 use Rattle.springs.specs.Promise.{Rounded, stiffnessAt}
 use Rattle.sheet.specs.declared.Lash.{Lash}

@@ -15,3 +15,4 @@ pub mod Within
 pub mod LoadBounds
 pub mod LashBounds
 pub mod Bounds
+pub mod Taken

@@ -1,28 +1,28 @@
 -- The exact loads of tiers within document 01's limits: none below zero; of ten tiers at most 2,440,000 N, 4,600,000 N of weight, turning over at most 28,960 mm.
 use mathlib.Core.Path.{_≡_, refl, sym, ap, subst, _∙_}
 use mathlib.Core.List.{List, [], _∷_}
-use Prim.Native.Nat.{ℕ, zero, suc, _+_, _*_, _-_, _≤_, _<_}
+use Prim.Native.Nat.{ℕ, zero, suc, _+_, _*_, _≤_}
 use native.Mathlib.Nat.{mul-le-mul}
 use native.Mathlib.Omega.{arith}
 use lib.ListN.{getD, length, drop, length-drop}
 use lib.Seq.{getD-drop}
-use lib.IntN.{ℤ, pos}
+use lib.IntN.{pos}
 use Rattle.arith.specs.Fractions.{Frac, nat, _+q_, _*q_, _≈_, sumq}
-use Rattle.arith.proofs.Polynomials.{v, kp, kn, ⊖_}
-use Rattle.arith.proofs.Rings.{∀₁, ∀₂, ∀₃, ∀₄, ∀₅, ∀₆, ∀₇, ∀₉, by-cert, by-eqs, to, times, num, part, _⊞_, _⊠_}
+use Rattle.arith.proofs.Polynomials.{kp, kn, ⊖_}
+use Rattle.arith.proofs.Rings.{∀₁, ∀₂, ∀₃, ∀₄, ∀₇, ∀₉, by-cert, to, times, num, part, _⊞_, _⊠_}
 use Rattle.arith.proofs.Rationals.{ℚR, ℚ, mk, int, _+ℚ_, _*ℚ_, _≤ℚ_, nn-int}
 use Rattle.arith.proofs.RationalTerms.{qq}
 use Rattle.arith.proofs.RationalRounding.{nat-q}
-use Rattle.arith.proofs.FractionsInRationals.{mk-int, mk-add, mk-mul, of-≈}
+use Rattle.arith.proofs.FractionsInRationals.{mk-int, mk-add}
 use Rattle.springs.specs.Equations as S
 use Rattle.springs.proofs.Chain.{natℚ}
 use Rattle.sheet.specs.declared.Tier.{Tier}
-use Rattle.forces.specs.Loads.{half, thousandths, weight, transverse, upright, wind, load}
+use Rattle.forces.specs.Loads.{half, transverse, upright, wind, load}
 use Rattle.forces.specs.Ends.{End, chainTiers}
 use Rattle.forces.specs.Posts.{levelHeight, turning, weightAbove}
 use Rattle.forces.specs.Fixed.{noTier, push, gust}
 use Rattle.forces.proofs.Facts.{TierFacts}
-use Rattle.forces.proofs.RoundedDown.{nat-plus, nat-times}
+use Rattle.forces.proofs.RoundedDown.{nat-plus}
 use Rattle.forces.proofs.LevelLoads.{above, above-none, above-mk, half-times, half-weight-times, wind-times, transverse-number, share-times, push-most, gust-most}
 use Rattle.forces.proofs.Within.{UpTo, up-none, up-more, up-sum}
 

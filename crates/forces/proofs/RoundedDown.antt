@@ -1,8 +1,8 @@
 -- Numbers rounded down, as the solver's promise takes them: a quotient in whole units is at most one unit below, sums add up.
-use mathlib.Core.Path.{_≡_, refl, sym, subst}
-use Prim.Native.Nat.{ℕ, zero, suc, _+_, _*_, _/_, _≤_, _<_}
-use lib.IntN.{ℤ, pos}
-use Rattle.arith.specs.Fractions.{Frac, nat, _+q_, _*q_, _≈_, _⊑_}
+use mathlib.Core.Path.{_≡_, sym, subst}
+use Prim.Native.Nat.{ℕ, _+_, _*_, _/_, _≤_, _<_}
+use lib.IntN.{pos}
+use Rattle.arith.specs.Fractions.{Frac, nat, _+q_, _*q_, _≈_}
 use Rattle.arith.proofs.Polynomials.{v, ⊖_}
 use Rattle.arith.proofs.Rings.{∀₁, ∀₄, ∀₅, ∀₇, by-cert, to, times, num, over, _⊞_}
 use Rattle.arith.proofs.Rationals.{ℚR, ℚ, mk, int, _+ℚ_, _*ℚ_, _≤ℚ_, of-⊑, to-⊑, int-plus, int-times}

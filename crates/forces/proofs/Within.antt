@@ -1,20 +1,18 @@
 -- Fractions between zero and a whole number, and within a whole number of zero: through sums, quotients and choices.
-use mathlib.Core.Path.{_≡_, refl, sym, subst, _∙_}
+use mathlib.Core.Path.{_≡_}
 use mathlib.Core.Bool.{Bool, true, false, cond}
-use Prim.Native.Nat.{ℕ, zero, suc, _+_, _*_, _≤_, _<_}
+use Prim.Native.Nat.{ℕ, _+_, _*_, _≤_, _<_}
 use native.Mathlib.Nat.{lt-of-not-le}
 use native.Mathlib.Omega.{arith}
-use lib.IntN.{ℤ, pos}
-use Rattle.arith.specs.Fractions.{Frac, nat, _+q_, _-q_, _*q_, _/q_, negq, absq, _⊏_}
-use Rattle.arith.proofs.Polynomials.{v, kp, ⊖_}
-use Rattle.arith.proofs.Rings.{∀₁, ∀₂, ∀₃, ∀₄, ∀₅, by-cert, to, times, num, _⊞_, _⊠_}
-use Rattle.arith.proofs.Rationals.{ℚR, ℚ, mk, int, _+ℚ_, _-ℚ_, _*ℚ_, _/ℚ_, negℚ, absℚ, _≤ℚ_, _<ℚ_, <→≤, nn-int}
+use lib.IntN.{pos}
+use Rattle.arith.specs.Fractions.{Frac, nat, _+q_, _-q_, _/q_, negq, absq}
+use Rattle.arith.proofs.Rings.{∀₂, ∀₃, ∀₄, by-cert, to, _⊞_}
+use Rattle.arith.proofs.Rationals.{ℚR, ℚ, mk, int, _+ℚ_, _-ℚ_, _*ℚ_, negℚ, absℚ, _≤ℚ_, nn-int}
 use Rattle.arith.proofs.RationalTerms.{qq}
-use Rattle.arith.proofs.RationalRounding.{nat-q, q-nat, above-0, lt-not, div-le, le-div}
+use Rattle.arith.proofs.RationalRounding.{nat-q, above-0, lt-not, div-le, le-div}
 use Rattle.arith.proofs.FractionsInRationals.{mk-int, mk-add, mk-sub, mk-neg, mk-div, mk-abs, of-⊏}
 use Rattle.springs.specs.Equations.{given}
 use Rattle.springs.proofs.Chain.{natℚ, abs-le}
-use Rattle.forces.specs.Posts.{greater, lower, atMost}
 use Rattle.forces.specs.Reported.{Reported}
 use Rattle.forces.proofs.RoundedDown.{nat-plus, nat-times}
 
