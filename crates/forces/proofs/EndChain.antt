@@ -130,17 +130,18 @@ factor-is t = record { cross = ap pos (go (routePercent (t .head .route))) }
 
 -- the load on a level of an end
 module _ (e : End) (t : Sheet) where
-  pub end-loaded : (i : ℕ) →
-      Rounded (2 ^ 28) 1
-      (levelLoad 9 (10 * routePercent (t .head .route)) (getD (tiersOf t) i noTier) (getD (tiersOf t) (suc i) noTier))
-      (loadAt (endTiers e t) i)
+  abbrev wholeLoad : ℕ → ℕ
+  wholeLoad i =
+      levelLoad 9 (10 * routePercent (t .head .route)) (getD (tiersOf t) i noTier) (getD (tiersOf t) (suc i) noTier)
+
+  pub end-loaded : (i : ℕ) → Rounded (2 ^ 28) 1 (wholeLoad i) (loadAt (endTiers e t) i)
   end-loaded i =
       load-rounded classShare (routeFactor t) 9 (10 * routePercent (t .head .route)) (omega arith) share-is (factor-is t) e (tiersOf t) i
 
   pub end-pushed : (i : ℕ) → nat 0 ⊑ loadAt (endTiers e t) i
   end-pushed i =
       to-⊑ (nat 0) (loadAt (endTiers e t) i)
-      (rw (mk-int (pos 0)) (go (natℚ (levelLoad 9 (10 * routePercent (t .head .route)) (getD (tiersOf t) i noTier) (getD (tiersOf t) (suc i) noTier))) (mk (loadAt (endTiers e t) i)) (nn-int (levelLoad 9 (10 * routePercent (t .head .route)) (getD (tiersOf t) i noTier) (getD (tiersOf t) (suc i) noTier))) (rounded-low (end-loaded i))))
+      (rw (mk-int (pos 0)) (go (natℚ (wholeLoad i)) (mk (loadAt (endTiers e t) i)) (nn-int (wholeLoad i)) (rounded-low (end-loaded i))))
     where
       go : (x y : ℚ) → natℚ 0 ≤ℚ x → x ≤ℚ natℚ (2 ^ 28) *ℚ y → natℚ 0 ≤ℚ y
       go = ∀₂ ℚR _ λ ρ. simp qq λ h l. part (2 ^ 28 - 1) (to h ⊞ to l) tt

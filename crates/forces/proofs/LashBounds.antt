@@ -1,5 +1,5 @@
 -- The exact forces of an end's lashes, at shifts not to windward: each is at least zero and at most so many times the sum of all athwart parts.
-use mathlib.Core.Path.{_≡_, refl, sym, ap, ap₂, subst, _∙_}
+use mathlib.Core.Path.{_≡_, refl, sym, ap, ap₂, _∙_}
 use mathlib.Core.Bool.{Bool, true, false}
 use mathlib.Core.List.{List, [], _∷_}
 use Prim.Native.Nat.{ℕ, zero, suc, _*_, _≤_, _<_}
@@ -10,7 +10,7 @@ use lib.IntN.{pos}
 use borrow.Author.Tests.{le-leb, ltb-true}
 use Rattle.arith.specs.Fractions.{Frac, nat, _+q_, _-q_, _*q_, sumq}
 use Rattle.arith.proofs.Rings.{∀₁, ∀₂, ∀₃, ∀₄, ∀₅, by-cert, to, num, _⊞_, _⊠_}
-use Rattle.arith.proofs.Rationals.{ℚR, ℚ, mk, _+ℚ_, _-ℚ_, _*ℚ_, _/ℚ_, recipℚ, _≤ℚ_, <→≤, nn-int, nn-times, recip-nn}
+use Rattle.arith.proofs.Rationals.{ℚR, ℚ, mk, _+ℚ_, _-ℚ_, _*ℚ_, _/ℚ_, recipℚ, _≤ℚ_, <→≤, nn-int, nn-plus, nn-times, recip-nn}
 use Rattle.arith.proofs.RationalTerms.{qq}
 use Rattle.arith.proofs.RationalRounding.{nat-q}
 use Rattle.arith.proofs.FractionsInRationals.{mk-int, mk-add, mk-sub, mk-mul, of-⊏}
@@ -42,27 +42,36 @@ pub record PartOf (k : ℕ) (whole x : Frac) : Type 0 where
   pub most : mk x ≤ℚ natℚ k *ℚ mk whole
 
 pub part-up : {k b : ℕ} {whole x : Frac} → UpTo b whole → PartOf k whole x → UpTo (k * b) x
-part-up {k} {b} {whole} {x} u p = record { least = p .least; most = rw nat-times (go (mk x) (natℚ k) (mk whole) (natℚ b) (p .most) (nn-int k) (u .most)) }
+part-up {k} {b} {whole} {x} u p =
+    record {
+      least = p .least;
+      most = rw nat-times (go (mk x) (natℚ k) (mk whole) (natℚ b) (p .most) (nn-int k) (u .most));
+    }
   where
     go : (x k w b : ℚ) → x ≤ℚ k *ℚ w → natℚ 0 ≤ℚ k → w ≤ℚ b → x ≤ℚ k *ℚ b
     go = ∀₄ ℚR _ λ ρ. simp qq λ h z l. by-cert (to h ⊞ to z ⊠ to l) tt
 
 part-none : {k : ℕ} {whole : Frac} → natℚ 0 ≤ℚ mk whole → PartOf k whole (nat 0)
-part-none {k} {whole} h = record { least = rw (mk-int (pos 0)) (nn-int 0); most = rw (mk-int (pos 0)) (nn-times (natℚ k) (mk whole) (nn-int k) h) }
+part-none {k} {whole} h =
+    record {
+      least = rw (mk-int (pos 0)) (nn-int 0);
+      most = rw (mk-int (pos 0)) (nn-times (natℚ k) (mk whole) (nn-int k) h);
+    }
 
-part-given : {k : ℕ} {whole x : Frac} (c : Bool) → natℚ 0 ≤ℚ mk whole → (c ≡ true → PartOf k whole x) → PartOf k whole (given c x)
+part-given : {k : ℕ} {whole x : Frac} (c : Bool) →
+    natℚ 0 ≤ℚ mk whole →
+    (c ≡ true → PartOf k whole x) →
+    PartOf k whole (given c x)
 part-given true h p = p refl
 part-given false h p = part-none h
 
 part-sum : {k : ℕ} {a b x y : Frac} → PartOf k a x → PartOf k b y → PartOf k (a +q b) (x +q y)
-part-sum {k} {a} {b} {x} {y} p q = record {
-  least = rw (mk-add x y) (least (mk x) (mk y) (p .least) (q .least));
-  most = rw (mk-add x y, mk-add a b) (most (natℚ k) (mk a) (mk b) (mk x) (mk y) (p .most) (q .most));
-}
+part-sum {k} {a} {b} {x} {y} p q =
+    record {
+      least = rw (mk-add x y) (nn-plus (mk x) (mk y) (p .least) (q .least));
+      most = rw (mk-add x y, mk-add a b) (most (natℚ k) (mk a) (mk b) (mk x) (mk y) (p .most) (q .most));
+    }
   where
-    least : (x y : ℚ) → natℚ 0 ≤ℚ x → natℚ 0 ≤ℚ y → natℚ 0 ≤ℚ x +ℚ y
-    least = ∀₂ ℚR _ λ ρ. simp qq λ h l. by-cert (to h ⊞ to l) tt
-
     most : (k a b x y : ℚ) → x ≤ℚ k *ℚ a → y ≤ℚ k *ℚ b → x +ℚ y ≤ℚ k *ℚ (a +ℚ b)
     most = ∀₅ ℚR _ λ ρ. simp qq λ h l. by-cert (to h ⊞ to l) tt
 
@@ -90,7 +99,7 @@ module _ (n : ℕ) (Ds : List Frac) (lee : (i : ℕ) → natℚ 0 ≤ℚ mk (S.s
 
   -- an athwart part of its own
   part-same : {A x : Frac} → natℚ 0 ≤ℚ mk A → mk x ≡ mk A → PartOf 1 A x
-  part-same {A} {x} h e = record { least = subst (λ z. natℚ 0 ≤ℚ z) (sym e) h; most = subst (λ z. z ≤ℚ natℚ 1 *ℚ mk A) (sym e) (one (mk A)) }
+  part-same {A} h e = record { least = rw e h; most = rw e (one (mk A)) }
     where
       one : (x : ℚ) → x ≤ℚ natℚ 1 *ℚ x
       one = ∀₁ ℚR _ λ ρ. simp qq (by-cert (num 0) tt)
@@ -108,10 +117,11 @@ module _ (n : ℕ) (Ds : List Frac) (lee : (i : ℕ) → natℚ 0 ≤ℚ mk (S.s
     where
       off : j < 0 → ⊥
       off x = omega arith
-  one-part (l ∷ ls) f zero h = record {
-    least = part-least l (each-head l ls f);
-    most = rw (mk-add (athwartOf Ds l) (allParts ls)) (go (mk (athwartOf Ds l)) (mk (allParts ls)) (all-least ls (each-tail l ls f)));
-  }
+  one-part (l ∷ ls) f zero h =
+      record {
+        least = part-least l (each-head l ls f);
+        most = rw (mk-add (athwartOf Ds l) (allParts ls)) (go (mk (athwartOf Ds l)) (mk (allParts ls)) (all-least ls (each-tail l ls f)));
+      }
     where
       go : (x y : ℚ) → natℚ 0 ≤ℚ y → x ≤ℚ natℚ 1 *ℚ (x +ℚ y)
       go = ∀₂ ℚR _ λ ρ. simp qq λ h. by-cert (to h) tt
@@ -145,11 +155,18 @@ module _ (n : ℕ) (Ds : List Frac) (lee : (i : ℕ) → natℚ 0 ≤ℚ mk (S.s
       ∙ sym (mk-add (given (leb 1 (hookLevel l)) (athwartPart l (nat 1) *q at l)) (S.athwartFrom (chainLashes ls) Ds 1))
 
   -- tension and vertical part of a lash: its athwart part times N / LY
-  turned-part : (k : ℕ) (l : Lash) → LashFacts n l → (N : ℕ) → N ≤ k * l .ly → (x : Frac) → mk x ≡ stiffness l *ℚ mk (at l) *ℚ (natℚ N /ℚ natℚ (l .ly)) → PartOf k (athwartOf Ds l) x
-  turned-part k l f N h x e = record {
-    least = rw is (nn-times A q (part-least l f) q-least);
-    most = rw is (go A q (natℚ k) (part-least l f) (share-most 0 N (l .ly) (omega (arith, f .ly)) k h));
-  }
+  turned-part : (k : ℕ) (l : Lash) →
+      LashFacts n l →
+      (N : ℕ) →
+      N ≤ k * l .ly →
+      (x : Frac) →
+      mk x ≡ stiffness l *ℚ mk (at l) *ℚ (natℚ N /ℚ natℚ (l .ly)) →
+      PartOf k (athwartOf Ds l) x
+  turned-part k l f N h x e =
+      record {
+        least = rw is (nn-times A q (part-least l f) q-least);
+        most = rw is (go A q (natℚ k) (part-least l f) (share-most 0 N (l .ly) (omega (arith, f .ly)) k h));
+      }
     where
       A : ℚ
       A = mk (athwartOf Ds l)
@@ -205,10 +222,11 @@ module _ (n : ℕ) (Ds : List Frac) (lee : (i : ℕ) → natℚ 0 ≤ℚ mk (S.s
       most = ∀₃ ℚR _ λ ρ. simp qq λ a l m. by-cert (to a ⊠ (to l ⊞ to m)) tt
 
       arm : (A : Frac) (h k : ℕ) → natℚ 0 ≤ℚ mk A → k ≤ h → h ≤ 28960 → PartOf 28960 A (A *q (nat h -q nat k))
-      arm A h k a l m = record {
-        least = rw (arm-mk A h k) (least (mk A) (natℚ h) (natℚ k) a (nat-q k h l));
-        most = rw (arm-mk A h k) (most (mk A) (natℚ h) (natℚ k) a (nn-int k) (nat-q h 28960 m));
-      }
+      arm A h k a l m =
+          record {
+            least = rw (arm-mk A h k) (least (mk A) (natℚ h) (natℚ k) a (nat-q k h l));
+            most = rw (arm-mk A h k) (most (mk A) (natℚ h) (natℚ k) a (nn-int k) (nat-q h 28960 m));
+          }
 
 pub keeps-lee : (g : Lashing) (x : Frac) (P : Frac → Type 0) → P x → P (nat 0) → P (onLee g x)
 keeps-lee (Cross l) x P h z = h

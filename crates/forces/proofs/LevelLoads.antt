@@ -13,7 +13,7 @@ use Rattle.arith.proofs.Polynomials.{v, kp, kn, _⊖_, _⊗_, ⊖_}
 use Rattle.arith.proofs.Rings.{∀₂, ∀₄, ∀₅, ∀₁₂, by-ring, by-eqs, times, mul-eq, part, both, _⊹_}
 use Rattle.arith.proofs.Rationals.{ℚR, ℚ, mk, int, _+ℚ_, _-ℚ_, _*ℚ_}
 use Rattle.arith.proofs.RationalTerms.{qq}
-use Rattle.arith.proofs.FractionsInRationals.{of-≈, to-≈, mk-int, mk-sub}
+use Rattle.arith.proofs.FractionsInRationals.{to-≈, mk-int, mk-sub}
 use Rattle.springs.specs.Equations.{given}
 use Rattle.springs.specs.Promise.{Rounded, loadAt}
 use Rattle.springs.proofs.Chain.{natℚ}
@@ -22,7 +22,7 @@ use Rattle.forces.specs.Loads.{half, thousandths, weight, transverse, bo
 use Rattle.forces.specs.Ends.{End, chainTiers}
 use Rattle.forces.specs.Fixed.{noTier, push, gust, levelLoad}
 use Rattle.forces.proofs.Facts.{TierFacts}
-use Rattle.forces.proofs.RoundedDown.{nat-times, nat-plus, rounded-quotient}
+use Rattle.forces.proofs.RoundedDown.{nat-times, nat-plus, times-q, rounded-quotient}
 
 -- F of a tier is the factor × 981 × mass × A_T / 200,000, and P 27 × length × height / 50,000
 push-frac : (t : Tier) (a : ℕ) → nat 200000 *q (half *q weight t *q thousandths a) ≈ nat (981 * (t .mass * a))
@@ -44,21 +44,19 @@ gust-frac t = go (eqb (t .wind) 1)
     go false = record { cross = refl }
 
 pub wind-times : (t : Tier) → natℚ 50000 *ℚ mk (wind t) ≡ natℚ (gust t)
-unfolding int _*ℚ_
-wind-times t = of-≈ (nat 50000 *q wind t) (nat (gust t)) (gust-frac t)
+wind-times t = times-q 50000 (gust t) (wind t) (gust-frac t)
 
 -- half of a tier's weight × an acceleration
 pub half-weight-times : (t : Tier) (a : ℕ) →
     natℚ 200000 *ℚ mk (half *q weight t *q thousandths a) ≡ natℚ (981 * (t .mass * a))
-unfolding int _*ℚ_
-half-weight-times t a = of-≈ (nat 200000 *q (half *q weight t *q thousandths a)) (nat (981 * (t .mass * a))) (push-frac t a)
+half-weight-times t a = times-q 200000 (981 * (t .mass * a)) (half *q weight t *q thousandths a) (push-frac t a)
 
 transverse-mk : (factor : Frac) (t : Tier) →
     mk (transverse factor t) ≡ mk (half *q weight t *q thousandths (t .at)) *ℚ mk factor
 unfolding transverse _*ℚ_
 transverse-mk factor t = refl
 
-pub transverse-times : (factor : Frac) (t : Tier) →
+transverse-times : (factor : Frac) (t : Tier) →
     natℚ 200000 *ℚ mk (transverse factor t) ≡ natℚ (981 * push t) *ℚ mk factor
 unfolding push
 transverse-times factor t =
@@ -83,7 +81,7 @@ no-wind = refl
 -- the load on a level between a tier and the tier over it
 module _ (share factor : Frac) where
   -- what the tier itself puts on its own top, and all that it puts on the tiers under it
-  abbrev pub own : Tier → ℚ
+  abbrev own : Tier → ℚ
   own t = mk share *ℚ mk (transverse factor t) +ℚ mk half *ℚ mk (wind t)
 
   abbrev pub passed : Tier → ℚ
@@ -104,11 +102,11 @@ module _ (share factor : Frac) where
   unfolding sumq _+ℚ_
   above-mk t ts = refl
 
-  unfoldable pub between : Tier → Tier → ℚ
+  unfoldable between : Tier → Tier → ℚ
   between t u = own t +ℚ (passed u -ℚ own u)
 
   -- Q of a tier less Q of the next
-  pub load-between : (e : End) (ts : List Tier) (i : ℕ) →
+  load-between : (e : End) (ts : List Tier) (i : ℕ) →
       mk (loadAt (chainTiers e share factor ts) i) ≡ between (getD ts i noTier) (getD ts (suc i) noTier)
   unfolding chainTiers between
   load-between e [] i = mk-sub (nat 0) (nat 0) ∙ ap₂ _-ℚ_ (mk-int (pos 0)) (mk-int (pos 0)) ∙ law (mk share) (mk (transverse factor noTier)) (mk half) (mk (wind noTier)) (no-transverse factor) no-wind
@@ -132,37 +130,32 @@ module _ (share factor : Frac) where
   load-between e (t ∷ ts) (suc i) = load-between e ts i
 
 pub half-times : natℚ 2 *ℚ mk half ≡ natℚ 1
-unfolding int _*ℚ_ recip
-half-times = of-≈ (nat 2 *q half) (nat 1) (record { cross = refl })
+unfolding recip
+half-times = times-q 2 1 half (record { cross = refl })
 
 -- the numbers of the fixed form: share in twentieths, factor in thousandths, all over 4,000,000,000
 abbrev number : ℕ → ℕ → Tier → Tier → ℕ
 number s f t u = 981 * f * (s * push t + (20 - s) * push u) + 40000 * (gust t + gust u)
 
+pub transverse-number : (factor : Frac) (f : ℕ) →
+    nat 1000 *q factor ≈ nat f →
+    (t : Tier) →
+    natℚ 200000000 *ℚ mk (transverse factor t) ≡ natℚ (981 * f * push t)
+transverse-number factor f factor-is t =
+    simp nat-times
+    (law (mk (transverse factor t)) (natℚ (push t)) (mk factor) (natℚ f) (simp nat-times at (transverse-times factor t)) (times-q 1000 f factor factor-is))
+  where
+    law : (F p g f : ℚ) →
+        natℚ 200000 *ℚ F ≡ natℚ 981 *ℚ p *ℚ g →
+        natℚ 1000 *ℚ g ≡ f →
+        natℚ 200000000 *ℚ F ≡ natℚ 981 *ℚ f *ℚ p
+    law = ∀₄ ℚR _ λ ρ. simp qq λ a b. by-eqs (mul-eq (kp 1000) a ⊹ mul-eq (kp 981 ⊗ v 1) b) tt
+
 module _ (share factor : Frac) (s f : ℕ) (s20 : s ≤ 20) (share-is : nat 20 *q share ≈ nat s) (factor-is : nat 1000 *q factor ≈ nat f) where
-  pub share-times : natℚ 20 *ℚ mk share ≡ natℚ s
-  unfolding int _*ℚ_
-  share-times = of-≈ (nat 20 *q share) (nat s) share-is
-
-  factor-times : natℚ 1000 *ℚ mk factor ≡ natℚ f
-  unfolding int _*ℚ_
-  factor-times = of-≈ (nat 1000 *q factor) (nat f) factor-is
-
-  pub transverse-number : (t : Tier) → natℚ 200000000 *ℚ mk (transverse factor t) ≡ natℚ (981 * f * push t)
-  transverse-number t =
-      simp nat-times
-      (law (mk (transverse factor t)) (natℚ (push t)) (mk factor) (natℚ f) (simp nat-times at (transverse-times factor t)) factor-times)
-    where
-      law : (F p g f : ℚ) →
-          natℚ 200000 *ℚ F ≡ natℚ 981 *ℚ p *ℚ g →
-          natℚ 1000 *ℚ g ≡ f →
-          natℚ 200000000 *ℚ F ≡ natℚ 981 *ℚ f *ℚ p
-      law = ∀₄ ℚR _ λ ρ. simp qq λ a b. by-eqs (mul-eq (kp 1000) a ⊹ mul-eq (kp 981 ⊗ v 1) b) tt
-
-  pub between-number : (t u : Tier) → natℚ 4000000000 *ℚ between share factor t u ≡ natℚ (number s f t u)
+  between-number : (t u : Tier) → natℚ 4000000000 *ℚ between share factor t u ≡ natℚ (number s f t u)
   unfolding between
   between-number t u =
-      law (mk share) (mk (transverse factor t)) (mk (wind t)) (mk (transverse factor u)) (mk (wind u)) (mk half) (natℚ s) (natℚ (20 - s)) (natℚ (981 * f * push t)) (natℚ (981 * f * push u)) (natℚ (gust t)) (natℚ (gust u)) share-times (transverse-number t) (transverse-number u) (wind-times t) (wind-times u) half-times rest
+      law (mk share) (mk (transverse factor t)) (mk (wind t)) (mk (transverse factor u)) (mk (wind u)) (mk half) (natℚ s) (natℚ (20 - s)) (natℚ (981 * f * push t)) (natℚ (981 * f * push u)) (natℚ (gust t)) (natℚ (gust u)) (times-q 20 s share share-is) (transverse-number factor f factor-is t) (transverse-number factor f factor-is u) (wind-times t) (wind-times u) half-times rest
       ∙ sym (spread s (20 - s) (981 * f * push t) (981 * f * push u) (gust t) (gust u))
       ∙ ap natℚ (numbers f s (20 - s) (push t) (push u) (gust t) (gust u))
     where

@@ -18,6 +18,11 @@ nat-plus m n = int-plus (pos m) (pos n)
 pub nat-times : (m n : ℕ) → natℚ (m * n) ≡ natℚ m *ℚ natℚ n
 nat-times m n = int-times (pos m) (pos n)
 
+-- y = x / c, multiplied out
+pub times-q : (c x : ℕ) (y : Frac) → nat c *q y ≈ nat x → natℚ c *ℚ mk y ≡ natℚ x
+unfolding int _*ℚ_
+times-q c x y e = of-≈ (nat c *q y) (nat x) e
+
 -- the two sides in ℚ, and back
 module _ {scale slack x : ℕ} {y : Frac} where
   pub rounded-low : Rounded scale slack x y → natℚ x ≤ℚ natℚ scale *ℚ mk y
@@ -40,17 +45,14 @@ module _ {scale slack x : ℕ} {y : Frac} where
 
 -- x over c in units of 1 / scale, rounded down
 module _ (scale x c : ℕ) (y : Frac) (c0 : 0 < c) (e : nat c *q y ≈ nat x) where
-  times-c : natℚ c *ℚ mk y ≡ natℚ x
-  unfolding int _*ℚ_
-  times-c = of-≈ (nat c *q y) (nat x) e
-
   pub rounded-quotient : Rounded scale 1 (x * scale / c) y
   rounded-quotient =
       let r : ℚ = natℚ (x * scale / c) in
       let d = scaled-down x scale c c0 in
       let c1 = lt-not (above-0 c c0) in
-      rounded (below (natℚ c) r (natℚ x) (natℚ scale) (mk y) c1 times-c (rw nat-times at (down-low d)))
-      (above (natℚ c) r (natℚ x) (natℚ scale) (mk y) c1 times-c (rw nat-times at (down-high d)))
+      let q = times-q c x y e in
+      rounded (below (natℚ c) r (natℚ x) (natℚ scale) (mk y) c1 q (rw nat-times at (down-low d)))
+      (above (natℚ c) r (natℚ x) (natℚ scale) (mk y) c1 q (rw nat-times at (down-high d)))
     where
       below : (c r x s y : ℚ) → ¬ (c ≤ℚ natℚ 0) → c *ℚ y ≡ x → c *ℚ r ≤ℚ x *ℚ s → r ≤ℚ s *ℚ y
       below = ∀₅ ℚR _ λ ρ. simp qq λ p e h. over (v 0) p (to h ⊞ times (v 3) e) tt
