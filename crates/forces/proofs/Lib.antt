@@ -18,5 +18,6 @@ pub mod Bounds
 pub mod Taken
 pub mod Arrays
 pub mod LoadLaws
+pub mod LashLaws
 pub mod LevelLaws
 pub mod Descent

@@ -3,13 +3,18 @@ use mathlib.Core.Path.{_≡_}
 use mathlib.Core.Bool.{Bool, true, false, cond}
 use mathlib.Core.List.{List, [], _∷_}
 use Prim.Native.Nat.{ℕ, zero, suc, _+_, _*_, _-_, _^_, _<_, _≤_}
+use lib.Dec.{eqb}
 use lib.ListN.{drop, take, getD, length}
 use lib.IntN.{ℤ, pos, negℤ, _+ℤ_, _-ℤ_, _*ℤ_}
 use Rattle.sheet.specs.declared.Tier.{Tier}
 use Rattle.sheet.specs.declared.Lash.{Lash}
 use Rattle.forces.specs.declared.LevelFigures.{LevelFigures}
 use Rattle.forces.specs.declared.Weights.{Weights}
-use Rattle.forces.specs.Fixed.{noTier, levelLoad, halfWeight, rackingPart, rackingFigure, leeFound, windwardFound, postFigure}
+use Rattle.forces.specs.declared.Gear.{Gear}
+use Rattle.forces.specs.declared.LashFigures.{LashFigures}
+use Rattle.forces.specs.Lashes.{hookLevel, lashLength}
+use Rattle.forces.specs.Reported.{noLash}
+use Rattle.forces.specs.Fixed.{noTier, levelLoad, halfWeight, stiffnessOf, levelStiffness, pullFigure, athwartFigure, verticalFigure, upwards, leePart, windwardPart, rackingPart, rackingFigure, leeFound, windwardFound, postFigure}
 
 -- the first n entries of a list are P, and those behind them blank
 pub record Filled {A : Type 0} (blank : A) (n : ℕ) (P : ℕ → A) (r : List A) : Type 0 where
@@ -27,6 +32,22 @@ pub record Weighed (ts : List Tier) (w : Weights) : Type 0 where
   pub least : (i : ℕ) → getD (w .least) i 0 ≡ halfWeight (λ t. t .avmin) ts i
   pub most-light : (i : ℕ) → getD (w .most) i 0 ≤ 2 ^ 40
   pub least-light : (i : ℕ) → getD (w .least) i 0 ≤ 2 ^ 40
+
+-- lengths and stiffnesses of m lashes, and the stiffness at each level over the deck
+pub record Geared (m : ℕ) (ls : List Lash) (g : Gear) : Type 0 where
+  pub lengths : (j : ℕ) → j < m → getD (g .length) j 0 ≡ lashLength (getD ls j noLash)
+  pub stiff : (j : ℕ) → j < m → getD (g .stiffness) j 0 ≡ stiffnessOf (getD ls j noLash)
+  pub held : (i : ℕ) → getD (g .level) i 0 ≡ levelStiffness ls (suc i)
+
+-- the figures of m lashes at the shifts d, and the vertical parts on the posts at each level
+pub record Pulled (m : ℕ) (ls : List Lash) (d : List ℕ) (r : LashFigures) : Type 0 where
+  pub pull : Filled 0 m (λ j. pullFigure d (getD ls j noLash)) (r .pull)
+  pub athwart : Filled 0 m (λ j. athwartFigure d (getD ls j noLash)) (r .athwart)
+  pub vertical : Filled 0 m (λ j. verticalFigure d (getD ls j noLash)) (r .vertical)
+  pub lee : (i : ℕ) → getD (r .lee) i 0 ≡ upwards leePart (λ l. eqb i (hookLevel l)) d ls
+  pub windward : (i : ℕ) → getD (r .windward) i 0 ≡ upwards windwardPart (λ l. eqb i (hookLevel l)) d ls
+  pub lee-small : (i : ℕ) → getD (r .lee) i 0 ≤ 2 ^ 58
+  pub windward-small : (i : ℕ) → getD (r .windward) i 0 ≤ 2 ^ 58
 
 unfoldable pub total : List ℕ → ℕ
 total [] = 0
