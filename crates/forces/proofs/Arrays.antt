@@ -15,7 +15,7 @@ module _ {A : Type 0} where
     pub each : (i : ℕ) → lo ≤ i → i < hi → P i (getD r i blank)
     pub rest : (i : ℕ) → hi ≤ i → getD r i blank ≡ blank
 
-  blank-entry : (blank : A) (n i : ℕ) → getD (replicate n blank) i blank ≡ blank
+  pub blank-entry : (blank : A) (n i : ℕ) → getD (replicate n blank) i blank ≡ blank
   blank-entry blank zero i = refl
   blank-entry blank (suc n) zero = refl
   blank-entry blank (suc n) (suc i) = blank-entry blank n i

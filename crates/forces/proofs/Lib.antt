@@ -19,5 +19,7 @@ pub mod Taken
 pub mod Arrays
 pub mod LoadLaws
 pub mod LashLaws
+pub mod Tallies
+pub mod LashLoops
 pub mod LevelLaws
 pub mod Descent

@@ -8,16 +8,16 @@ ghost use Rattle.forces.specs.Lashes.{hookLevel, lashLength};
 ghost use Rattle.forces.specs.Reported.{noLash};
 ghost use Rattle.forces.specs.Fixed.{ceil, stiffnessOf, leePart, windwardPart};
 ghost use Rattle.forces.specs.Steps.{Geared, Pulled};
-use sheet::Lash;
-use sheet::Lashing;
-use sheet::lashing_of;
-use arith::roots::length;
-use arith::rounding::scaled_twice;
-use arith::rounding::split_product;
-use arith::rounding::ceil_div;
 use crate::Gear;
 use crate::LashFigures;
 use crate::Uplift;
+use arith::roots::length;
+use arith::rounding::ceil_div;
+use arith::rounding::scaled_twice;
+use arith::rounding::split_product;
+use sheet::Lash;
+use sheet::Lashing;
+use sheet::lashing_of;
 
 // The level that a lash is hooked at.
 fn hook_level(l: Lash) -> usize

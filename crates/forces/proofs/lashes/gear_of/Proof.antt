@@ -1,96 +1,97 @@
+use Prim.Native.Nat.{_-_}
+use native.Mathlib.Numerals.{add-one}
+use native.Mathlib.Omega.{arith}
+use lib.ListN.{getD}
+use Rattle.forces.specs.Facts.{LashFacts}
+use Rattle.forces.specs.Reported.{noLash}
+use borrow.Author.Needs.{needs}
+use Rattle.forces.proofs.LashLoops.{Hung, hung-none, facts, held-fits, hung-more, hung-all}
 use Rattle.forces.proofs.lashes.gear_of.Statement.{statement}
 use Rattle.forces.proofs.lashes.gear_of.Tie as tie
-use Rattle.forces.proofs.lashes.gear_of.Reads as reads
-use Rattle.forces.proofs.lashes.gear_of.Lts as lts
-use Rattle.forces.proofs.lashes.hook_level.Reads as hook-level-reads
-use Rattle.forces.proofs.lashes.length_of.Reads as length-of-reads
-use Rattle.forces.proofs.lashes.stiffness_of.Reads as stiffness-of-reads
 
 abbrev Inv-loop : tie.InvT-loop
-Inv-loop m lashes lengths₀ stiffnesses₀ levels₀ j₀ lengths stiffnesses levels j = ?
+Inv-loop m lashes lengths₀ stiffnesses₀ levels₀ j₀ lengths stiffnesses levels j = Hung m lashes lengths stiffnesses levels j
 
 abbrev μ-loop : tie.MeasureT-loop
-μ-loop m lashes lengths₀ stiffnesses₀ levels₀ j₀ lengths stiffnesses levels j = ?
+μ-loop m lashes lengths₀ stiffnesses₀ levels₀ j₀ lengths stiffnesses levels j = m - j
 
--- src/lashes.rt:59:5
+lash-facts : (c : tie.In-loop Inv-loop μ-loop) → LashFacts 10 (getD (c .before .before .args .t1) (c .before .loop .j) noLash)
+lash-facts c =
+    let b = c .before .before in
+    facts (b .args .m) (b .args .t1) (b .pre .0) (b .good .0 .1 .0 .1) (b .pre .1) (c .before .loop .j) (c .loop-test .taken)
+
 loop-holds : tie.Need-loop-holds Inv-loop μ-loop
-loop-holds c = ?
+loop-holds c = hung-none (c .args .m) (c .args .t1)
 
--- src/lashes.rt:60:17
 mul-l : tie.Need-mul-l Inv-loop μ-loop
-mul-l c = ?
+mul-l c = search needs
 
--- src/lashes.rt:60:17
 array-copy-out-l : tie.Need-array-copy-out-l Inv-loop μ-loop
-array-copy-out-l c = ?
+array-copy-out-l c = search needs
 
--- src/lashes.rt:61:13
 length-of-requires : tie.Need-length-of-requires Inv-loop μ-loop
-length-of-requires c κs = ?
+length-of-requires c κs = lash-facts (c .before)
 
--- src/lashes.rt:62:13
 stiffness-of-requires : tie.Need-stiffness-of-requires Inv-loop μ-loop
-stiffness-of-requires c κs = ?
+stiffness-of-requires c κs = (lash-facts (c .before .before), c .length-of .ensures)
 
--- src/lashes.rt:63:18
 hook-level-requires : tie.Need-hook-level-requires Inv-loop μ-loop
-hook-level-requires c κs = ?
+hook-level-requires c κs = lash-facts (c .before .before .before)
 
--- src/lashes.rt:63:18
 sub-at : tie.Need-sub-at Inv-loop μ-loop
-sub-at c = ?
+sub-at c = search needs
 
--- src/lashes.rt:64:9
 mul-lengths : tie.Need-mul-lengths Inv-loop μ-loop
-mul-lengths c = ?
+mul-lengths c = search needs
 
--- src/lashes.rt:64:9
 array-write-lengths : tie.Need-array-write-lengths Inv-loop μ-loop
-array-write-lengths c = ?
+array-write-lengths c = search needs
 
--- src/lashes.rt:65:9
 mul-stiffnesses : tie.Need-mul-stiffnesses Inv-loop μ-loop
-mul-stiffnesses c = ?
+mul-stiffnesses c = search needs
 
--- src/lashes.rt:65:9
 array-write-stiffnesses : tie.Need-array-write-stiffnesses Inv-loop μ-loop
-array-write-stiffnesses c = ?
+array-write-stiffnesses c = search needs
 
--- src/lashes.rt:66:22
 mul-levels : tie.Need-mul-levels Inv-loop μ-loop
-mul-levels c = ?
+mul-levels c = search needs
 
--- src/lashes.rt:66:22
 array-read-levels : tie.Need-array-read-levels Inv-loop μ-loop
-array-read-levels c = ?
+array-read-levels c = search needs
 
--- src/lashes.rt:66:22
 add-levels : tie.Need-add-levels Inv-loop μ-loop
-add-levels c = ?
+add-levels c =
+    let t = c .before .before .before .before in
+    let l = t .before .loop in
+    let b = t .before .before in
+    let h = c .hook-level .ensures in
+    record { fits = held-fits (b .args .m) (b .args .t1) (b .pre .0) (b .good .0 .1 .0 .1) (b .pre .1) (l .j) (t .loop-test .taken) (l .lengths) (l .stiffnesses) (l .levels) (l .inv) _ _ (c .hook-level .result - 1) (c .before .before .length-of .ensures) (c .before .stiffness-of .ensures) (omega (arith, h .0, h .1)) (omega (arith, h .1, h .2)) }
 
--- src/lashes.rt:66:9
 mul-levels-2 : tie.Need-mul-levels-2 Inv-loop μ-loop
-mul-levels-2 c = ?
+mul-levels-2 c = search needs
 
--- src/lashes.rt:66:9
 array-write-levels : tie.Need-array-write-levels Inv-loop μ-loop
-array-write-levels c = ?
+array-write-levels c = search needs
 
--- src/lashes.rt:67:9
 add-j : tie.Need-add-j Inv-loop μ-loop
-add-j c = ?
+add-j c = search needs
 
--- src/lashes.rt:59:5
 loop-less : tie.Need-loop-less Inv-loop μ-loop
-loop-less c = ?
+loop-less c = search needs
 
--- src/lashes.rt:59:5
 loop-again : tie.Need-loop-again Inv-loop μ-loop
-loop-again c = ?
+loop-again c =
+    let t = c .before .before .before .before in
+    let l = t .before .loop in
+    let b = t .before .before in
+    let h = c .hook-level .ensures in
+    rw (add-one (l .j)) (hung-more (b .args .m) (b .args .t1) (b .pre .0) (b .good .0 .1 .0 .1) (b .pre .1) (l .j) (t .loop-test .taken) (l .lengths) (l .stiffnesses) (l .levels) (l .inv) _ _ (c .hook-level .result - 1) (c .before .before .length-of .ensures) (c .before .stiffness-of .ensures) (omega (arith, h .0, h .1)) (omega (arith, h .1, h .2)))
 
--- src/lashes.rt:51:1
 returns : tie.Need-returns Inv-loop μ-loop
-returns c = ?
+returns c =
+    let l = c .before .loop in
+    let b = c .before .before in
+    hung-all (b .args .m) (b .args .t1) (l .lengths) (l .stiffnesses) (l .levels) (l .j) (b .pre .0) (b .good .0 .1 .0 .1) (c .loop-test .left) (l .inv)
 
 pub gear-of-spec : {M : Type 1} → statement M
 gear-of-spec =

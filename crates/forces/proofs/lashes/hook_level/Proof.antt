@@ -3,15 +3,11 @@ use mathlib.Core.Path.{refl}
 use Rattle.forces.specs.Lashes.{hookLevel}
 use Rattle.forces.proofs.lashes.hook_level.Statement.{statement}
 use Rattle.forces.proofs.lashes.hook_level.Tie as tie
-use Rattle.forces.proofs.lashes.hook_level.Reads as reads
-use Rattle.forces.proofs.lashes.hook_level.Lts as lts
 
--- src/lashes.rt:27:6
 sub-result : tie.Need-sub-result
 unfolding hookLevel
 sub-result c = omega (arith, c .before .pre .raised)
 
--- src/lashes.rt:23:1
 returns : tie.Need-returns
 unfolding hookLevel
 returns c = (refl, c .before .pre .raised, c .before .pre .inside)

@@ -4,15 +4,10 @@ use native.Mathlib.Nat.{lt-of-le-of-lt}
 use Rattle.forces.proofs.LashLaws.{by-quotient, part-le}
 use Rattle.forces.proofs.lashes.part_of.Statement.{statement}
 use Rattle.forces.proofs.lashes.part_of.Tie as tie
-use Rattle.forces.proofs.lashes.part_of.Reads as reads
-use Rattle.forces.proofs.lashes.part_of.Lts as lts
-use Rattle.arith.proofs.rounding.split_product.Reads as split-product-reads
 
--- src/lashes.rt:81:5
 split-product-requires : tie.Need-split-product-requires
 split-product-requires c κs = (lit< tt, lit< tt, omega (arith, c .pre .0), lt-of-le-of-lt (by-quotient _ _ (c .pre .0) (c .pre .1)) (lit< tt))
 
--- src/lashes.rt:77:1
 returns : tie.Need-returns
 returns c =
     let b = c .before in

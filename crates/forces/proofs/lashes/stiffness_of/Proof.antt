@@ -1,4 +1,3 @@
-use mathlib.Core.Path.{_≡_}
 use native.Mathlib.Nat.{lt-of-le-of-lt}
 use native.Mathlib.Omega.{arith}
 use lib.Dec.{lit<}
@@ -6,41 +5,32 @@ use Rattle.forces.specs.Fixed.{stiffnessOf}
 use Rattle.forces.proofs.LashLaws.{force-le, side-le, top-le, square-le, cube-le, cube-above, quotient-le}
 use Rattle.forces.proofs.lashes.stiffness_of.Statement.{statement}
 use Rattle.forces.proofs.lashes.stiffness_of.Tie as tie
-use Rattle.forces.proofs.lashes.stiffness_of.Reads as reads
-use Rattle.forces.proofs.lashes.stiffness_of.Lts as lts
-use Rattle.arith.proofs.rounding.scaled_twice.Reads as scaled-twice-reads
 
--- src/lashes.rt:43:9
 mul-scaled-twice : tie.Need-mul-scaled-twice
 mul-scaled-twice c =
     let b = c .before in
     omega (arith, force-le (b .args .l) (b .pre .0) (b .args .length) (b .pre .1))
 
--- src/lashes.rt:43:31
 mul-scaled-twice-2 : tie.Need-mul-scaled-twice-2
 mul-scaled-twice-2 c =
     let b = c .before .before in
     omega (arith, side-le (b .args .l) (b .pre .0) (b .args .length) (b .pre .1))
 
--- src/lashes.rt:43:9
 mul-scaled-twice-3 : tie.Need-mul-scaled-twice-3
 mul-scaled-twice-3 c =
     let b = c .before .before in
     record { fits = lt-of-le-of-lt (top-le (b .args .l) (b .pre .0) (b .args .length) (b .pre .1)) (lit< tt) }
 
--- src/lashes.rt:46:9
 mul-scaled-twice-4 : tie.Need-mul-scaled-twice-4
 mul-scaled-twice-4 c =
     let b = c .before .before in
     omega (arith, square-le (b .args .l) (b .pre .0) (b .args .length) (b .pre .1))
 
--- src/lashes.rt:46:9
 mul-scaled-twice-5 : tie.Need-mul-scaled-twice-5
 mul-scaled-twice-5 c =
     let b = c .before .before in
     record { fits = lt-of-le-of-lt (cube-le (b .args .l) (b .pre .0) (b .args .length) (b .pre .1)) (lit< tt) }
 
--- src/lashes.rt:42:5
 scaled-twice-requires : tie.Need-scaled-twice-requires
 scaled-twice-requires c κs =
     let b = c .before .before in
@@ -48,7 +38,6 @@ scaled-twice-requires c κs =
     let q = quotient-le (b .args .l) (b .pre .0) (b .args .length) (b .pre .1) in
     (cube-above (b .args .l) (b .pre .0) (b .args .length) (b .pre .1), lit< tt, omega arith, omega arith, omega arith)
 
--- src/lashes.rt:38:1
 returns : tie.Need-returns
 unfolding stiffnessOf
 returns c =
