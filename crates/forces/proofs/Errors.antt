@@ -53,6 +53,23 @@ module _ {e x X : ℚ} where
       scale : (e x X h : ℚ) → natℚ 0 ≤ℚ h → x ≤ℚ X +ℚ e → h *ℚ x ≤ℚ h *ℚ X +ℚ h *ℚ e
       scale = ∀₄ ℚR _ λ ρ. simp qq λ z h. by-cert (to z ⊠ to h) tt
 
+pub off-nn : {e x X : ℚ} → Off e x X → natℚ 0 ≤ℚ e
+off-nn {e} {x} {X} o = go e x X (o .above) (o .below)
+  where
+    go : (e x X : ℚ) → x ≤ℚ X +ℚ e → X ≤ℚ x +ℚ e → natℚ 0 ≤ℚ e
+    go = ∀₃ ℚR _ λ ρ. simp qq λ h l. part 1 (to h ⊞ to l) tt
+
+-- a share q of x, at most k, itself at most f off
+pub off-share : {e f x X q u k : ℚ} → natℚ 0 ≤ℚ q → q ≤ℚ k → Off e x X → Off f u (x *ℚ q) → Off (k *ℚ e +ℚ f) u (X *ℚ q)
+off-share {e} {f} {x} {X} {q} {u} {k} q0 q1 o p =
+    record { above = high e f x X q u k q0 q1 (off-nn o) (o .above) (p .above); below = low e f x X q u k q0 q1 (off-nn o) (o .below) (p .below) }
+  where
+    high : (e f x X q u k : ℚ) → natℚ 0 ≤ℚ q → q ≤ℚ k → natℚ 0 ≤ℚ e → x ≤ℚ X +ℚ e → u ≤ℚ x *ℚ q +ℚ f → u ≤ℚ X *ℚ q +ℚ (k *ℚ e +ℚ f)
+    high = ∀₇ ℚR _ λ ρ. simp qq λ z h e0 o l. by-cert (to l ⊞ to z ⊠ to o ⊞ to e0 ⊠ to h) tt
+
+    low : (e f x X q u k : ℚ) → natℚ 0 ≤ℚ q → q ≤ℚ k → natℚ 0 ≤ℚ e → X ≤ℚ x +ℚ e → x *ℚ q ≤ℚ u +ℚ f → X *ℚ q ≤ℚ u +ℚ (k *ℚ e +ℚ f)
+    low = ∀₇ ℚR _ λ ρ. simp qq λ z h e0 o l. by-cert (to l ⊞ to z ⊠ to o ⊞ to e0 ⊠ to h) tt
+
 pub off-zero : {e : ℚ} → natℚ 0 ≤ℚ e → Off e (natℚ 0) (natℚ 0)
 off-zero {e} h = record { above = go e h; below = go e h }
   where

@@ -4,3 +4,4 @@ pub mod LashLength
 pub mod LashForces
 pub mod Newtons
 pub mod Shown
+pub mod LashFigures
