@@ -5,3 +5,5 @@ pub mod LashForces
 pub mod Newtons
 pub mod Shown
 pub mod LashFigures
+pub mod Arms
+pub mod Moment
