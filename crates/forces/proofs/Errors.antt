@@ -47,6 +47,15 @@ module _ {e x X : ℚ} where
       join : (e f x y X Y : ℚ) → x ≤ℚ X +ℚ e → y ≤ℚ Y +ℚ f → x +ℚ y ≤ℚ X +ℚ Y +ℚ (e +ℚ f)
       join = ∀₆ ℚR _ λ ρ. simp qq λ h l. by-cert (to h ⊞ to l) tt
 
+  pub off-trans : {f Y : ℚ} → Off e x X → Off f X Y → Off (e +ℚ f) x Y
+  off-trans {f} {Y} o p = record { above = join e f x X Y (o .above) (p .above); below = join′ e f x X Y (o .below) (p .below) }
+    where
+      join : (e f x X Y : ℚ) → x ≤ℚ X +ℚ e → X ≤ℚ Y +ℚ f → x ≤ℚ Y +ℚ (e +ℚ f)
+      join = ∀₅ ℚR _ λ ρ. simp qq λ h l. by-cert (to h ⊞ to l) tt
+
+      join′ : (e f x X Y : ℚ) → X ≤ℚ x +ℚ e → Y ≤ℚ X +ℚ f → Y ≤ℚ x +ℚ (e +ℚ f)
+      join′ = ∀₅ ℚR _ λ ρ. simp qq λ h l. by-cert (to h ⊞ to l) tt
+
   pub off-times : {h : ℚ} → natℚ 0 ≤ℚ h → Off e x X → Off (h *ℚ e) (h *ℚ x) (h *ℚ X)
   off-times {h} h0 o = record { above = scale e x X h h0 (o .above); below = scale e X x h h0 (o .below) }
     where

@@ -26,7 +26,7 @@ use Rattle.forces.proofs.Newtons.{newtons, newtons-times, newtons-nn, s
 use Rattle.forces.proofs.Shown.{near-reported, figure-near, turned-near}
 use Rattle.forces.proofs.LashForces.{stiffness, stiffness-low, stiffness-high, athwart-is, pull-is, vertical-is}
 
-found-times : (d : List ℕ) (i : ℕ) → natℚ (2 ^ 28) *ℚ mk (found d i) ≡ natℚ (getD d i 0)
+pub found-times : (d : List ℕ) (i : ℕ) → natℚ (2 ^ 28) *ℚ mk (found d i) ≡ natℚ (getD d i 0)
 unfolding _*ℚ_ recipℚ int
 found-times d i = unit-times (2 ^ 28) (pos (getD d i 0)) (lit≤ tt)
 

@@ -7,3 +7,4 @@ pub mod Shown
 pub mod LashFigures
 pub mod Arms
 pub mod Moment
+pub mod Racking
