@@ -8,3 +8,5 @@ pub mod LashFigures
 pub mod Arms
 pub mod Moment
 pub mod Racking
+pub mod Verticals
+pub mod Weights

@@ -10,6 +10,7 @@ use Rattle.arith.proofs.Polynomials.{v, kp, kn, _⊕_, _⊖_, _⊗_, ⊖_}
 use Rattle.arith.proofs.Rings.{∀₂, ∀₃, ∀₄, ∀₅, ∀₆, by-ring, by-cert, to, times, _⊞_, _⊠_}
 use Rattle.arith.proofs.Rationals.{ℚR, ℚ, int, _+ℚ_, _*ℚ_, _/ℚ_, recipℚ, negℚ, _≤ℚ_, <→≤, recip-times, recip-nn, int-plus, int-times, nn-int, nn-times}
 use Rattle.arith.proofs.RationalTerms.{qq, q-int-neg}
+use Rattle.arith.proofs.Signs.{div-eq}
 use Rattle.arith.proofs.RationalRounding.{above-0, unit, unit-times, div-down, down-low, down-high, nat-q, div-le, ceil-up, up-le, up-lt}
 use Rattle.forces.specs.Fixed.{ceil}
 use Rattle.forces.proofs.Errors.{natℚ, Off, off-neg}
@@ -20,6 +21,10 @@ newtons z = unit (2 ^ 18) z
 
 pub newtons-times : (z : ℤ) → natℚ (2 ^ 18) *ℚ newtons z ≡ int z
 newtons-times z = unit-times (2 ^ 18) z (lit≤ tt)
+
+-- n N
+pub newtons-whole : (n : ℕ) → newtons (pos (n * 2 ^ 18)) ≡ natℚ n
+newtons-whole n = sym (div-eq (natℚ n) (natℚ (n * 2 ^ 18)) (natℚ (2 ^ 18)) (above-0 (2 ^ 18) (lit≤ tt)) (sym (int-times (pos n) (pos (2 ^ 18)))))
 
 pub newtons-nn : (n : ℕ) → natℚ 0 ≤ℚ newtons (pos n)
 newtons-nn n = nn-times (natℚ n) (recipℚ (natℚ (2 ^ 18))) (nn-int n) (recip-nn (natℚ (2 ^ 18)))
