@@ -10,3 +10,5 @@ pub mod Moment
 pub mod Racking
 pub mod Verticals
 pub mod Weights
+pub mod PostSums
+pub mod PostFigures

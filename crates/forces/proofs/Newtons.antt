@@ -8,9 +8,10 @@ use lib.IntN.{ℤ, pos, negsuc, negℤ, _+ℤ_, _*ℤ_}
 use lib.Signed.{quotZ}
 use Rattle.arith.proofs.Polynomials.{v, kp, kn, _⊕_, _⊖_, _⊗_, ⊖_}
 use Rattle.arith.proofs.Rings.{∀₂, ∀₃, ∀₄, ∀₅, ∀₆, by-ring, by-cert, to, times, _⊞_, _⊠_}
+use Rattle.arith.proofs.Integers.{_≼_}
 use Rattle.arith.proofs.Rationals.{ℚR, ℚ, int, _+ℚ_, _*ℚ_, _/ℚ_, recipℚ, negℚ, _≤ℚ_, <→≤, recip-times, recip-nn, int-plus, int-times, nn-int, nn-times}
 use Rattle.arith.proofs.RationalTerms.{qq, q-int-neg}
-use Rattle.arith.proofs.Signs.{div-eq}
+use Rattle.arith.proofs.Signs.{div-eq, le-int}
 use Rattle.arith.proofs.RationalRounding.{above-0, unit, unit-times, div-down, down-low, down-high, nat-q, div-le, ceil-up, up-le, up-lt}
 use Rattle.forces.specs.Fixed.{ceil}
 use Rattle.forces.proofs.Errors.{natℚ, Off, off-neg}
@@ -25,6 +26,9 @@ newtons-times z = unit-times (2 ^ 18) z (lit≤ tt)
 -- n N
 pub newtons-whole : (n : ℕ) → newtons (pos (n * 2 ^ 18)) ≡ natℚ n
 newtons-whole n = sym (div-eq (natℚ n) (natℚ (n * 2 ^ 18)) (natℚ (2 ^ 18)) (above-0 (2 ^ 18) (lit≤ tt)) (sym (int-times (pos n) (pos (2 ^ 18)))))
+
+pub newtons-zero : newtons (pos 0) ≡ natℚ 0
+newtons-zero = newtons-whole 0
 
 pub newtons-nn : (n : ℕ) → natℚ 0 ≤ℚ newtons (pos n)
 newtons-nn n = nn-times (natℚ n) (recipℚ (natℚ (2 ^ 18))) (nn-int n) (recip-nn (natℚ (2 ^ 18)))
@@ -102,9 +106,8 @@ module _ (x N y : ℕ) (y0 : 0 < y) where
   pub share-most : (k : ℕ) → N ≤ k * y → natℚ N /ℚ natℚ y ≤ℚ natℚ k
   share-most k h = div-le (natℚ N) (natℚ y) (natℚ k) (above-0 y y0) (rw (sym (int-times (pos y) (pos k))) (nat-q N (y * k) (omega (arith, mul-comm y k))))
 
--- the order of whole numbers
-pub newtons-le : (m n : ℕ) → m ≤ n → newtons (pos m) ≤ℚ newtons (pos n)
-newtons-le m n h = go (natℚ m) (natℚ n) (recipℚ (natℚ (2 ^ 18))) (recip-nn (natℚ (2 ^ 18))) (nat-q m n h)
+pub newtons-le : (a b : ℤ) → a ≼ b → newtons a ≤ℚ newtons b
+newtons-le a b h = go (int a) (int b) (recipℚ (natℚ (2 ^ 18))) (recip-nn (natℚ (2 ^ 18))) (le-int a b h)
   where
-    go : (m n r : ℚ) → natℚ 0 ≤ℚ r → m ≤ℚ n → m *ℚ r ≤ℚ n *ℚ r
+    go : (a b r : ℚ) → natℚ 0 ≤ℚ r → a ≤ℚ b → a *ℚ r ≤ℚ b *ℚ r
     go = ∀₃ ℚR _ λ ρ. simp qq λ r0 h. by-cert (to r0 ⊠ to h) tt

@@ -13,7 +13,7 @@ use Rattle.arith.proofs.Rings.{∀₁, ∀₂, ∀₃, ∀₄, ∀₅, by-ring,
 use Rattle.arith.proofs.Rationals.{ℚR, ℚ, mk, int, _+ℚ_, _*ℚ_, _/ℚ_, recipℚ, _≤ℚ_, int-plus, nn-int, nn-plus, nn-times}
 use Rattle.arith.proofs.RationalTerms.{qq}
 use Rattle.arith.proofs.RationalRounding.{nat-q}
-use Rattle.arith.proofs.FractionsInRationals.{sumℚ, mk-add}
+use Rattle.arith.proofs.FractionsInRationals.{sumℚ, mk-add, mk-int}
 use Rattle.springs.specs.Equations.{given, shift}
 use Rattle.sheet.specs.declared.Lash.{Lash}
 use Rattle.sheet.specs.declared.Lashing.{Lashing}
@@ -26,16 +26,12 @@ use Rattle.forces.specs.Fixed.{upward, upwards, leePart, windwardPart}
 use Rattle.forces.proofs.Facts.{LashFacts}
 use Rattle.forces.proofs.LashLength.{length-above}
 use Rattle.forces.proofs.Errors.{natℚ, Off, off-nn, off-add, off-more, off-zero}
-use Rattle.forces.proofs.Newtons.{newtons, newtons-add, newtons-nn, newtons-times}
+use Rattle.forces.proofs.Newtons.{newtons, newtons-add, newtons-nn, newtons-times, newtons-zero}
 use Rattle.forces.proofs.LashFigures.{slip, slip-nn, upward-off}
 use Rattle.forces.proofs.Racking.{cent, cent-times}
 
-nothing-off : {e : ℚ} → natℚ 0 ≤ℚ e → Off e (newtons (pos 0)) (mk (nat 0))
-unfolding int
-nothing-off {e} h = subst (λ x. Off e x (natℚ 0)) (go (recipℚ (natℚ (2 ^ 18)))) (off-zero h)
-  where
-    go : (r : ℚ) → natℚ 0 ≡ natℚ 0 *ℚ r
-    go = ∀₁ ℚR _ λ ρ. simp qq (by-ring tt)
+pub nothing-off : {e : ℚ} → natℚ 0 ≤ℚ e → Off e (newtons (pos 0)) (mk (nat 0))
+nothing-off h = rw (newtons-zero, mk-int (pos 0)) (off-zero h)
 
 -- a post takes the same lashes found and exact
 pub record Post (found : Lashing → ℕ → ℕ) (exact : Lashing → Frac → Frac) : Type 0 where
