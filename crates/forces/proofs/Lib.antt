@@ -12,3 +12,4 @@ pub mod Verticals
 pub mod Weights
 pub mod PostSums
 pub mod PostFigures
+pub mod EndReported

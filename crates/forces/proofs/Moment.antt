@@ -80,7 +80,7 @@ module _ (share factor : Frac) (Ds : List Frac) where
         ∙ sym (mk-add (nat (t .height) *q R i) (rackingMoment R ts (suc i)) ∙ ap (λ y. y +ℚ mk (rackingMoment R ts (suc i))) (mk-mul (nat (t .height)) (R i)))
 
 module _ (e : End) (share factor : Frac) where
-  chain-length : (ts : List Tier) → length (chainTiers e share factor ts) ≡ length ts
+  pub chain-length : (ts : List Tier) → length (chainTiers e share factor ts) ≡ length ts
   unfolding chainTiers
   chain-length [] = refl
   chain-length (t ∷ ts) = ap suc (chain-length ts)
