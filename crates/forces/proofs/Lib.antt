@@ -13,3 +13,4 @@ pub mod Weights
 pub mod PostSums
 pub mod PostFigures
 pub mod EndReported
+pub mod Margins
