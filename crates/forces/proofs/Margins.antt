@@ -2,9 +2,9 @@
 use Prim.Native.Nat.{ℕ, _≤_}
 use lib.IntN.{ℤ, pos}
 use Rattle.arith.specs.Fractions.{Frac, nat, negq, _+q_, absq, _⊑_, _⊏_}
-use Rattle.arith.proofs.Rings.{∀₂, ∀₃, ∀₄, by-cert, to, _⊞_}
+use Rattle.arith.proofs.Rings.{∀₄, by-cert, to, _⊞_}
 use Rattle.arith.proofs.FractionLaws.{⊑-trans}
-use Rattle.arith.proofs.Rationals.{ℚR, ℚ, mk, int, _+ℚ_, negℚ, _≤ℚ_, to-⊑}
+use Rattle.arith.proofs.Rationals.{ℚR, ℚ, mk, _+ℚ_, _≤ℚ_, to-⊑}
 use Rattle.arith.proofs.RationalTerms.{qq}
 use Rattle.arith.proofs.RationalRounding.{lt-of, lt-not, nat-q}
 use Rattle.arith.proofs.FractionsInRationals.{mk-int, mk-neg, mk-add, of-⊏, to-⊏}
@@ -12,7 +12,7 @@ use Rattle.sheet.specs.declared.Sheet.{Sheet}
 use Rattle.forces.specs.declared.EndFigures.{EndFigures}
 use Rattle.forces.specs.Ends.{End}
 use Rattle.forces.specs.Reported.{Reported, ReportedRacking, EndReported, EndFigured}
-use Rattle.forces.proofs.Errors.{natℚ}
+use Rattle.forces.proofs.Errors.{natℚ, turn-le}
 use mathlib.Core.List.{List}
 
 module _ {m n : ℕ} (wider : m ≤ n) where
@@ -20,10 +20,9 @@ module _ {m n : ℕ} (wider : m ≤ n) where
   wide = to-⊑ (nat m) (nat n) (rw (mk-int (pos m), mk-int (pos n)) (nat-q m n wider))
 
   wide-back : negq (nat n) ⊑ negq (nat m)
-  wide-back = to-⊑ (negq (nat n)) (negq (nat m)) (rw (mk-neg (nat n), mk-neg (nat m), mk-int (pos m), mk-int (pos n)) (turn (natℚ m) (natℚ n) (nat-q m n wider)))
-    where
-      turn : (p q : ℚ) → p ≤ℚ q → negℚ q ≤ℚ negℚ p
-      turn = ∀₂ ℚR _ λ ρ. simp qq λ h. by-cert (to h) tt
+  wide-back =
+      to-⊑ (negq (nat n)) (negq (nat m))
+      (rw (mk-neg (nat n), mk-neg (nat m), mk-int (pos m), mk-int (pos n)) (turn-le (natℚ m) (natℚ n) (nat-q m n wider)))
 
   above : (s x : Frac) → s ⊏ x +q nat m → s ⊏ x +q nat n
   above s x h =

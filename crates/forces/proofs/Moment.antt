@@ -1,15 +1,14 @@
 -- The moment of document 01 at a level, of F, P and athwart lash parts by their heights over it, is the sum of height × racking of the tiers above.
-use mathlib.Core.Path.{_≡_, refl, sym, ap, ap₂, subst, fun-ext, _∙_}
+use mathlib.Core.Path.{_≡_, refl, sym, ap, ap₂, fun-ext, _∙_}
 use mathlib.Core.Bool.{Bool, true, false}
-use mathlib.Core.List.{List, [], _∷_, map}
-use Prim.Native.Nat.{ℕ, zero, suc, _+_, _≤_, _<_}
+use mathlib.Core.List.{List, [], _∷_}
+use Prim.Native.Nat.{ℕ, zero, suc, _+_, _<_}
 use native.Mathlib.Omega.{arith}
 use lib.Dec.{leb, ltb}
-use lib.ListN.{drop, length, getD, length-drop}
+use lib.ListN.{drop, length, length-drop}
 use lib.Seq.{getD-drop}
-use lib.IntN.{ℤ, pos}
 use Rattle.arith.specs.Fractions.{Frac, nat, _+q_, _-q_, _*q_, _≈_, sumq}
-use Rattle.arith.proofs.Rationals.{ℚR, ℚ, mk, int, _+ℚ_, _-ℚ_, _*ℚ_, negℚ}
+use Rattle.arith.proofs.Rationals.{ℚ, mk, int, _+ℚ_, _-ℚ_, _*ℚ_, negℚ}
 use Rattle.arith.proofs.FractionsInRationals.{sumℚ, mk-sum, mk-sub, mk-add, mk-mul, to-≈, of-≈}
 use Rattle.springs.specs.Equations as S
 use Rattle.springs.specs.Equations.{given, shift}
@@ -17,10 +16,10 @@ use Rattle.sheet.specs.declared.Tier.{Tier}
 use Rattle.sheet.specs.declared.Lash.{Lash}
 use Rattle.forces.specs.Loads.{half, transverse, wind, load}
 use Rattle.forces.specs.Lashes.{hookLevel, athwartPart}
-use Rattle.forces.specs.Ends.{End, springOf, chainTiers, chainLash, chainLashes}
+use Rattle.forces.specs.Ends.{End, chainTiers, chainLash, chainLashes}
 use Rattle.forces.specs.Posts.{levelHeight, turning, athwartOf, moment}
 use Rattle.forces.proofs.Errors.{natℚ}
-use Rattle.forces.proofs.LashForces.{stiffness, athwart-is}
+use Rattle.forces.proofs.LashForces.{athwart-is}
 use Rattle.forces.proofs.Arms.{givenℚ, Q, held, turns, racked, turned-back, balance}
 
 -- height × racking, summed over the tiers from number i + 1 on

@@ -1,38 +1,27 @@
--- The figure of a post reports the greatest of 0 and two sums, from sums within 8.86 N; compression and tension are such.
-use mathlib.Core.Path.{_≡_, refl, sym, ap, subst, _∙_}
+-- The figure of a post reports the greatest of 0 and two forces, from sums found; compression and tension are such.
+use mathlib.Core.Path.{_≡_, refl, sym, subst}
 use mathlib.Core.Bool.{Bool, true, false, not, cond}
-use Prim.Native.Nat.{ℕ, zero, suc, _+_, _*_, _-_, _^_, _≤_, _<_, max}
+use Prim.Native.Nat.{ℕ, _≤_, _<_, _^_, max}
 use native.Mathlib.Omega.{max-cases}
 use native.Mathlib.Nat.{le-max-left, le-max-right}
-use lib.Dec.{T, lit≤}
-use lib.IntN.{ℤ, pos, negsuc, negℤ, _+ℤ_, _*ℤ_}
+use lib.Dec.{T}
+use lib.IntN.{ℤ, pos, negsuc, negℤ, _+ℤ_}
 use Rattle.arith.specs.Fractions.{Frac, nat, negq}
-use Rattle.arith.proofs.Polynomials.{v, kp, kn, _⊕_, _⊖_, _⊗_, ⊖_}
-use Rattle.arith.proofs.Rings.{∀₁, ∀₂, ∀₃, ∀₄, ∀₅, ∀₆, by-cert, to, times, num, part, _⊞_, _⊠_}
+use Rattle.arith.proofs.Rings.{∀₁, ∀₂, ∀₃, ∀₅, ∀₆, by-cert, to, _⊞_}
 use Rattle.arith.proofs.IntegerOmega.{nat-le}
-use Rattle.arith.proofs.Rationals.{ℚR, ℚ, mk, int, _+ℚ_, _*ℚ_, negℚ, _≤ℚ_, leℚ, flip, <→≤, nn-int}
+use Rattle.arith.proofs.Rationals.{ℚR, ℚ, mk, _+ℚ_, negℚ, _≤ℚ_, leℚ, flip, nn-int}
 use Rattle.arith.proofs.RationalTerms.{qq}
 use Rattle.arith.proofs.Signs.{same-le}
-use Rattle.arith.proofs.RationalRounding.{above-0, ceil-up, up-le, up-lt}
 use Rattle.arith.proofs.FractionsInRationals.{mk-int, mk-neg}
 use Rattle.forces.specs.Posts.{atMost, greater, lower}
 use Rattle.forces.specs.Fixed.{ceil, postPad, notBelow, postFigure}
 use Rattle.forces.specs.Reported.{Reported}
-use Rattle.forces.proofs.Errors.{natℚ, Off, off-neg}
-use Rattle.forces.proofs.Newtons.{newtons, newtons-add, newtons-neg, newtons-times, newtons-zero, newtons-le}
-use Rattle.forces.proofs.Shown.{Near, near-reported}
-use Rattle.forces.proofs.Racking.{cent, cent-times}
+use Rattle.forces.proofs.Errors.{natℚ, le-trans, turn-le, Off, off-neg}
+use Rattle.forces.proofs.Scales.{newtons, newtons-add, newtons-neg, newtons-zero, newtons-le}
+use Rattle.forces.proofs.Pads.{postError, post-pad, post-lift}
+use Rattle.forces.proofs.Covers.{Covers, covers-reported, ceil-low, ceil-high}
 
-le-trans : (p q r : ℚ) → p ≤ℚ q → q ≤ℚ r → p ≤ℚ r
-le-trans = ∀₃ ℚR _ λ ρ. simp qq λ h l. by-cert (to h ⊞ to l) tt
-
-turn-le : (p q : ℚ) → p ≤ℚ q → negℚ q ≤ℚ negℚ p
-turn-le = ∀₂ ℚR _ λ ρ. simp qq λ h. by-cert (to h) tt
-
-turn-back : (p q : ℚ) → negℚ p ≤ℚ q → negℚ q ≤ℚ p
-turn-back = ∀₂ ℚR _ λ ρ. simp qq λ h. by-cert (to h) tt
-
--- the test, by cases
+-- the test of two fractions, by cases
 choose : (x y : Frac) (Z : Bool → Type 0) → (mk x ≤ℚ mk y → Z true) → (mk y ≤ℚ mk x → Z false) → Z (atMost x y)
 unfolding atMost leℚ
 choose x y Z f g = go (atMost x y) refl
@@ -61,37 +50,37 @@ module _ (x y : Frac) where
   lower-most z a b = choose x y (λ c. z ≤ℚ mk (cond c x y)) (λ h. a) (λ h. b)
 
 -- X is the greatest of 0, A and B
-pub record Greatest (X A B : ℚ) : Type 0 where
+record Greatest (X A B : ℚ) : Type 0 where
   pub zero : natℚ 0 ≤ℚ X
   pub left : A ≤ℚ X
   pub right : B ≤ℚ X
   pub least : (y : ℚ) → natℚ 0 ≤ℚ y → A ≤ℚ y → B ≤ℚ y → X ≤ℚ y
 
+greatest : (y : Frac) (A B : ℚ) → A ≤ℚ mk y → B ≤ℚ mk y → ((z : ℚ) → A ≤ℚ z → B ≤ℚ z → mk y ≤ℚ z) → Greatest (mk (greater (nat 0) y)) A B
+greatest y A B a b least =
+    let X = mk (greater (nat 0) y) in
+    record {
+      zero = rw (mk-int (pos 0)) at (greater-l (nat 0) y);
+      left = le-trans A (mk y) X a (greater-r (nat 0) y);
+      right = le-trans B (mk y) X b (greater-r (nat 0) y);
+      least = λ z h a b. greater-least (nat 0) y z (rw (mk-int (pos 0)) h) (least z a b);
+    }
+
 module _ (l w : Frac) where
   compression-greatest : Greatest (mk (greater (nat 0) (greater l w))) (mk l) (mk w)
-  compression-greatest =
-      let all = greater-r (nat 0) (greater l w) in
-      record {
-        zero = rw (mk-int (pos 0)) at (greater-l (nat 0) (greater l w));
-        left = le-trans (mk l) (mk (greater l w)) (mk (greater (nat 0) (greater l w))) (greater-l l w) all;
-        right = le-trans (mk w) (mk (greater l w)) (mk (greater (nat 0) (greater l w))) (greater-r l w) all;
-        least = λ y z a b. greater-least (nat 0) (greater l w) y (rw (mk-int (pos 0)) z) (greater-least l w y a b);
-      }
+  compression-greatest = greatest (greater l w) (mk l) (mk w) (greater-l l w) (greater-r l w) (greater-least l w)
 
   tension-greatest : Greatest (mk (greater (nat 0) (negq (lower l w)))) (negℚ (mk l)) (negℚ (mk w))
   tension-greatest =
-      let X = mk (greater (nat 0) (negq (lower l w))) in
-      let all = rw (mk-neg (lower l w)) at (greater-r (nat 0) (negq (lower l w))) in
-      record {
-        zero = rw (mk-int (pos 0)) at (greater-l (nat 0) (negq (lower l w)));
-        left = le-trans (negℚ (mk l)) (negℚ (mk (lower l w))) X (turn-le (mk (lower l w)) (mk l) (lower-l l w)) all;
-        right = le-trans (negℚ (mk w)) (negℚ (mk (lower l w))) X (turn-le (mk (lower l w)) (mk w) (lower-r l w)) all;
-        least =
-            λ y z a b. greater-least (nat 0) (negq (lower l w)) y (rw (mk-int (pos 0)) z)
-            (rw (mk-neg (lower l w)) (turn-back y (mk (lower l w)) (lower-most l w (negℚ y) (turn-back (mk l) y a) (turn-back (mk w) y b))));
-      }
+      greatest (negq (lower l w)) (negℚ (mk l)) (negℚ (mk w))
+      (rw (mk-neg (lower l w)) (turn-le (mk (lower l w)) (mk l) (lower-l l w)))
+      (rw (mk-neg (lower l w)) (turn-le (mk (lower l w)) (mk w) (lower-r l w)))
+      (λ z a b. rw (mk-neg (lower l w)) (back z (mk (lower l w)) (lower-most l w (negℚ z) (back (mk l) z a) (back (mk w) z b))))
+    where
+      back : (p q : ℚ) → negℚ p ≤ℚ q → negℚ q ≤ℚ p
+      back = ∀₂ ℚR _ λ ρ. simp qq λ h. by-cert (to h) tt
 
--- not below 0
+-- a number, or 0 where it is below
 not-below : (z : ℤ) → newtons z ≤ℚ newtons (pos (notBelow z))
 not-below (pos n) = same-le (newtons (pos n))
 not-below (negsuc n) = newtons-le (negsuc n) (pos 0) (record { le = tt })
@@ -100,52 +89,49 @@ within : (z : ℤ) (k : ℚ) → natℚ 0 ≤ℚ k → newtons z ≤ℚ k → ne
 within (pos n) k h l = l
 within (negsuc n) k h l = rw newtons-zero h
 
--- a padded sum is at least the exact one, and at most 17.73 N above it
-pad-enough : cent 886 ≤ℚ newtons (pos postPad)
-pad-enough = go (cent 886) (newtons (pos postPad)) (cent-times 886) (newtons-times (pos postPad))
-  where
-    go : (E p : ℚ) → natℚ 100 *ℚ E ≡ natℚ 886 → natℚ (2 ^ 18) *ℚ p ≡ natℚ 2322596 → E ≤ℚ p
-    go = ∀₂ ℚR _ λ ρ. simp qq λ i j. part (100 * 2 ^ 18 - 1) (times (⊖ kp (2 ^ 18)) i ⊞ times (kp 100) j) tt
+-- a sum x found of a force A, padded
+module _ {A : ℚ} (x : ℤ) (o : Off postError (newtons x) A) where
+  padded : ℕ
+  padded = notBelow (x +ℤ pos postPad)
 
-pad-small : cent 886 +ℚ newtons (pos postPad) ≤ℚ natℚ 18
-pad-small = go (cent 886) (newtons (pos postPad)) (cent-times 886) (newtons-times (pos postPad))
-  where
-    go : (E p : ℚ) → natℚ 100 *ℚ E ≡ natℚ 886 → natℚ (2 ^ 18) *ℚ p ≡ natℚ 2322596 → E +ℚ p ≤ℚ natℚ 18
-    go = ∀₂ ℚR _ λ ρ. simp qq λ i j. part (100 * 2 ^ 18 - 1) (times (⊖ kp (2 ^ 18)) i ⊞ times (⊖ kp 100) j) tt
-
-module _ {A : ℚ} (x : ℤ) (o : Off (cent 886) (newtons x) A) where
-  reach : (t : ℕ) → notBelow (x +ℤ pos postPad) ≤ t → A ≤ℚ newtons (pos t)
+  reach : (t : ℕ) → padded ≤ t → A ≤ℚ newtons (pos t)
+  unfolding padded
   reach t h =
-      let z = x +ℤ pos postPad in
-      go A (newtons x) (newtons (pos postPad)) (newtons (pos (notBelow z))) (newtons (pos t)) (cent 886) (o .below) pad-enough (rw (newtons-add x (pos postPad)) at (not-below z)) (newtons-le (pos (notBelow z)) (pos t) (nat-le (notBelow z) t h))
+      go A (newtons x) (newtons (pos postPad)) (newtons (pos padded)) (newtons (pos t)) postError (o .below) post-pad (rw (newtons-add x (pos postPad)) at (not-below (x +ℤ pos postPad))) (newtons-le (pos padded) (pos t) (nat-le padded t h))
     where
-      go : (A x p n t E : ℚ) → A ≤ℚ x +ℚ E → E ≤ℚ p → x +ℚ p ≤ℚ n → n ≤ℚ t → A ≤ℚ t
+      go : (A x p n t e : ℚ) → A ≤ℚ x +ℚ e → e ≤ℚ p → x +ℚ p ≤ℚ n → n ≤ℚ t → A ≤ℚ t
       go = ∀₆ ℚR _ λ ρ. simp qq λ o h l m. by-cert (to o ⊞ to h ⊞ to l ⊞ to m) tt
 
-  room : (X : ℚ) → natℚ 0 ≤ℚ X → A ≤ℚ X → newtons (pos (notBelow (x +ℤ pos postPad))) ≤ℚ X +ℚ natℚ 18
+  room : (X : ℚ) → natℚ 0 ≤ℚ X → A ≤ℚ X → newtons (pos padded) ≤ℚ X +ℚ natℚ 18
+  unfolding padded
   room X X0 AX =
       within (x +ℤ pos postPad) (X +ℚ natℚ 18) (above X X0)
-      (rw (newtons-add x (pos postPad)) (go A X (newtons x) (newtons (pos postPad)) (cent 886) (o .above) AX pad-small))
+      (rw (newtons-add x (pos postPad)) (go A X (newtons x) (newtons (pos postPad)) postError (o .above) AX post-lift))
     where
       above : (X : ℚ) → natℚ 0 ≤ℚ X → natℚ 0 ≤ℚ X +ℚ natℚ 18
       above = ∀₁ ℚR _ λ ρ. simp qq λ h. by-cert (to h) tt
 
-      go : (A X x p E : ℚ) → x ≤ℚ A +ℚ E → A ≤ℚ X → E +ℚ p ≤ℚ natℚ 18 → x +ℚ p ≤ℚ X +ℚ natℚ 18
+      go : (A X x p e : ℚ) → x ≤ℚ A +ℚ e → A ≤ℚ X → e +ℚ p ≤ℚ natℚ 18 → x +ℚ p ≤ℚ X +ℚ natℚ 18
       go = ∀₅ ℚR _ λ ρ. simp qq λ o h l. by-cert (to o ⊞ to h ⊞ to l) tt
 
--- any two sums, and the greatest of 0 and both
-figure-near : {X A B : ℚ} (x y : ℤ) → Greatest X A B → Off (cent 886) (newtons x) A → Off (cent 886) (newtons y) B → Near 19 X (postFigure x y)
-unfolding postFigure
-figure-near {X} {A} {B} x y g p q =
-    let a = notBelow (x +ℤ pos postPad) in
-    let b = notBelow (y +ℤ pos postPad) in
+figure-covers : {X A B : ℚ} (x y : ℤ) → Greatest X A B → Off postError (newtons x) A → Off postError (newtons y) B → Covers 19 (postFigure x y) X
+unfolding postFigure padded
+figure-covers {X} {A} {B} x y g p q =
+    let a = padded x p in
+    let b = padded y q in
+    let t : ℚ = newtons (pos (max a b)) in
     let s : ℚ = natℚ (ceil (max a b) (2 ^ 18)) in
-    let up = ceil-up (max a b) (2 ^ 18) (lit≤ tt) in
-    let low = up-le (above-0 (2 ^ 18) (lit≤ tt)) up in
+    let s0 = nn-int (ceil (max a b) (2 ^ 18)) in
     record {
-      enough = g .least s (nn-int (ceil (max a b) (2 ^ 18))) (le-trans A (newtons (pos (max a b))) s (reach x p (max a b) (le-max-left a b)) low) (le-trans B (newtons (pos (max a b))) s (reach y q (max a b) (le-max-right a b)) low);
-      back = back X s (g .zero) (nn-int (ceil (max a b) (2 ^ 18)));
-      close = close X (newtons (pos (max a b))) s (max-cases a b (newtons (pos (max a b)) ≤ℚ X +ℚ natℚ 18) (λ h e. rw e (room y q X (g .zero) (g .right))) (λ h e. rw e (room x p X (g .zero) (g .left)))) (<→≤ (up-lt (above-0 (2 ^ 18) (lit≤ tt)) up));
+      enough =
+          g .least s s0
+          (le-trans A t s (reach x p (max a b) (le-max-left a b)) (ceil-low (max a b)))
+          (le-trans B t s (reach y q (max a b) (le-max-right a b)) (ceil-low (max a b)));
+      back = back X s (g .zero) s0;
+      close =
+          close X t s
+          (max-cases a b (t ≤ℚ X +ℚ natℚ 18) (λ h e. rw e (room y q X (g .zero) (g .right))) (λ h e. rw e (room x p X (g .zero) (g .left))))
+          (ceil-high (max a b));
     }
   where
     back : (X s : ℚ) → natℚ 0 ≤ℚ X → natℚ 0 ≤ℚ s → negℚ X ≤ℚ s
@@ -154,12 +140,15 @@ figure-near {X} {A} {B} x y g p q =
     close : (X t s : ℚ) → t ≤ℚ X +ℚ natℚ 18 → s ≤ℚ t +ℚ natℚ 1 → s ≤ℚ X +ℚ natℚ 19
     close = ∀₃ ℚR _ λ ρ. simp qq λ h l. by-cert (to h ⊞ to l) tt
 
--- the figures of a level, from its two sums
-module _ (m : ℕ) (h : 19 < m) (x y : ℤ) (l w : Frac) (p : Off (cent 886) (newtons x) (mk l)) (q : Off (cent 886) (newtons y) (mk w)) where
+-- compression and tension, from the two sums of a level
+module _
+    (m : ℕ) (margin : 19 < m) (x y : ℤ) (l w : Frac)
+    (p : Off postError (newtons x) (mk l)) (q : Off postError (newtons y) (mk w)) where
   pub compression-reported : Reported m (greater (nat 0) (greater l w)) (postFigure x y)
-  compression-reported = near-reported m (greater (nat 0) (greater l w)) h (figure-near x y (compression-greatest l w) p q)
+  compression-reported =
+      covers-reported m (greater (nat 0) (greater l w)) margin (figure-covers x y (compression-greatest l w) p q)
 
   pub tension-reported : Reported m (greater (nat 0) (negq (lower l w))) (postFigure (negℤ x) (negℤ y))
   tension-reported =
-      near-reported m (greater (nat 0) (negq (lower l w))) h
-      (figure-near (negℤ x) (negℤ y) (tension-greatest l w) (rw (newtons-neg x) (off-neg p)) (rw (newtons-neg y) (off-neg q)))
+      covers-reported m (greater (nat 0) (negq (lower l w))) margin
+      (figure-covers (negℤ x) (negℤ y) (tension-greatest l w) (rw (newtons-neg x) (off-neg p)) (rw (newtons-neg y) (off-neg q)))

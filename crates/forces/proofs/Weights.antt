@@ -1,14 +1,14 @@
 -- Half the weight above a level, in 2^-18 N, is at most a unit off.
-use mathlib.Core.Path.{_≡_, refl, sym, ap, ap₂, subst, _∙_}
+use mathlib.Core.Path.{_≡_, refl, sym, ap, ap₂, _∙_}
 use mathlib.Core.List.{List, [], _∷_}
-use Prim.Native.Nat.{ℕ, zero, suc, _+_, _*_, _/_, _^_, _<_}
+use Prim.Native.Nat.{ℕ, _*_, _^_}
 use lib.Dec.{lit≤}
 use lib.ListN.{drop}
-use lib.IntN.{ℤ, pos, _*ℤ_}
-use Rattle.arith.specs.Fractions.{Frac, nat, sumq}
-use Rattle.arith.proofs.Polynomials.{v, kp, kn, _⊕_, _⊖_, _⊗_, ⊖_}
-use Rattle.arith.proofs.Rings.{∀₁, ∀₂, ∀₃, ∀₄, ∀₅, by-ring, by-eqs, mul-eq, _⊹_}
-use Rattle.arith.proofs.Rationals.{ℚR, ℚ, mk, int, _+ℚ_, _*ℚ_, _/ℚ_, recipℚ, recip-times, int-plus, int-times}
+use lib.IntN.{pos}
+use Rattle.arith.specs.Fractions.{sumq}
+use Rattle.arith.proofs.Polynomials.{v, kp, _⊗_}
+use Rattle.arith.proofs.Rings.{∀₁, ∀₃, ∀₄, ∀₅, by-ring, by-eqs, mul-eq, _⊹_}
+use Rattle.arith.proofs.Rationals.{ℚR, ℚ, mk, int, _+ℚ_, _*ℚ_, _/ℚ_, recipℚ, int-plus, int-times}
 use Rattle.arith.proofs.RationalTerms.{qq}
 use Rattle.arith.proofs.Signs.{div-eq}
 use Rattle.arith.proofs.RationalRounding.{above-0}
@@ -18,7 +18,7 @@ use Rattle.forces.specs.Loads.{weight, upright}
 use Rattle.forces.specs.Posts.{weightAbove}
 use Rattle.forces.specs.Fixed.{lifted, halfWeight}
 use Rattle.forces.proofs.Errors.{natℚ, Off}
-use Rattle.forces.proofs.Newtons.{newtons, newtons-whole, quot-off}
+use Rattle.forces.proofs.Scales.{recip-nat, newtons, newtons-whole, quot-off}
 
 -- F_V of 1 kg and a thousandth of g
 unitary : ℚ
@@ -60,12 +60,9 @@ module _ (acceleration : Tier → ℕ) where
   half-is ts =
       div-eq (mk (sumq (upright acceleration) ts) /ℚ natℚ 2) (newtons (pos (981 * lifted acceleration ts * 2 ^ 18))) (natℚ 400000) (above-0 400000 (lit≤ tt))
       (ap (λ z. z /ℚ natℚ 2 *ℚ natℚ 400000) (lifted-is ts)
-      ∙ go (natℚ (lifted acceleration ts)) (recipℚ (natℚ 2)) (recipℚ (natℚ 100)) (recipℚ (natℚ 1000)) (times-recip 2 (lit≤ tt)) (times-recip 100 (lit≤ tt)) (times-recip 1000 (lit≤ tt))
+      ∙ go (natℚ (lifted acceleration ts)) (recipℚ (natℚ 2)) (recipℚ (natℚ 100)) (recipℚ (natℚ 1000)) (recip-nat 2 (lit≤ tt)) (recip-nat 100 (lit≤ tt)) (recip-nat 1000 (lit≤ tt))
       ∙ sym (newtons-whole (981 * lifted acceleration ts) ∙ int-times (pos 981) (pos (lifted acceleration ts))))
     where
-      times-recip : (c : ℕ) → 0 < c → natℚ c *ℚ recipℚ (natℚ c) ≡ natℚ 1
-      times-recip c h = recip-times (natℚ c) (above-0 c h)
-
       go : (L a b c : ℚ) → natℚ 2 *ℚ a ≡ natℚ 1 → natℚ 100 *ℚ b ≡ natℚ 1 → natℚ 1000 *ℚ c ≡ natℚ 1 → L *ℚ (natℚ 1 *ℚ a *ℚ (natℚ 981 *ℚ b) *ℚ c) *ℚ a *ℚ natℚ 400000 ≡ natℚ 981 *ℚ L
       go =
           ∀₄ ℚR _ λ ρ. simp qq λ i j k. by-eqs (mul-eq (kp 981 ⊗ v 0 ⊗ (kp 2 ⊗ v 1) ⊗ (kp 100 ⊗ v 2) ⊗ (kp 1000 ⊗ v 3)) i ⊹ mul-eq (kp 981 ⊗ v 0 ⊗ (kp 100 ⊗ v 2) ⊗ (kp 1000 ⊗ v 3)) i ⊹ mul-eq (kp 981 ⊗ v 0 ⊗ (kp 1000 ⊗ v 3)) j ⊹ mul-eq (kp 981 ⊗ v 0) k) tt
