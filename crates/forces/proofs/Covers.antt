@@ -99,9 +99,15 @@ module _ {e X : ℚ} (n p : ℕ) (o : Off e (newtons (pos n)) X) (pad : e ≤ℚ
       let first = rw (newtons-add (pos n) (pos p)) at (share-up N y y0 (n + p)) in
       let first-close = rw (newtons-add (pos n) (pos p)) at (share-up-close N y y0 (n + p)) in
       record {
-        enough = enough e X (newtons (pos n)) (newtons (pos p)) q (newtons (pos m)) s (share-nn N y y0) (o .below) pad first (ceil-low m);
-        back = back e X (newtons (pos n)) (newtons (pos p)) q (newtons (pos m)) s (share-nn N y y0) (newtons-nn n) (o .above) pad first (ceil-low m);
-        close = close e X (newtons (pos n)) (newtons (pos p)) q (newtons (pos m)) s (newtons (pos 1)) (share-nn N y y0) (share-most N y y0 42 Ny) (off-nn o) (newtons-nn p) (o .above) lift first-close (ceil-high m);
+        enough =
+            enough e X (newtons (pos n)) (newtons (pos p)) q (newtons (pos m)) s
+            (share-nn N y y0) (o .below) pad first (ceil-low m);
+        back =
+            back e X (newtons (pos n)) (newtons (pos p)) q (newtons (pos m)) s
+            (share-nn N y y0) (newtons-nn n) (o .above) pad first (ceil-low m);
+        close =
+            close e X (newtons (pos n)) (newtons (pos p)) q (newtons (pos m)) s (newtons (pos 1))
+            (share-nn N y y0) (share-most N y y0 42 Ny) (off-nn o) (newtons-nn p) (o .above) lift first-close (ceil-high m);
       }
     where
       enough : (e X n p q m s : ℚ) → natℚ 0 ≤ℚ q → X ≤ℚ n +ℚ e → e ≤ℚ p → (n +ℚ p) *ℚ q ≤ℚ m → m ≤ℚ s → X *ℚ q ≤ℚ s

@@ -65,8 +65,17 @@ pub promised-close :
 promised-close e t k κ ω d Ds a b p n s =
     record {
       far = p .far;
-      lashes = ⊑-trans (sumq (slipq d Ds) (chainLashes (lashesOf e t))) P.lashError (nat 13 /q nat 100) (p .lashes (chainOf e t) (chainLashes (lashesOf e t)) Ds n (s .solves)) a;
-      rackings = λ i h. ⊑-trans (absq (S.tierAt (chainOf e t) i .K *q (found d (suc i) -q found d i) -q S.racking (chainOf e t) Ds i)) P.rackingError (nat 25 /q nat 100) (p .rackings (chainOf e t) (chainLashes (lashesOf e t)) Ds n (s .solves) i h) b;
+      lashes =
+          ⊑-trans (sumq (slipq d Ds) (chainLashes (lashesOf e t))) P.lashError (nat 13 /q nat 100)
+          (p .lashes (chainOf e t) (chainLashes (lashesOf e t)) Ds n (s .solves)) a;
+      rackings =
+          λ i h.
+          ⊑-trans
+          (absq (S.tierAt (chainOf e t) i .K *q (found d (suc i) -q found d i) -q S.racking (chainOf e t) Ds i))
+          P.rackingError
+          (nat 25 /q nat 100)
+          (p .rackings (chainOf e t) (chainLashes (lashesOf e t)) Ds n (s .solves) i h)
+          b;
     }
 
 slip-bound : mk (nat 13 /q nat 100) ≡ slipBound
@@ -77,7 +86,10 @@ force-bound : mk (nat 25 /q nat 100) ≡ forceBound
 unfolding _*ℚ_ recipℚ int
 force-bound = refl
 
-chain-spring : (e : End) (share factor : Frac) (ts : List Tier) (i : ℕ) → i < length ts → S.tierAt (chainTiers e share factor ts) i .K ≡ nat (springOf e)
+chain-spring :
+    (e : End) (share factor : Frac) (ts : List Tier) (i : ℕ) →
+    i < length ts →
+    S.tierAt (chainTiers e share factor ts) i .K ≡ nat (springOf e)
 unfolding chainTiers
 chain-spring e share factor [] i h = absurd (never h)
   where
@@ -86,7 +98,8 @@ chain-spring e share factor [] i h = absurd (never h)
 chain-spring e share factor (t ∷ ts) zero h = refl
 chain-spring e share factor (t ∷ ts) (suc i) h = chain-spring e share factor ts i (omega arith)
 
-module _ (e : End) (t : Sheet) (d : List ℕ) (Ds : List Frac) (facts : Facts t) (settled : Settled e t Ds) (near : Close e t d Ds) where
+module _
+    (e : End) (t : Sheet) (d : List ℕ) (Ds : List Frac) (facts : Facts t) (settled : Settled e t Ds) (near : Close e t d Ds) where
   abbrev ts : List Tier
   ts = tiersOf t
 
@@ -114,7 +127,8 @@ module _ (e : End) (t : Sheet) (d : List ℕ) (Ds : List Frac) (facts : Facts t)
       let K = S.tierAt (chainOf e t) i .K in
       let x = found d (suc i) -q found d i in
       let spring = ap mk (chain-spring e classShare (routeFactor t) ts i (rw (facts .tiers) h)) ∙ mk-int (pos (springOf e)) in
-      let error = mk-abs (K *q x -q R i) ∙ ap absℚ (mk-sub (K *q x) (R i) ∙ ap (λ y. y -ℚ mk (R i)) (mk-mul K x ∙ ap₂ _*ℚ_ spring (mk-sub (found d (suc i)) (found d i)))) in
+      let force = mk-mul K x ∙ ap₂ _*ℚ_ spring (mk-sub (found d (suc i)) (found d i)) in
+      let error = mk-abs (K *q x -q R i) ∙ ap absℚ (mk-sub (K *q x) (R i) ∙ ap (λ y. y -ℚ mk (R i)) force) in
       racking-off (springOf e) d i (mk (R i))
       (subst (λ y. y ≤ℚ forceBound) error (rw force-bound at (of-⊑ (absq (K *q x -q R i)) (nat 25 /q nat 100) (near .rackings i h))))
 
@@ -136,15 +150,28 @@ module _ (e : End) (t : Sheet) (d : List ℕ) (Ds : List Frac) (facts : Facts t)
 
     -- its two sums, with either acceleration and the lashes that count
     module _ (acceleration : Tier → ℕ) (counts : ℕ → Lash → Bool) where
+      abbrev half : ℕ
+      half = halfWeight acceleration ts i
+
       lee-near :
-          Off postError (newtons (leeFound (halfWeight acceleration ts i) (momentFound i) (upwards leePart (counts i) d ls))) (mk (lee classShare (routeFactor t) ts ls Ds i acceleration counts))
+          Off postError
+          (newtons (leeFound half (momentFound i) (upwards leePart (counts i) d ls)))
+          (mk (lee classShare (routeFactor t) ts ls Ds i acceleration counts))
       lee-near =
-          lee-off (length (drop i ts)) (halfWeight acceleration ts i) (upwards leePart (counts i) d ls) (momentFound i) (weightAbove acceleration ts i) (M i) (verticals onLee (counts i) ls Ds) few-above (weight-off acceleration ts i) turned (verticals-off d Ds (near .far) lee-post (counts i) ls each (facts .ends e .few) slips-small)
+          lee-off (length (drop i ts)) half (upwards leePart (counts i) d ls) (momentFound i)
+          (weightAbove acceleration ts i) (M i) (verticals onLee (counts i) ls Ds)
+          few-above (weight-off acceleration ts i) turned
+          (verticals-off d Ds (near .far) lee-post (counts i) ls each (facts .ends e .few) slips-small)
 
       windward-near :
-          Off postError (newtons (windwardFound (halfWeight acceleration ts i) (momentFound i) (upwards windwardPart (counts i) d ls))) (mk (windward classShare (routeFactor t) ts ls Ds i acceleration counts))
+          Off postError
+          (newtons (windwardFound half (momentFound i) (upwards windwardPart (counts i) d ls)))
+          (mk (windward classShare (routeFactor t) ts ls Ds i acceleration counts))
       windward-near =
-          windward-off (length (drop i ts)) (halfWeight acceleration ts i) (upwards windwardPart (counts i) d ls) (momentFound i) (weightAbove acceleration ts i) (M i) (verticals onWindward (counts i) ls Ds) few-above (weight-off acceleration ts i) turned (verticals-off d Ds (near .far) windward-post (counts i) ls each (facts .ends e .few) slips-small)
+          windward-off (length (drop i ts)) half (upwards windwardPart (counts i) d ls) (momentFound i)
+          (weightAbove acceleration ts i) (M i) (verticals onWindward (counts i) ls Ds)
+          few-above (weight-off acceleration ts i) turned
+          (verticals-off d Ds (near .far) windward-post (counts i) ls each (facts .ends e .few) slips-small)
 
     compressed : Reported 20 (compression classShare (routeFactor t) ts ls Ds i) (compressionFigure (springOf e) ts ls d i)
     unfolding compression compressionFigure

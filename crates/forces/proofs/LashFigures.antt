@@ -48,8 +48,14 @@ module _ (d : List ℕ) (l : Lash) (D : Frac) (long : 0 < lashLength l) where
       let q = F.part d l in
       let down = div-down (s * n) (2 ^ 32) (lit≤ tt) in
       record {
-        above = high k (mk D) x (natℚ n) (natℚ s) (natℚ q) (newtons (pos q)) m (newtons (pos 257)) (stiffness-nn l long) (stiffness-low l long) (nn-int n) (found-times d (hookLevel l)) (ge-q (x -ℚ mk D)) (rw (int-times (pos s) (pos n)) at (down-low down)) (newtons-times (pos q)) (newtons-nn 257);
-        below = low k (mk D) x (natℚ n) (natℚ s) (natℚ q) (newtons (pos q)) m (newtons (pos 257)) (stiffness-nn l long) (stiffness-high l long) (nn-int n) (nat-q n (2 ^ 40) far) (found-times d (hookLevel l)) (ge-neg-q (x -ℚ mk D)) (rw (int-times (pos s) (pos n)) at (down-high down)) (newtons-times (pos q)) (newtons-times (pos 257));
+        above =
+            high k (mk D) x (natℚ n) (natℚ s) (natℚ q) (newtons (pos q)) m (newtons (pos 257))
+            (stiffness-nn l long) (stiffness-low l long) (nn-int n) (found-times d (hookLevel l)) (ge-q (x -ℚ mk D))
+            (rw (int-times (pos s) (pos n)) at (down-low down)) (newtons-times (pos q)) (newtons-nn 257);
+        below =
+            low k (mk D) x (natℚ n) (natℚ s) (natℚ q) (newtons (pos q)) m (newtons (pos 257))
+            (stiffness-nn l long) (stiffness-high l long) (nn-int n) (nat-q n (2 ^ 40) far) (found-times d (hookLevel l)) (ge-neg-q (x -ℚ mk D))
+            (rw (int-times (pos s) (pos n)) at (down-high down)) (newtons-times (pos q)) (newtons-times (pos 257));
       }
     where
       -- k, D, x exact stiffness, exact shift and shift found; n, s, q whole shift, stiffness and product; w the product in N
@@ -65,7 +71,10 @@ module _ (d : List ℕ) (l : Lash) (D : Frac) (long : 0 < lashLength l) where
           natℚ 0 ≤ℚ c →
           w ≤ℚ k *ℚ D +ℚ (k *ℚ m +ℚ c)
       high =
-          ∀₉ ℚR _ λ ρ. simp qq λ k0 h n0 e l f i c0. part (2 ^ 50 - 1) (to f ⊞ to h ⊠ to n0 ⊞ num (2 ^ 50) ⊠ (to k0 ⊠ to l ⊞ to c0) ⊞ times (kp (2 ^ 22) ⊗ v 0) e ⊞ times (⊖ kp (2 ^ 32)) i) tt
+          ∀₉ ℚR _ λ ρ. simp qq λ k0 h n0 e l f i c0.
+          part (2 ^ 50 - 1)
+          (to f ⊞ to h ⊠ to n0 ⊞ num (2 ^ 50) ⊠ (to k0 ⊠ to l ⊞ to c0) ⊞ times (kp (2 ^ 22) ⊗ v 0) e ⊞ times (⊖ kp (2 ^ 32)) i)
+          tt
 
       low :
           (k D x n s q w m c : ℚ) →
@@ -80,7 +89,10 @@ module _ (d : List ℕ) (l : Lash) (D : Frac) (long : 0 < lashLength l) where
           natℚ (2 ^ 18) *ℚ c ≡ natℚ 257 →
           k *ℚ D ≤ℚ w +ℚ (k *ℚ m +ℚ c)
       low =
-          ∀₉ ℚR _ λ ρ. simp qq λ k0 h n0 n1 e l f i j. part (2 ^ 50 - 1) (to f ⊞ to h ⊠ to n0 ⊞ to n1 ⊞ num (2 ^ 50) ⊠ (to k0 ⊠ to l) ⊞ times (⊖ (kp (2 ^ 22) ⊗ v 0)) e ⊞ times (kp (2 ^ 32)) i ⊞ times (kp (2 ^ 32)) j) tt
+          ∀₉ ℚR _ λ ρ. simp qq λ k0 h n0 n1 e l f i j.
+          part (2 ^ 50 - 1)
+          (to f ⊞ to h ⊠ to n0 ⊞ to n1 ⊞ num (2 ^ 50) ⊠ (to k0 ⊠ to l) ⊞ times (⊖ (kp (2 ^ 22) ⊗ v 0)) e ⊞ times (kp (2 ^ 32)) i ⊞ times (kp (2 ^ 32)) j)
+          tt
 
 module _ {n : ℕ} (d : List ℕ) (l : Lash) (D : Frac) (f : LashFacts n l) (far : getD d (hookLevel l) 0 ≤ 2 ^ 40) where
   wide : 0 < l .ly
@@ -94,7 +106,8 @@ module _ {n : ℕ} (d : List ℕ) (l : Lash) (D : Frac) (f : LashFacts n l) (far
   unfolding upward
   upward-off =
       rw (vertical-is l (length-above f) wide D)
-      (off-share (share-nn (l .lz) (l .ly) wide) (share-most (l .lz) (l .ly) wide 40 (vertical-ratio f)) (part-off d l D (length-above f) far) (share-off (l .lz) (l .ly) wide (F.part d l)))
+      (off-share (share-nn (l .lz) (l .ly) wide) (share-most (l .lz) (l .ly) wide 40 (vertical-ratio f))
+      (part-off d l D (length-above f) far) (share-off (l .lz) (l .ly) wide (F.part d l)))
 
   -- the figures
   module _ (small : slip d l D ≤ℚ slipBound) (m : ℕ) (margin : 13 < m) where

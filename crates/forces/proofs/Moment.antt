@@ -43,43 +43,72 @@ module _ (share factor : Frac) (Ds : List Frac) where
   athwart l = mk (athwartOf Ds l)
 
   -- document 01's sums in ℚ
-  turning-q : (foot : Frac) (ts : List Tier) → mk (turning share factor foot ts) ≡ turns F P athwart (mk share) (mk half) (mk foot) ts
+  turning-q :
+      (foot : Frac) (ts : List Tier) → mk (turning share factor foot ts) ≡ turns F P athwart (mk share) (mk half) (mk foot) ts
   unfolding turning turns F P _+ℚ_ _*ℚ_ int
   turning-q foot [] = refl
-  turning-q foot (t ∷ above) = ap (λ y. mk (transverse factor t *q (foot +q share *q nat (t .height)) +q wind t *q (foot +q half *q nat (t .height))) +ℚ y) (turning-q (foot +q nat (t .height)) above)
+  turning-q foot (t ∷ above) =
+      let own = transverse factor t *q (foot +q share *q nat (t .height)) +q wind t *q (foot +q half *q nat (t .height)) in
+      ap (λ y. mk own +ℚ y) (turning-q (foot +q nat (t .height)) above)
 
-  moment-q : (ts : List Tier) (ls : List Lash) (i : ℕ) → mk (moment share factor ts ls Ds i) ≡ turns F P athwart (mk share) (mk half) (natℚ 0) (drop i ts) -ℚ turned-back F P athwart (mk share) (mk half) ls ts i
-  unfolding moment turned-back athwart int _+ℚ_ _*ℚ_ negℚ
-  moment-q ts ls i = ap₂ _-ℚ_ (turning-q (nat 0) (drop i ts)) (mk-sum (λ l. given (ltb i (hookLevel l)) (athwartOf Ds l *q (nat (levelHeight ts (hookLevel l)) -q nat (levelHeight ts i)))) ls ∙ ap (λ f. sumℚ f ls) (fun-ext (λ l. mk-given (ltb i (hookLevel l)) (athwartOf Ds l *q (nat (levelHeight ts (hookLevel l)) -q nat (levelHeight ts i))))))
+  turned : List Tier → ℕ → Lash → Frac
+  turned ts i l =
+      given (ltb i (hookLevel l)) (athwartOf Ds l *q (nat (levelHeight ts (hookLevel l)) -q nat (levelHeight ts i)))
+
+  turned-q :
+      (ts : List Tier) (i : ℕ) (l : Lash) →
+      mk (turned ts i l)
+      ≡ givenℚ (ltb i (hookLevel l)) (athwart l *ℚ (natℚ (levelHeight ts (hookLevel l)) -ℚ natℚ (levelHeight ts i)))
+  unfolding turned athwart int _+ℚ_ _*ℚ_ negℚ
+  turned-q ts i l =
+      mk-given (ltb i (hookLevel l)) (athwartOf Ds l *q (nat (levelHeight ts (hookLevel l)) -q nat (levelHeight ts i)))
+
+  moment-q :
+      (ts : List Tier) (ls : List Lash) (i : ℕ) →
+      mk (moment share factor ts ls Ds i)
+      ≡ turns F P athwart (mk share) (mk half) (natℚ 0) (drop i ts) -ℚ turned-back F P athwart (mk share) (mk half) ls ts i
+  unfolding moment turned-back turned int
+  moment-q ts ls i =
+      mk-sub (turning share factor (nat 0) (drop i ts)) (sumq (turned ts i) ls)
+      ∙ ap₂ _-ℚ_ (turning-q (nat 0) (drop i ts)) (mk-sum (turned ts i) ls ∙ ap (λ f. sumℚ f ls) (fun-ext (turned-q ts i)))
 
   load-q : (t : Tier) (above : List Tier) → mk (load share factor t above) ≡ Q F P athwart (mk share) (mk half) t above
   unfolding load Q F P _+ℚ_ _*ℚ_
-  load-q t above = ap (λ y. mk (share *q transverse factor t +q half *q wind t) +ℚ y) (mk-sum (λ u. transverse factor u +q wind u) above)
+  load-q t above =
+      ap (λ y. mk (share *q transverse factor t +q half *q wind t) +ℚ y) (mk-sum (λ u. transverse factor u +q wind u) above)
 
   held-q : (ls : List Lash) (i : ℕ) → mk (S.athwartFrom (chainLashes ls) Ds i) ≡ held F P athwart (mk share) (mk half) ls i
   unfolding held athwart sumq sumℚ chainLash int
   held-q [] i = refl
   held-q (l ∷ ls) i =
-      mk-add (given (leb i (hookLevel l)) (athwartPart l (nat 1) *q shift Ds (hookLevel l))) (S.athwartFrom (chainLashes ls) Ds i)
-      ∙ ap₂ _+ℚ_ (mk-given (leb i (hookLevel l)) (athwartPart l (nat 1) *q shift Ds (hookLevel l)) ∙ ap (givenℚ (leb i (hookLevel l))) (mk-mul (athwartPart l (nat 1)) (shift Ds (hookLevel l)) ∙ sym (athwart-is l (shift Ds (hookLevel l))))) (held-q ls i)
+      let D = shift Ds (hookLevel l) in
+      let k = athwartPart l (nat 1) in
+      let b = leb i (hookLevel l) in
+      mk-add (given b (k *q D)) (S.athwartFrom (chainLashes ls) Ds i)
+      ∙ ap₂ _+ℚ_ (mk-given b (k *q D) ∙ ap (givenℚ b) (mk-mul k D ∙ sym (athwart-is l D))) (held-q ls i)
 
   -- the rackings R balance the tiers from number i + 1 on
   module _ (e : End) (ls : List Lash) (R : ℕ → Frac) where
     Balanced : List Tier → ℕ → Type 0
     Balanced ts i =
-        (j k : ℕ) → i + j ≡ k → j < length ts → mk (R k) ≡ mk (S.tierAt (chainTiers e share factor ts) j .Q -q S.athwartFrom (chainLashes ls) Ds (suc k))
+        (j k : ℕ) →
+        i + j ≡ k →
+        j < length ts →
+        mk (R k) ≡ mk (S.tierAt (chainTiers e share factor ts) j .Q -q S.athwartFrom (chainLashes ls) Ds (suc k))
 
     racked-q : (ts : List Tier) (i : ℕ) → Balanced ts i → racked F P athwart (mk share) (mk half) ls ts i ≡ mk (rackingMoment R ts i)
     unfolding Balanced racked rackingMoment chainTiers int
     racked-q [] i b = refl
     racked-q (t ∷ ts) i b =
-        ap₂ (λ x y. natℚ (t .height) *ℚ x +ℚ y)
-        (sym (b 0 i (omega arith) (omega arith) ∙ mk-sub (load share factor t ts) (S.athwartFrom (chainLashes ls) Ds (suc i)) ∙ ap₂ _-ℚ_ (load-q t ts) (held-q ls (suc i))))
-        (racked-q ts (suc i) (λ j k e h. b (suc j) k (omega arith) (omega arith)))
-        ∙ sym (mk-add (nat (t .height) *q R i) (rackingMoment R ts (suc i)) ∙ ap (λ y. y +ℚ mk (rackingMoment R ts (suc i))) (mk-mul (nat (t .height)) (R i)))
+        let h = nat (t .height) in
+        let A = S.athwartFrom (chainLashes ls) Ds (suc i) in
+        let rest = rackingMoment R ts (suc i) in
+        let own = b 0 i (omega arith) (omega arith) ∙ mk-sub (load share factor t ts) A ∙ ap₂ _-ℚ_ (load-q t ts) (held-q ls (suc i)) in
+        ap₂ (λ x y. natℚ (t .height) *ℚ x +ℚ y) (sym own) (racked-q ts (suc i) (λ j k e h. b (suc j) k (omega arith) (omega arith)))
+        ∙ sym (mk-add (h *q R i) rest ∙ ap (λ y. y +ℚ mk rest) (mk-mul h (R i)))
 
 module _ (e : End) (share factor : Frac) where
-  pub chain-length : (ts : List Tier) → length (chainTiers e share factor ts) ≡ length ts
+  chain-length : (ts : List Tier) → length (chainTiers e share factor ts) ≡ length ts
   unfolding chainTiers
   chain-length [] = refl
   chain-length (t ∷ ts) = ap suc (chain-length ts)
@@ -90,12 +119,13 @@ module _ (e : End) (share factor : Frac) where
   chain-drop (suc i) [] = refl
   chain-drop (suc i) (t ∷ ts) = chain-drop i ts
 
-  module _ (ts : List Tier) (ls : List Lash) (Ds : List Frac) (s : S.Solves (chainTiers e share factor ts) (chainLashes ls) Ds) (i : ℕ) where
-    chain : List S.Tier
+  module _
+      (ts : List Tier) (ls : List Lash) (Ds : List Frac) (s : S.Solves (chainTiers e share factor ts) (chainLashes ls) Ds) (i : ℕ) where
+    abbrev chain : List S.Tier
     chain = chainTiers e share factor ts
 
-    above : Balanced share factor Ds e ls (S.racking (chainTiers e share factor ts) Ds) (drop i ts) i
-    unfolding Balanced chain
+    above : Balanced share factor Ds e ls (S.racking chain Ds) (drop i ts) i
+    unfolding Balanced
     above j k h l =
         of-≈ (S.racking chain Ds k) (S.tierAt chain k .Q -q S.athwartFrom (chainLashes ls) Ds (suc k)) (s .balance k inside)
         ∙ ap (λ (t : S.Tier). mk (t .Q -q S.athwartFrom (chainLashes ls) Ds (suc k))) (sym here)
@@ -106,12 +136,10 @@ module _ (e : End) (share factor : Frac) where
         here : S.tierAt (chainTiers e share factor (drop i ts)) j ≡ S.tierAt chain k
         here = ap (λ c. S.tierAt c j) (chain-drop i ts) ∙ getD-drop i chain j S.noTier ∙ ap (S.tierAt chain) h
 
-    moment-racking : mk (moment share factor ts ls Ds i) ≡ mk (rackingMoment (S.racking (chainTiers e share factor ts) Ds) (drop i ts) i)
-    moment-racking =
-        moment-q share factor Ds ts ls i
-        ∙ balance (F share factor Ds) (P share factor Ds) (athwart share factor Ds) (mk share) (mk half) i ts ls
-        ∙ racked-q share factor Ds e ls (S.racking (chainTiers e share factor ts) Ds) (drop i ts) i above
-
-    -- M of a level, at any solution of an end's equations and any share
+    -- M of a level, at any solution of an end's equations and for any share
     pub moment-is : moment share factor ts ls Ds i ≈ rackingMoment (S.racking (chainTiers e share factor ts) Ds) (drop i ts) i
-    moment-is = to-≈ (moment share factor ts ls Ds i) (rackingMoment (S.racking (chainTiers e share factor ts) Ds) (drop i ts) i) moment-racking
+    moment-is =
+        to-≈ (moment share factor ts ls Ds i) (rackingMoment (S.racking chain Ds) (drop i ts) i)
+        (moment-q share factor Ds ts ls i
+        ∙ balance (F share factor Ds) (P share factor Ds) (athwart share factor Ds) (mk share) (mk half) i ts ls
+        ∙ racked-q share factor Ds e ls (S.racking chain Ds) (drop i ts) i above)

@@ -56,7 +56,12 @@ record Greatest (X A B : ℚ) : Type 0 where
   pub right : B ≤ℚ X
   pub least : (y : ℚ) → natℚ 0 ≤ℚ y → A ≤ℚ y → B ≤ℚ y → X ≤ℚ y
 
-greatest : (y : Frac) (A B : ℚ) → A ≤ℚ mk y → B ≤ℚ mk y → ((z : ℚ) → A ≤ℚ z → B ≤ℚ z → mk y ≤ℚ z) → Greatest (mk (greater (nat 0) y)) A B
+greatest :
+    (y : Frac) (A B : ℚ) →
+    A ≤ℚ mk y →
+    B ≤ℚ mk y →
+    ((z : ℚ) → A ≤ℚ z → B ≤ℚ z → mk y ≤ℚ z) →
+    Greatest (mk (greater (nat 0) y)) A B
 greatest y A B a b least =
     let X = mk (greater (nat 0) y) in
     record {
@@ -97,7 +102,8 @@ module _ {A : ℚ} (x : ℤ) (o : Off postError (newtons x) A) where
   reach : (t : ℕ) → padded ≤ t → A ≤ℚ newtons (pos t)
   unfolding padded
   reach t h =
-      go A (newtons x) (newtons (pos postPad)) (newtons (pos padded)) (newtons (pos t)) postError (o .below) post-pad (rw (newtons-add x (pos postPad)) at (not-below (x +ℤ pos postPad))) (newtons-le (pos padded) (pos t) (nat-le padded t h))
+      go A (newtons x) (newtons (pos postPad)) (newtons (pos padded)) (newtons (pos t)) postError (o .below) post-pad
+      (rw (newtons-add x (pos postPad)) at (not-below (x +ℤ pos postPad))) (newtons-le (pos padded) (pos t) (nat-le padded t h))
     where
       go : (A x p n t e : ℚ) → A ≤ℚ x +ℚ e → e ≤ℚ p → x +ℚ p ≤ℚ n → n ≤ℚ t → A ≤ℚ t
       go = ∀₆ ℚR _ λ ρ. simp qq λ o h l m. by-cert (to o ⊞ to h ⊞ to l ⊞ to m) tt
@@ -114,7 +120,12 @@ module _ {A : ℚ} (x : ℤ) (o : Off postError (newtons x) A) where
       go : (A X x p e : ℚ) → x ≤ℚ A +ℚ e → A ≤ℚ X → e +ℚ p ≤ℚ natℚ 18 → x +ℚ p ≤ℚ X +ℚ natℚ 18
       go = ∀₅ ℚR _ λ ρ. simp qq λ o h l. by-cert (to o ⊞ to h ⊞ to l) tt
 
-figure-covers : {X A B : ℚ} (x y : ℤ) → Greatest X A B → Off postError (newtons x) A → Off postError (newtons y) B → Covers 19 (postFigure x y) X
+figure-covers :
+    {X A B : ℚ} (x y : ℤ) →
+    Greatest X A B →
+    Off postError (newtons x) A →
+    Off postError (newtons y) B →
+    Covers 19 (postFigure x y) X
 unfolding postFigure padded
 figure-covers {X} {A} {B} x y g p q =
     let a = padded x p in

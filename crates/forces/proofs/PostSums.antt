@@ -29,7 +29,11 @@ racking-error-nn = nn-times (natℚ 26) (recipℚ (natℚ 100)) (nn-int 26) (rec
 tier-error-nn : natℚ 0 ≤ℚ tierError
 tier-error-nn = nn-times (natℚ 2896) roundedRackingError (nn-int 2896) racking-error-nn
 
-tier-off : (h : ℕ) → h ≤ 2896 → (r : ℤ) (R : Frac) → Off roundedRackingError (newtons r) (mk R) → Off tierError (newtons (pos h *ℤ r)) (mk (nat h *q R))
+tier-off :
+    (h : ℕ) →
+    h ≤ 2896 →
+    (r : ℤ) (R : Frac) →
+    Off roundedRackingError (newtons r) (mk R) → Off tierError (newtons (pos h *ℤ r)) (mk (nat h *q R))
 tier-off h low r R o =
     rw (newtons-scale (pos h) r, mk-mul (nat h) R, mk-int (pos h))
     (off-more (go (natℚ h) roundedRackingError racking-error-nn (nat-q h 2896 low)) (off-times (nn-int h) o))
@@ -47,7 +51,8 @@ module _ (K : ℕ) (d : List ℕ) (R : ℕ → Frac) where
   unfolding momentPart rackingMoment
   moment-off [] i low o = nothing-off (nn-times (natℚ 0) tierError (nn-int 0) tier-error-nn)
   moment-off (t ∷ ts) i low o =
-      rw (newtons-add (pos (t .height) *ℤ rackingPart K d i) (momentPart K d ts (suc i)), mk-add (nat (t .height) *q R i) (rackingMoment R ts (suc i)), one-more)
+      let own = pos (t .height) *ℤ rackingPart K d i in
+      rw (newtons-add own (momentPart K d ts (suc i)), mk-add (nat (t .height) *q R i) (rackingMoment R ts (suc i)), one-more)
       (off-add
       (tier-off (t .height) (low 0 (omega arith)) (rackingPart K d i) (R i) (o 0 i (omega arith) (omega arith)))
       (moment-off ts (suc i) (λ j h. low (suc j) (omega arith)) (λ j k e h. o (suc j) k (omega arith) (omega arith))))
@@ -79,19 +84,28 @@ module _
 
   room : sumError (natℚ n) ≤ℚ postError
   room =
-      go (newtons (pos 1)) (recipℚ (natℚ 2259)) (natℚ n) tierError verticalsError postError (recip-nn (natℚ 2259)) tier-error-nn (nat-q n 10 few) post-room
+      go (newtons (pos 1)) (recipℚ (natℚ 2259)) (natℚ n) tierError verticalsError postError
+      (recip-nn (natℚ 2259)) tier-error-nn (nat-q n 10 few) post-room
     where
-      go : (u r n e c p : ℚ) → natℚ 0 ≤ℚ r → natℚ 0 ≤ℚ e → n ≤ℚ natℚ 10 → u +ℚ (r *ℚ (natℚ 10 *ℚ e) +ℚ u) +ℚ c ≤ℚ p → u +ℚ (r *ℚ (n *ℚ e) +ℚ u) +ℚ c ≤ℚ p
+      go :
+          (u r n e c p : ℚ) →
+          natℚ 0 ≤ℚ r →
+          natℚ 0 ≤ℚ e →
+          n ≤ℚ natℚ 10 →
+          u +ℚ (r *ℚ (natℚ 10 *ℚ e) +ℚ u) +ℚ c ≤ℚ p →
+          u +ℚ (r *ℚ (n *ℚ e) +ℚ u) +ℚ c ≤ℚ p
       go = ∀₆ ℚR _ λ ρ. simp qq λ r0 e0 h l. by-cert (to r0 ⊠ to e0 ⊠ to h ⊞ to l) tt
 
   pub lee-off : Off postError (newtons (leeFound w m c)) (mk (leeSum W M C))
   unfolding leeFound
   lee-off =
-      rw (newtons-add (pos w +ℤ quotZ m (pos 2259)) (pos c), newtons-add (pos w) (quotZ m (pos 2259)), lee-q W M C)
+      let q = quotZ m (pos 2259) in
+      rw (newtons-add (pos w +ℤ q) (pos c), newtons-add (pos w) q, lee-q W M C)
       (off-more room (off-add (off-add weighed spaced) pulled))
 
   pub windward-off : Off postError (newtons (windwardFound w m c)) (mk (windwardSum W M C))
   unfolding windwardFound
   windward-off =
-      rw (newtons-add (pos w -ℤ quotZ m (pos 2259)) (pos c), newtons-add (pos w) (negℤ (quotZ m (pos 2259))), newtons-neg (quotZ m (pos 2259)), windward-q W M C)
+      let q = quotZ m (pos 2259) in
+      rw (newtons-add (pos w -ℤ q) (pos c), newtons-add (pos w) (negℤ q), newtons-neg q, windward-q W M C)
       (off-more room (off-add (off-add weighed (off-neg spaced)) pulled))

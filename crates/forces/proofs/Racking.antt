@@ -37,16 +37,23 @@ module _ (K : ℕ) (d : List ℕ) (i : ℕ) where
   unfolding whole
   whole-is =
       int-plus (pos (K * getD d (suc i) 0)) (negℤ (pos (K * getD d i 0)))
-      ∙ ap₂ _+ℚ_ (int-times (pos K) (pos (getD d (suc i) 0))) (sym (q-int-neg (pos (K * getD d i 0))) ∙ ap negℚ (int-times (pos K) (pos (getD d i 0))))
+      ∙ ap₂ _+ℚ_
+      (int-times (pos K) (pos (getD d (suc i) 0)))
+      (sym (q-int-neg (pos (K * getD d i 0))) ∙ ap negℚ (int-times (pos K) (pos (getD d i 0))))
 
   force-is : forceFound ≡ newtons whole /ℚ natℚ 1024
   force-is =
       div-eq forceFound (newtons whole) (natℚ 1024) (above-0 1024 (lit≤ tt))
       (div-eq (forceFound *ℚ natℚ 1024) (int whole) (natℚ (2 ^ 18)) (above-0 (2 ^ 18) (lit≤ tt))
-      (go (natℚ K) (mk (found d (suc i))) (mk (found d i)) (natℚ (getD d (suc i) 0)) (natℚ (getD d i 0)) (found-times d (suc i)) (found-times d i)
+      (go (natℚ K) (mk (found d (suc i))) (mk (found d i)) (natℚ (getD d (suc i) 0)) (natℚ (getD d i 0))
+      (found-times d (suc i)) (found-times d i)
       ∙ sym whole-is))
     where
-      go : (K x y n m : ℚ) → natℚ (2 ^ 28) *ℚ x ≡ n → natℚ (2 ^ 28) *ℚ y ≡ m → K *ℚ (x -ℚ y) *ℚ natℚ 1024 *ℚ natℚ (2 ^ 18) ≡ K *ℚ n -ℚ K *ℚ m
+      go :
+          (K x y n m : ℚ) →
+          natℚ (2 ^ 28) *ℚ x ≡ n →
+          natℚ (2 ^ 28) *ℚ y ≡ m →
+          K *ℚ (x -ℚ y) *ℚ natℚ 1024 *ℚ natℚ (2 ^ 18) ≡ K *ℚ n -ℚ K *ℚ m
       go = ∀₅ ℚR _ λ ρ. simp qq λ a b. by-eqs (mul-eq (v 0) a ⊹ mul-eq (⊖ v 0) b) tt
 
   pub racking-off : (R : ℚ) → absℚ (forceFound -ℚ R) ≤ℚ forceBound → Off roundedRackingError (newtons (rackingPart K d i)) R
@@ -78,12 +85,23 @@ module _ (m : ℕ) (margin : 2 < m) where
   -- what is found to leeward is not m N to windward
   not-back : (n : ℕ) (R : ℚ) → Off roundedRackingError (newtons (pos n)) R → R ≤ℚ negℚ (natℚ m) → ⊥
   not-back n R o h =
-      go (newtons (pos n)) R roundedRackingError (newtons (pos rackingPad)) (natℚ m) (newtons-nn n) (o .above) (newtons-nn rackingPad) racking-lift h (nat-q 3 m (omega arith))
+      go (newtons (pos n)) R roundedRackingError (newtons (pos rackingPad)) (natℚ m)
+      (newtons-nn n) (o .above) (newtons-nn rackingPad) racking-lift h (nat-q 3 m (omega arith))
     where
-      go : (x R e p m : ℚ) → natℚ 0 ≤ℚ x → x ≤ℚ R +ℚ e → natℚ 0 ≤ℚ p → e +ℚ p ≤ℚ natℚ 1 → R ≤ℚ negℚ m → natℚ 3 ≤ℚ m → ⊥
+      go :
+          (x R e p m : ℚ) →
+          natℚ 0 ≤ℚ x →
+          x ≤ℚ R +ℚ e →
+          natℚ 0 ≤ℚ p →
+          e +ℚ p ≤ℚ natℚ 1 →
+          R ≤ℚ negℚ m →
+          natℚ 3 ≤ℚ m →
+          ⊥
       go = ∀₅ ℚR _ λ ρ. simp qq λ z o p e h l. contra (to z ⊞ to o ⊞ to p ⊞ to e ⊞ to h ⊞ to l) tt
 
-  pub racking-reported : (r : ℤ) (R : Frac) → Off roundedRackingError (newtons r) (mk R) → ReportedRacking m R (rackingFigure r)
+  pub racking-reported :
+      (r : ℤ) (R : Frac) →
+      Off roundedRackingError (newtons r) (mk R) → ReportedRacking m R (rackingFigure r)
   unfolding rackingFigure padded
   racking-reported (pos n) R o =
       record {
@@ -94,7 +112,10 @@ module _ (m : ℕ) (margin : 2 < m) where
   racking-reported (negsuc n) R o =
       let back = rw (← newtons-neg (negsuc n)) at (off-neg o) in
       record {
-        size = rw (abs-neg (pos (padded (suc n)))) (back-reported m R margin (padded-covers (suc n) rackingPad back racking-pad racking-lift));
-        leeward = λ l. absurd (not-back (suc n) (negℚ (mk R)) back (turn-le (natℚ m) (mk R) (rw (mk-int (pos m)) at (of-⊑ (nat m) R l))));
+        size =
+            rw (abs-neg (pos (padded (suc n))))
+            (back-reported m R margin (padded-covers (suc n) rackingPad back racking-pad racking-lift));
+        leeward =
+            λ l. absurd (not-back (suc n) (negℚ (mk R)) back (turn-le (natℚ m) (mk R) (rw (mk-int (pos m)) at (of-⊑ (nat m) R l))));
         windward = λ l. below-zero (padded (suc n)) (padded-above (suc n));
       }

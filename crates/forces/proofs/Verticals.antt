@@ -30,7 +30,9 @@ use Rattle.forces.proofs.Slips.{Each, each-first, each-rest, slipAt, sl
 -- a post takes the same lashes found and exact
 abbrev Takes : (Lashing → ℕ → ℕ) → (Lashing → Frac → Frac) → Type 0
 Takes part force =
-    (e : ℚ) (x : ℕ) (X : Frac) (g : Lashing) → Off e (newtons (pos x)) (mk X) → Off e (newtons (pos (part g x))) (mk (force g X))
+    (e : ℚ) (x : ℕ) (X : Frac) (g : Lashing) →
+    Off e (newtons (pos x)) (mk X) →
+    Off e (newtons (pos (part g x))) (mk (force g X))
 
 pub record Post (part : Lashing → ℕ → ℕ) (force : Lashing → Frac → Frac) : Type 0 where
   pub takes : Takes part force
@@ -49,7 +51,10 @@ lee-post = record { takes = lee-takes }
 pub windward-post : Post windwardPart onWindward
 windward-post = record { takes = windward-takes }
 
-counted-off : {e : ℚ} (b : Bool) (x : ℕ) (X : Frac) → Off e (newtons (pos x)) (mk X) → Off e (newtons (pos (cond b x 0))) (mk (given b X))
+counted-off :
+    {e : ℚ} (b : Bool) (x : ℕ) (X : Frac) →
+    Off e (newtons (pos x)) (mk X) →
+    Off e (newtons (pos (cond b x 0))) (mk (given b X))
 counted-off true x X o = o
 counted-off false x X o = nothing-off (off-nn o)
 
@@ -74,7 +79,10 @@ one-more s t n =
     ap (λ m. natℚ 40 *ℚ (s +ℚ t) +ℚ m *ℚ cost) (ap natℚ (sym (add-one n)) ∙ int-plus (pos n) (pos 1))
     ∙ go s t (natℚ n) (newtons (pos 257)) (newtons (pos 1))
   where
-    go : (s t n c h : ℚ) → natℚ 40 *ℚ (s +ℚ t) +ℚ (n +ℚ natℚ 1) *ℚ (natℚ 40 *ℚ (natℚ 0 +ℚ c) +ℚ h) ≡ natℚ 40 *ℚ (s +ℚ c) +ℚ h +ℚ (natℚ 40 *ℚ t +ℚ n *ℚ (natℚ 40 *ℚ (natℚ 0 +ℚ c) +ℚ h))
+    go :
+        (s t n c h : ℚ) →
+        natℚ 40 *ℚ (s +ℚ t) +ℚ (n +ℚ natℚ 1) *ℚ (natℚ 40 *ℚ (natℚ 0 +ℚ c) +ℚ h)
+        ≡ natℚ 40 *ℚ (s +ℚ c) +ℚ h +ℚ (natℚ 40 *ℚ t +ℚ n *ℚ (natℚ 40 *ℚ (natℚ 0 +ℚ c) +ℚ h))
     go = ∀₅ ℚR _ λ ρ. simp qq (by-ring tt)
 
 module _
@@ -93,12 +101,17 @@ module _
       counted-off (counts l) (part (lashingOf l) (upward d l)) (force (lashingOf l) (verticalPart l D))
       (post .takes (verticalError (slipAt d Ds l)) (upward d l) (verticalPart l D) (lashingOf l) (upward-off d l D f (far (hookLevel l))))
 
-  all-off : {n : ℕ} (ls : List Lash) → Each n ls → Off (error (slips d Ds ls) (length ls)) (newtons (pos (upwards part counts d ls))) (mk (verticals force counts ls Ds))
+  all-off :
+      {n : ℕ} (ls : List Lash) →
+      Each n ls →
+      Off (error (slips d Ds ls) (length ls)) (newtons (pos (upwards part counts d ls))) (mk (verticals force counts ls Ds))
   unfolding upwards sumq sumℚ
   all-off [] f =
-      nothing-off (nn-plus (natℚ 40 *ℚ natℚ 0) (natℚ 0 *ℚ cost) (nn-times (natℚ 40) (natℚ 0) (nn-int 40) (nn-int 0)) (nn-times (natℚ 0) cost (nn-int 0) cost-nn))
+      nothing-off
+      (nn-plus (natℚ 40 *ℚ natℚ 0) (natℚ 0 *ℚ cost) (nn-times (natℚ 40) (natℚ 0) (nn-int 40) (nn-int 0)) (nn-times (natℚ 0) cost (nn-int 0) cost-nn))
   all-off (l ∷ ls) f =
-      rw (mk-add (addedq l) (verticals force counts ls Ds), newtons-add (pos (added l)) (pos (upwards part counts d ls)), one-more (slipAt d Ds l) (slips d Ds ls) (length ls))
+      let rest = upwards part counts d ls in
+      rw (mk-add (addedq l) (verticals force counts ls Ds), newtons-add (pos (added l)) (pos rest), one-more (slipAt d Ds l) (slips d Ds ls) (length ls))
       (off-add (added-off l (each-first f)) (all-off ls (each-rest f)))
 
   pub verticals-off :
@@ -109,7 +122,15 @@ module _
       Off verticalsError (newtons (pos (upwards part counts d ls))) (mk (verticals force counts ls Ds))
   unfolding cost
   verticals-off ls f few small =
-      off-more (go (slips d Ds ls) slipBound (natℚ (length ls)) cost verticalsError small (nat-q (length ls) 8 few) cost-nn verticals-room) (all-off ls f)
+      off-more
+      (go (slips d Ds ls) slipBound (natℚ (length ls)) cost verticalsError small (nat-q (length ls) 8 few) cost-nn verticals-room)
+      (all-off ls f)
     where
-      go : (s b n c e : ℚ) → s ≤ℚ b → n ≤ℚ natℚ 8 → natℚ 0 ≤ℚ c → natℚ 40 *ℚ b +ℚ natℚ 8 *ℚ c ≤ℚ e → natℚ 40 *ℚ s +ℚ n *ℚ c ≤ℚ e
+      go :
+          (s b n c e : ℚ) →
+          s ≤ℚ b →
+          n ≤ℚ natℚ 8 →
+          natℚ 0 ≤ℚ c →
+          natℚ 40 *ℚ b +ℚ natℚ 8 *ℚ c ≤ℚ e →
+          natℚ 40 *ℚ s +ℚ n *ℚ c ≤ℚ e
       go = ∀₅ ℚR _ λ ρ. simp qq λ h l z r. by-cert (num 40 ⊠ to h ⊞ to z ⊠ to l ⊞ to r) tt
