@@ -14,5 +14,8 @@ pub mod Quotients
 pub mod RootLaws
 pub mod Sizes
 pub mod Ceilings
+pub mod RationalOrder
 pub mod RationalRounding
 pub mod RoundingLaws
+pub mod OrderedField
+pub mod Sums
