@@ -25,6 +25,11 @@ fits32 {b} {z} s h = record { sfits = omega (arith, mag-le z, s .size) }
 pub small-weaken : {a b : ℕ} {z : ℤ} → Small a z → a ≤ b → Small b z
 small-weaken s h = record { size = omega (arith, s .size) }
 
+-- the size of a number of 64 bits
+pub natAbs64 : (z : ℤ) → SFits w64 z → natAbs z ≤ 2 ^ 63
+natAbs64 (pos n) f = omega (arith, f .sfits)
+natAbs64 (negsuc n) f = omega (arith, f .sfits)
+
 -- the size of a negation, a sum, a difference, a product
 pub natAbs-neg : (z : ℤ) → natAbs (negℤ z) ≡ natAbs z
 natAbs-neg (pos zero) = refl
