@@ -1,8 +1,8 @@
 // Quotients rounded down and up, without a step that leaves 64 bits.
 
 ghost use mathlib.Core.Path.{_≡_};
-ghost use Prim.Native.Nat.{ℕ, _+_, _*_, _/_, _<_, _≤_, _^_};
-ghost use lib.IntN.{ℤ, natAbs};
+ghost use Prim.Native.Nat.{_+_, _*_, _/_, _<_, _≤_, _^_};
+ghost use lib.IntN.{natAbs};
 ghost use Rattle.arith.specs.Rounding.{scaledDown, roundedUp, roundedUpZ};
 ghost use Rattle.arith.specs.Sizes.{Small};
 
@@ -49,9 +49,9 @@ pub fn ceil_signed(m: i64, d: u64) -> i64
     ensures { λ r. ⌜ (r ≡ roundedUpZ m d) × Small (natAbs m / d + 1) r ⌝ }
 {
     let e = d as i64;
-    let q = m / e;
+    let t = m / e;
     if m % e > 0 {
-        return q + 1;
+        return t + 1;
     }
-    q
+    t
 }
