@@ -1,16 +1,16 @@
 -- A figure in whole newtons beside the exact force: a padded number, rounded up, is at least the force in size and little above it.
-use mathlib.Core.Path.{_≡_, sym}
-use mathlib.Core.Bool.{cond}
+use mathlib.Core.Path.{sym}
 use Prim.Native.Nat.{ℕ, _+_, _*_, _^_, _≤_, _<_}
 use native.Mathlib.Omega.{arith}
 use lib.Dec.{lit≤}
 use lib.IntN.{pos}
 use Rattle.arith.specs.Fractions.{Frac, nat, _+q_, absq}
-use Rattle.arith.proofs.Rings.{∀₁, ∀₅, ∀₇, ∀₈, by-ring, by-cert, to, num, contra, _⊞_, _⊠_}
+use Rattle.arith.proofs.Rings.{∀₅, ∀₇, ∀₈, by-cert, to, num, contra, _⊞_, _⊠_}
 use Rattle.arith.proofs.Rationals.{ℚR, ℚ, mk, _+ℚ_, _*ℚ_, _/ℚ_, negℚ, absℚ, _≤ℚ_, <→≤, int-plus, to-⊑}
 use Rattle.arith.proofs.RationalTerms.{qq}
-use Rattle.arith.proofs.Signs.{on, ge-q, ge-neg-q}
-use Rattle.arith.proofs.RationalRounding.{lt-of, nat-q, above-0, ceil-up, up-le, up-lt}
+use Rattle.arith.proofs.Signs.{ge-q, ge-neg-q, absℚ-le, absℚ-neg}
+use Rattle.arith.proofs.RationalOrder.{lt-of, nat-q, above-0}
+use Rattle.arith.proofs.RationalRounding.{ceil-up, up-le, up-lt}
 use Rattle.arith.proofs.FractionsInRationals.{to-⊏, mk-abs, mk-int, mk-add}
 use Rattle.forces.specs.Fixed.{ceil}
 use Rattle.forces.specs.Reported.{Reported}
@@ -22,13 +22,6 @@ pub record Covers (b n : ℕ) (X : ℚ) : Type 0 where
   pub enough : X ≤ℚ natℚ n
   pub back : negℚ X ≤ℚ natℚ n
   pub close : natℚ n ≤ℚ X +ℚ natℚ b
-
-abs-least : (X y : ℚ) → X ≤ℚ y → negℚ X ≤ℚ y → absℚ X ≤ℚ y
-unfolding absℚ
-abs-least X y h l = on X (λ c. cond c X (negℚ X) ≤ℚ y) (λ z. h) (λ z. l)
-
-minus-minus : (X : ℚ) → negℚ (negℚ X) ≡ X
-minus-minus = ∀₁ ℚR _ λ ρ. simp qq (by-ring tt)
 
 -- in the report's words, of a force or of one turned round
 module _ {b n : ℕ} (m : ℕ) (X : Frac) (less : b < m) where
@@ -49,11 +42,11 @@ module _ {b n : ℕ} (m : ℕ) (X : Frac) (less : b < m) where
       go = ∀₅ ℚR _ λ ρ. simp qq λ y h l k. contra (to y ⊞ to h ⊞ to l ⊞ to k) tt
 
   pub covers-reported : Covers b n (mk X) → Reported m X n
-  covers-reported s = report (mk X) (abs-least (mk X) (natℚ n) (s .enough) (s .back)) (ge-q (mk X)) (s .close)
+  covers-reported s = report (mk X) (absℚ-le (mk X) (natℚ n) (s .enough) (s .back)) (ge-q (mk X)) (s .close)
 
   pub back-reported : Covers b n (negℚ (mk X)) → Reported m X n
   back-reported s =
-      report (negℚ (mk X)) (abs-least (mk X) (natℚ n) (rw minus-minus at (s .back)) (s .enough)) (ge-neg-q (mk X)) (s .close)
+      report (negℚ (mk X)) (rw absℚ-neg at (absℚ-le (negℚ (mk X)) (natℚ n) (s .enough) (s .back))) (ge-neg-q (mk X)) (s .close)
 
 -- a number of 2^-18 N in N, rounded up
 module _ (n : ℕ) where

@@ -11,6 +11,7 @@ use lib.IntN.{ℤ, pos}
 use Rattle.arith.specs.Fractions.{Frac, nat, _-q_, _*q_, _/q_, absq, _⊑_, sumq}
 use Rattle.arith.proofs.FractionLaws.{⊑-trans}
 use Rattle.arith.proofs.Rationals.{mk, int, _-ℚ_, _*ℚ_, recipℚ, absℚ, _≤ℚ_, of-⊑}
+use Rattle.arith.proofs.RationalOrder.{≤ℚ-trans}
 use Rattle.arith.proofs.FractionsInRationals.{mk-int, mk-sub, mk-mul, mk-abs, of-≈}
 use Rattle.springs.specs.Equations as S
 use Rattle.springs.specs.Equations.{shift}
@@ -27,7 +28,7 @@ use Rattle.forces.specs.Posts.{weightAbove, moment, verticals, onLee, on
 use Rattle.forces.specs.Reported.{Reported, noLash, EndReported}
 use Rattle.forces.specs.Fixed.{noTier, rackingPart, halfWeight, momentPart, upwards, leePart, windwardPart, leeFound, windwardFound, compressionFigure, tensionFigure, pullFigure, athwartFigure, verticalFigure, Computed}
 use Rattle.forces.proofs.Facts.{Facts}
-use Rattle.forces.proofs.Errors.{natℚ, le-trans, Off}
+use Rattle.forces.proofs.Errors.{natℚ, Off}
 use Rattle.forces.proofs.Scales.{newtons}
 use Rattle.forces.proofs.Pads.{slipBound, forceBound, roundedRackingError, tierError, postError}
 use Rattle.forces.proofs.LashFigures.{athwart-reported, pull-reported, vertical-reported}
@@ -191,7 +192,7 @@ module _
     D = shift Ds (hookLevel lash)
 
     slip-small : slipAt d Ds lash ≤ℚ slipBound
-    slip-small = le-trans (slipAt d Ds lash) (slips d Ds ls) slipBound (slip-le d Ds ls each j h) slips-small
+    slip-small = ≤ℚ-trans (slipAt d Ds lash) (slips d Ds ls) slipBound (slip-le d Ds ls each j h) slips-small
 
     pulled : Reported 20 (pull lash D) (pullFigure d lash)
     pulled = pull-reported d lash D (each .at j h) (near .far (hookLevel lash)) slip-small 20 (lit≤ tt)

@@ -9,10 +9,6 @@ use Rattle.arith.proofs.Signs.{ge-q, ge-neg-q}
 abbrev pub natℚ : ℕ → ℚ
 natℚ n = int (pos n)
 
--- the order
-pub le-trans : (p q r : ℚ) → p ≤ℚ q → q ≤ℚ r → p ≤ℚ r
-le-trans = ∀₃ ℚR _ λ ρ. simp qq λ h l. by-cert (to h ⊞ to l) tt
-
 pub turn-le : (p q : ℚ) → p ≤ℚ q → negℚ q ≤ℚ negℚ p
 turn-le = ∀₂ ℚR _ λ ρ. simp qq λ h. by-cert (to h) tt
 

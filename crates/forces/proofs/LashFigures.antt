@@ -12,7 +12,8 @@ use Rattle.arith.proofs.Rings.{∀₃, ∀₉, by-cert, to, times, num, part, _
 use Rattle.arith.proofs.Rationals.{ℚR, ℚ, mk, _+ℚ_, _-ℚ_, _*ℚ_, negℚ, absℚ, _≤ℚ_, int-times, nn-int, nn-times}
 use Rattle.arith.proofs.RationalTerms.{qq}
 use Rattle.arith.proofs.Signs.{ge-q, ge-neg-q, nn-q}
-use Rattle.arith.proofs.RationalRounding.{nat-q, div-down, down-low, down-high}
+use Rattle.arith.proofs.RationalOrder.{nat-q}
+use Rattle.arith.proofs.RationalRounding.{div-down, down-low, down-high}
 use Rattle.springs.specs.Promise.{found}
 use Rattle.sheet.specs.declared.Lash.{Lash}
 use Rattle.forces.specs.Lashes.{hookLevel, lashLength, pull, athwartPart, verticalPart}

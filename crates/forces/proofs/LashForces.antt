@@ -9,7 +9,8 @@ use Rattle.arith.proofs.Rings.{∀₂, ∀₅, ∀₇, by-ring, by-eqs, to, mul
 use Rattle.arith.proofs.Rationals.{ℚR, ℚ, mk, int, _+ℚ_, _*ℚ_, _/ℚ_, recipℚ, _≤ℚ_, int-times, int-plus, nn-int, to-⊑}
 use Rattle.arith.proofs.RationalTerms.{qq}
 use Rattle.arith.proofs.Signs.{div-eq}
-use Rattle.arith.proofs.RationalRounding.{above-0, scaled-down, scaled-low, scaled-high}
+use Rattle.arith.proofs.RationalOrder.{above-0}
+use Rattle.arith.proofs.RationalRounding.{scaled-down, scaled-low, scaled-high}
 use Rattle.arith.proofs.FractionsInRationals.{toℚ}
 use Rattle.springs.specs.Promise.{Rounded}
 use Rattle.sheet.specs.declared.Lash.{Lash}

@@ -6,7 +6,7 @@ use Rattle.arith.proofs.Rings.{∀₄, by-cert, to, _⊞_}
 use Rattle.arith.proofs.FractionLaws.{⊑-trans}
 use Rattle.arith.proofs.Rationals.{ℚR, ℚ, mk, _+ℚ_, _≤ℚ_, to-⊑}
 use Rattle.arith.proofs.RationalTerms.{qq}
-use Rattle.arith.proofs.RationalRounding.{lt-of, lt-not, nat-q}
+use Rattle.arith.proofs.RationalOrder.{lt-of, lt-not, nat-q}
 use Rattle.arith.proofs.FractionsInRationals.{mk-int, mk-neg, mk-add, of-⊏, to-⊏}
 use Rattle.sheet.specs.declared.Sheet.{Sheet}
 use Rattle.forces.specs.declared.EndFigures.{EndFigures}

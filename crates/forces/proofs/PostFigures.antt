@@ -12,11 +12,12 @@ use Rattle.arith.proofs.IntegerOmega.{nat-le}
 use Rattle.arith.proofs.Rationals.{ℚR, ℚ, mk, _+ℚ_, negℚ, _≤ℚ_, leℚ, flip, nn-int}
 use Rattle.arith.proofs.RationalTerms.{qq}
 use Rattle.arith.proofs.Signs.{same-le}
+use Rattle.arith.proofs.RationalOrder.{≤ℚ-trans}
 use Rattle.arith.proofs.FractionsInRationals.{mk-int, mk-neg}
 use Rattle.forces.specs.Posts.{atMost, greater, lower}
 use Rattle.forces.specs.Fixed.{ceil, postPad, notBelow, postFigure}
 use Rattle.forces.specs.Reported.{Reported}
-use Rattle.forces.proofs.Errors.{natℚ, le-trans, turn-le, Off, off-neg}
+use Rattle.forces.proofs.Errors.{natℚ, turn-le, Off, off-neg}
 use Rattle.forces.proofs.Scales.{newtons, newtons-add, newtons-neg, newtons-zero, newtons-le}
 use Rattle.forces.proofs.Pads.{postError, post-pad, post-lift}
 use Rattle.forces.proofs.Covers.{Covers, covers-reported, ceil-low, ceil-high}
@@ -66,8 +67,8 @@ greatest y A B a b least =
     let X = mk (greater (nat 0) y) in
     record {
       zero = rw (mk-int (pos 0)) at (greater-l (nat 0) y);
-      left = le-trans A (mk y) X a (greater-r (nat 0) y);
-      right = le-trans B (mk y) X b (greater-r (nat 0) y);
+      left = ≤ℚ-trans A (mk y) X a (greater-r (nat 0) y);
+      right = ≤ℚ-trans B (mk y) X b (greater-r (nat 0) y);
       least = λ z h a b. greater-least (nat 0) y z (rw (mk-int (pos 0)) h) (least z a b);
     }
 
@@ -136,8 +137,8 @@ figure-covers {X} {A} {B} x y g p q =
     record {
       enough =
           g .least s s0
-          (le-trans A t s (reach x p (max a b) (le-max-left a b)) (ceil-low (max a b)))
-          (le-trans B t s (reach y q (max a b) (le-max-right a b)) (ceil-low (max a b)));
+          (≤ℚ-trans A t s (reach x p (max a b) (le-max-left a b)) (ceil-low (max a b)))
+          (≤ℚ-trans B t s (reach y q (max a b) (le-max-right a b)) (ceil-low (max a b)));
       back = back X s (g .zero) s0;
       close =
           close X t s

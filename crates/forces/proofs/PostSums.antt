@@ -13,7 +13,7 @@ use Rattle.arith.proofs.Rings.{∀₂, ∀₆, by-ring, by-cert, to, _⊞_, _�
 use Rattle.arith.proofs.Rationals.{ℚR, ℚ, mk, int, _+ℚ_, _-ℚ_, _*ℚ_, _/ℚ_, recipℚ, negℚ, _≤ℚ_, recip-nn, int-plus, nn-int, nn-times}
 use Rattle.arith.proofs.RationalTerms.{qq}
 use Rattle.arith.proofs.Signs.{same-le}
-use Rattle.arith.proofs.RationalRounding.{nat-q}
+use Rattle.arith.proofs.RationalOrder.{nat-q}
 use Rattle.arith.proofs.FractionsInRationals.{mk-add, mk-mul, mk-int}
 use Rattle.sheet.specs.declared.Tier.{Tier}
 use Rattle.forces.specs.Posts.{leeSum, windwardSum}

@@ -11,11 +11,12 @@ use Rattle.arith.specs.Fractions.{Frac, nat, negq}
 use Rattle.arith.proofs.Polynomials.{v, ⊖_}
 use Rattle.arith.proofs.Rings.{∀₅, by-eqs, to, mul-eq, contra, _⊞_, _⊹_}
 use Rattle.arith.proofs.IntegerOmega.{le-nat}
-use Rattle.arith.proofs.Sizes.{abs-neg}
+use Rattle.arith.proofs.Sizes.{natAbs-neg}
 use Rattle.arith.proofs.Rationals.{ℚR, ℚ, mk, int, _+ℚ_, _-ℚ_, _*ℚ_, _/ℚ_, negℚ, absℚ, _≤ℚ_, int-plus, int-times, of-⊑}
 use Rattle.arith.proofs.RationalTerms.{qq, q-int-neg}
 use Rattle.arith.proofs.Signs.{div-eq}
-use Rattle.arith.proofs.RationalRounding.{above-0, nat-q, ceil-up}
+use Rattle.arith.proofs.RationalOrder.{above-0, nat-q}
+use Rattle.arith.proofs.RationalRounding.{ceil-up}
 use Rattle.arith.proofs.FractionsInRationals.{mk-int, mk-neg}
 use Rattle.springs.specs.Promise.{found}
 use Rattle.forces.specs.Fixed.{ceil, rackingPart, rackingPad, rackingFigure}
@@ -113,7 +114,7 @@ module _ (m : ℕ) (margin : 2 < m) where
       let back = rw (← newtons-neg (negsuc n)) at (off-neg o) in
       record {
         size =
-            rw (abs-neg (pos (padded (suc n))))
+            rw (natAbs-neg (pos (padded (suc n))))
             (back-reported m R margin (padded-covers (suc n) rackingPad back racking-pad racking-lift));
         leeward =
             λ l. absurd (not-back (suc n) (negℚ (mk R)) back (turn-le (natℚ m) (mk R) (rw (mk-int (pos m)) at (of-⊑ (nat m) R l))));

@@ -9,13 +9,13 @@ use lib.IntN.{ℤ, pos, negsuc, negℤ, _+ℤ_, _*ℤ_}
 use lib.ListN.{getD}
 use lib.Signed.{quotZ}
 use Rattle.arith.specs.Fractions.{nat}
-use Rattle.arith.proofs.Polynomials.{v, _⊖_, _⊗_, ⊖_}
-use Rattle.arith.proofs.Rings.{∀₂, ∀₃, ∀₄, ∀₅, by-ring, by-cert, to, times, _⊞_, _⊠_}
+use Rattle.arith.proofs.Rings.{∀₂, ∀₃, ∀₄, ∀₅, by-ring, by-cert, to, _⊞_, _⊠_}
 use Rattle.arith.proofs.Integers.{_≼_}
 use Rattle.arith.proofs.Rationals.{ℚR, ℚ, mk, int, _+ℚ_, _*ℚ_, _/ℚ_, recipℚ, negℚ, _≤ℚ_, <→≤, recip-times, recip-nn, int-plus, int-times, nn-int, nn-times}
 use Rattle.arith.proofs.RationalTerms.{qq, q-int-neg}
 use Rattle.arith.proofs.Signs.{div-eq, le-int}
-use Rattle.arith.proofs.RationalRounding.{above-0, unit, unit-times, div-down, down-low, down-high, nat-q, div-le, ceil-up, up-le, up-lt}
+use Rattle.arith.proofs.RationalOrder.{above-0, unit, unit-times, nat-q, div-le}
+use Rattle.arith.proofs.RationalRounding.{div-down, down-le, down-lt, ceil-up, up-le, up-lt}
 use Rattle.arith.proofs.FractionsInRationals.{mk-int}
 use Rattle.springs.specs.Promise.{found}
 use Rattle.forces.specs.Fixed.{ceil}
@@ -92,29 +92,18 @@ module _ (c : ℕ) (c0 : 0 < c) where
   floor-off : (n : ℕ) → Off (newtons (pos 1)) (newtons (pos (n / c))) (newtons (pos n) /ℚ natℚ c)
   unfolding per
   floor-off n =
+      let q = natℚ (n / c) in
       let r = recipℚ (natℚ c) in
       record {
-        above = high (natℚ n) (natℚ c) r (natℚ (n / c)) per (recip-nat c c0) (recip-nn (natℚ c)) per-nn (down-low (div-down n c c0));
-        below = low (natℚ n) (natℚ c) r (natℚ (n / c)) per (recip-nat c c0) (recip-nn (natℚ c)) per-nn (down-high (div-down n c c0));
+        above = high (natℚ n) r q per per-nn (down-le (above-0 c c0) (div-down n c c0));
+        below = low (natℚ n) r q per per-nn (<→≤ (down-lt (above-0 c c0) (div-down n c c0)));
       }
     where
-      high :
-          (n c r q h : ℚ) →
-          c *ℚ r ≡ natℚ 1 →
-          natℚ 0 ≤ℚ r →
-          natℚ 0 ≤ℚ h →
-          c *ℚ q ≤ℚ n →
-          q *ℚ h ≤ℚ n *ℚ h *ℚ r +ℚ natℚ 1 *ℚ h
-      high = ∀₅ ℚR _ λ ρ. simp qq λ e r0 h0 l. by-cert (to r0 ⊠ to h0 ⊠ to l ⊞ to h0 ⊞ times (v 3 ⊗ v 4) e) tt
+      high : (n r q h : ℚ) → natℚ 0 ≤ℚ h → q ≤ℚ n *ℚ r → q *ℚ h ≤ℚ n *ℚ h *ℚ r +ℚ natℚ 1 *ℚ h
+      high = ∀₄ ℚR _ λ ρ. simp qq λ h0 l. by-cert (to h0 ⊠ to l ⊞ to h0) tt
 
-      low :
-          (n c r q h : ℚ) →
-          c *ℚ r ≡ natℚ 1 →
-          natℚ 0 ≤ℚ r →
-          natℚ 0 ≤ℚ h →
-          n +ℚ natℚ 1 ≤ℚ c *ℚ q +ℚ c →
-          n *ℚ h *ℚ r ≤ℚ q *ℚ h +ℚ natℚ 1 *ℚ h
-      low = ∀₅ ℚR _ λ ρ. simp qq λ e r0 h0 l. by-cert (to r0 ⊠ to h0 ⊠ to l ⊞ to r0 ⊠ to h0 ⊞ times (⊖ (v 3 ⊗ v 4) ⊖ v 4) e) tt
+      low : (n r q h : ℚ) → natℚ 0 ≤ℚ h → n *ℚ r ≤ℚ q +ℚ natℚ 1 → n *ℚ h *ℚ r ≤ℚ q *ℚ h +ℚ natℚ 1 *ℚ h
+      low = ∀₄ ℚR _ λ ρ. simp qq λ h0 l. by-cert (to h0 ⊠ to l) tt
 
   pub quot-off : (z : ℤ) → Off (newtons (pos 1)) (newtons (quotZ z (pos c))) (newtons z /ℚ natℚ c)
   quot-off (pos n) = floor-off n

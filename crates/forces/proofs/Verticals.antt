@@ -10,7 +10,7 @@ use Rattle.arith.specs.Fractions.{Frac, sumq}
 use Rattle.arith.proofs.Rings.{∀₅, by-ring, by-cert, to, num, _⊞_, _⊠_}
 use Rattle.arith.proofs.Rationals.{ℚR, ℚ, mk, _+ℚ_, _*ℚ_, _≤ℚ_, int-plus, nn-int, nn-plus, nn-times}
 use Rattle.arith.proofs.RationalTerms.{qq}
-use Rattle.arith.proofs.RationalRounding.{nat-q}
+use Rattle.arith.proofs.RationalOrder.{nat-q}
 use Rattle.arith.proofs.FractionsInRationals.{sumℚ, mk-add}
 use Rattle.springs.specs.Equations.{given, shift}
 use Rattle.sheet.specs.declared.Lash.{Lash}

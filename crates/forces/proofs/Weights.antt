@@ -11,7 +11,7 @@ use Rattle.arith.proofs.Rings.{∀₁, ∀₃, ∀₄, ∀₅, by-ring, by-eqs,
 use Rattle.arith.proofs.Rationals.{ℚR, ℚ, mk, int, _+ℚ_, _*ℚ_, _/ℚ_, recipℚ, int-plus, int-times}
 use Rattle.arith.proofs.RationalTerms.{qq}
 use Rattle.arith.proofs.Signs.{div-eq}
-use Rattle.arith.proofs.RationalRounding.{above-0}
+use Rattle.arith.proofs.RationalOrder.{above-0}
 use Rattle.arith.proofs.FractionsInRationals.{mk-add, mk-int}
 use Rattle.sheet.specs.declared.Tier.{Tier}
 use Rattle.forces.specs.Loads.{weight, upright}
