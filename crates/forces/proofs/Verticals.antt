@@ -16,7 +16,7 @@ use Rattle.springs.specs.Equations.{given, shift}
 use Rattle.sheet.specs.declared.Lash.{Lash}
 use Rattle.sheet.specs.declared.Lashing.{Lashing}
 use Rattle.sheet.specs.declared.Lashing.the-variants.{Cross, Side}
-use Rattle.sheet.specs.Kinds.{lashingOf}
+use Rattle.sheet.specs.Lashings.{lashingOf}
 use Rattle.forces.specs.Lashes.{hookLevel, verticalPart}
 use Rattle.forces.specs.Posts.{onLee, onWindward, verticals}
 use Rattle.forces.specs.Fixed.{upward, upwards, leePart, windwardPart}

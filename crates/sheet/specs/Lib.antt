@@ -1,2 +1,6 @@
+pub mod Layout
+pub mod Refusals
+pub mod Lashings
 pub mod Routes
-pub mod Kinds
+pub mod Fits
+pub mod Written
