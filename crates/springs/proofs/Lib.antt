@@ -7,3 +7,4 @@ pub mod OneSolution
 pub mod Stability
 pub mod Ranges
 pub mod Residuals
+pub mod Kept

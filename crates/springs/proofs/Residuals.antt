@@ -88,7 +88,7 @@ module _ (k κ ω x y p : ℕ) (stiff : 0 < k) where
     whole : natℚ d *ℚ (natℚ k *ℚ S +ℚ (natℚ κ +ℚ natℚ x)) +ℚ by-d .rest ≡ (natℚ ω +ℚ natℚ y +ℚ natℚ k *ℚ natℚ p) *ℚ S
     whole = ap (λ z. natℚ d *ℚ (natℚ k *ℚ S +ℚ z) +ℚ by-d .rest) (sym (int-plus (pos κ) (pos x))) ∙ by-d .whole ∙ ap (λ z. (z +ℚ natℚ k *ℚ natℚ p) *ℚ S) (int-plus (pos ω) (pos y))
 
-    balance-low : negℚ (natℚ (divisor k κ x) +ℚ S) ≤ℚ G
+    pub balance-low : negℚ (natℚ (divisor k κ x) +ℚ S) ≤ℚ G
     balance-low = go (natℚ k) (natℚ κ) (natℚ x) (natℚ ω) (natℚ y) (natℚ p) (natℚ d) (by-d .rest) F (natℚ (divisor k κ x)) whole (subst (λ z. by-d .rest ≤ℚ z) (sym is-c) (by-d .high)) (h .high)
       where
         is-c : natℚ (divisor k κ x) ≡ c
@@ -97,7 +97,7 @@ module _ (k κ ω x y p : ℕ) (stiff : 0 < k) where
         go : (K κ x ω y p d r F c : ℚ) → d *ℚ (K *ℚ S +ℚ (κ +ℚ x)) +ℚ r ≡ (ω +ℚ y +ℚ K *ℚ p) *ℚ S → r ≤ℚ c → S *ℚ F -ℚ S *ℚ y +ℚ x *ℚ d ≤ℚ S → negℚ (c +ℚ S) ≤ℚ S *ℚ (K *ℚ (d -ℚ p)) -ℚ S *ℚ F +ℚ κ *ℚ d -ℚ S *ℚ ω
         go = ∀₁₀ ℚR _ λ ρ. simp qq λ e hr hh. by-cert (to hr ⊞ to hh ⊞ times (kp 1) e) tt
 
-    balance-high : G ≤ℚ natℚ d +ℚ S *ℚ L
+    pub balance-high : G ≤ℚ natℚ d +ℚ S *ℚ L
     balance-high = go (natℚ k) (natℚ κ) (natℚ x) (natℚ ω) (natℚ y) (natℚ p) (natℚ d) (by-d .rest) F L whole (by-d .low) (h .low)
       where
         go : (K κ x ω y p d r F L : ℚ) → d *ℚ (K *ℚ S +ℚ (κ +ℚ x)) +ℚ r ≡ (ω +ℚ y +ℚ K *ℚ p) *ℚ S → natℚ 0 ≤ℚ r → negℚ (d +ℚ S *ℚ L) ≤ℚ S *ℚ F -ℚ S *ℚ y +ℚ x *ℚ d → S *ℚ (K *ℚ (d -ℚ p)) -ℚ S *ℚ F +ℚ κ *ℚ d -ℚ S *ℚ ω ≤ℚ d +ℚ S *ℚ L

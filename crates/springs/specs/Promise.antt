@@ -33,7 +33,6 @@ loadAt ts i = tierAt ts i .Q -q tierAt ts (suc i) .Q
 pub record Near (n : ℕ) (k κ ω : List ℕ) (ts : List Tier) (ls : List Lash) : Type 0 where
   pub tiers : length ts ≡ n
   pub stiff : Stiff ts ls
-  pub hooked : (j : ℕ) → j < length ls → getD ls j (record { level = 0; stiffness = nat 0 }) .level ≤ n
   pub spring : (i : ℕ) → i < n → tierAt ts i .K ≈ nat (getD k i 0)
   pub held : (i : ℕ) → i < n → Rounded stiffnessScale 4 (getD κ i 0) (stiffnessAt ls (suc i))
   pub loaded : (i : ℕ) → i < n → Rounded loadScale 4 (getD ω i 0) (loadAt ts i)
@@ -52,10 +51,10 @@ pub record Solvable (n : ℕ) (k κ ω : List ℕ) : Type 0 where
 
 -- the two constants of the promise, in N: the sum of stiffness × shift error over the lashes, and the error of a tier's racking
 abbrev pub lashError : Frac
-lashError = nat 13 /q nat 100
+lashError = nat 5 /q nat 100
 
 abbrev pub rackingError : Frac
-rackingError = nat 26 /q nat 100
+rackingError = nat 5 /q nat 100
 
 pub record Promised (n : ℕ) (k κ ω d : List ℕ) : Type 0 where
   pub deck : getD d 0 0 ≡ 0

@@ -1,0 +1,192 @@
+-- The promise kept: shifts that come about by the solver's steps are as near to the exact ones as specs/Promise says.
+use mathlib.Core.Path.{_≡_, refl, sym, ap, ap₂, subst, fun-ext, _∙_}
+use mathlib.Core.Bool.{Bool, true, false, cond}
+use mathlib.Core.List.{List, [], _∷_}
+use Prim.Native.Nat.{ℕ, zero, suc, _+_, _*_, _-_, _≤_, _<_, _^_}
+use native.Mathlib.Numerals.{add-one}
+use native.Mathlib.Omega.{arith}
+use native.Mathlib.Decide.{decLe}
+use lib.IntN.{ℤ, pos, negsuc}
+use lib.ListN.{length, getD}
+use Rattle.arith.specs.Fractions.{Frac, nat, _+q_, _-q_, _*q_, _/q_, absq, sumq, _⊑_, _⊏_}
+use Rattle.arith.proofs.Polynomials.{v, kp, kn, _⊕_, _⊖_, _⊗_, ⊖_}
+use Rattle.arith.proofs.Rings.{∀₁, ∀₂, ∀₃, ∀₄, ∀₁₂, by-ring, by-cert, by-eqs, part, to, times, mul-eq, num, _⊞_, _⊠_}
+use Rattle.arith.proofs.Rationals.{ℚR, ℚ, mk, int, _+ℚ_, _-ℚ_, _*ℚ_, negℚ, _/ℚ_, recipℚ, absℚ, _≤ℚ_, nn-int, int-plus, int-times, recip-times, of-⊑, to-⊑}
+use Rattle.arith.proofs.RationalTerms.{qq}
+use Rattle.arith.proofs.Signs.{on}
+use Rattle.arith.proofs.FractionsInRationals.{sumℚ, mk-int, mk-div, mk-abs, mk-sub, mk-mul, of-≈, of-⊏, toℚ}
+use Rattle.springs.specs.Equations.{Tier, Lash, tierAt, shift, racking, Solves, Stiff}
+use Rattle.springs.specs.Promise.{stiffnessScale, loadScale, shiftScale, stiffnessAt, loadAt, Rounded, Near, found, Solvable, lashError, rackingError, Promised}
+use Rattle.springs.specs.Steps.{divisor, shiftUp, HandedDown, Climbed}
+use Rattle.springs.proofs.Chain.{natℚ, numbers, ≤-trans, force, load}
+use Rattle.springs.proofs.Levels.{springs, lashes, loads, shifts, mk-stiffness, mk-load, mk-racking, no-spring}
+use Rattle.springs.proofs.Stability.{lash-errors, racking-errors, mk-errors}
+use Rattle.springs.proofs.Ranges.{step-at, far-at}
+use Rattle.springs.proofs.Residuals.{nat-le, Handed, handed, handed-none, balance-low, balance-high}
+
+-- m x is at most b in size
+times-abs : (m x b : ℚ) → m *ℚ x ≤ℚ b → m *ℚ negℚ x ≤ℚ b → m *ℚ absℚ x ≤ℚ b
+unfolding absℚ
+times-abs m x b h l = on x (λ c. m *ℚ cond c x (negℚ x) ≤ℚ b) (λ p. h) (λ p. l)
+
+abbrev S : ℚ
+S = natℚ stiffnessScale
+
+-- K and L the springs under and over a level, k its lashes and κ theirs as found, q its load and ω it as found; f₀ f₁ f₂ the shifts found under it, of it
+-- and over it, p d e the same in units
+high-law : (K L k κ ω q f₀ f₁ f₂ p d e : ℚ) → natℚ shiftScale *ℚ f₀ ≡ p → natℚ shiftScale *ℚ f₁ ≡ d → natℚ shiftScale *ℚ f₂ ≡ e → S *ℚ (K *ℚ (d -ℚ p)) -ℚ S *ℚ (L *ℚ (e -ℚ d)) +ℚ κ *ℚ d -ℚ S *ℚ ω ≤ℚ d +ℚ S *ℚ L → S *ℚ k ≤ℚ κ +ℚ natℚ 4 → ω ≤ℚ natℚ loadScale *ℚ q → natℚ 0 ≤ℚ d → natℚ (2 ^ 50) *ℚ (K *ℚ (f₁ -ℚ f₀) -ℚ L *ℚ (f₂ -ℚ f₁) +ℚ k *ℚ f₁ -ℚ q) ≤ℚ natℚ 5 *ℚ d +ℚ S *ℚ L
+high-law = ∀₁₂ ℚR _ λ ρ. simp qq λ e0 e1 e2 g hk hq hd. by-cert (to g ⊞ to hk ⊠ to hd ⊞ num stiffnessScale ⊠ to hq ⊞ times (kp stiffnessScale ⊗ v 0) e0 ⊞ times (⊖ (kp stiffnessScale ⊗ (v 0 ⊕ v 1 ⊕ v 2))) e1 ⊞ times (kp stiffnessScale ⊗ v 1) e2) tt
+
+low-law : (K L k κ ω q f₀ f₁ f₂ p d e : ℚ) → natℚ shiftScale *ℚ f₀ ≡ p → natℚ shiftScale *ℚ f₁ ≡ d → natℚ shiftScale *ℚ f₂ ≡ e → negℚ (natℚ (651381 * stiffnessScale)) ≤ℚ S *ℚ (K *ℚ (d -ℚ p)) -ℚ S *ℚ (L *ℚ (e -ℚ d)) +ℚ κ *ℚ d -ℚ S *ℚ ω → κ ≤ℚ S *ℚ k → natℚ loadScale *ℚ q ≤ℚ ω +ℚ natℚ 4 → natℚ 0 ≤ℚ d → natℚ (2 ^ 50) *ℚ negℚ (K *ℚ (f₁ -ℚ f₀) -ℚ L *ℚ (f₂ -ℚ f₁) +ℚ k *ℚ f₁ -ℚ q) ≤ℚ natℚ (651385 * stiffnessScale)
+low-law = ∀₁₂ ℚR _ λ ρ. simp qq λ e0 e1 e2 g hk hq hd. by-cert (to g ⊞ to hk ⊠ to hd ⊞ num stiffnessScale ⊠ to hq ⊞ times (⊖ (kp stiffnessScale ⊗ v 0)) e0 ⊞ times (kp stiffnessScale ⊗ (v 0 ⊕ v 1 ⊕ v 2)) e1 ⊞ times (⊖ (kp stiffnessScale ⊗ v 1)) e2) tt
+
+-- what a level may be out of balance by, in 2^-50 N: 0.00495 N
+abbrev most : ℕ
+most = 5 * 2 ^ 40 + 15690 * stiffnessScale
+
+rounded-low : (scale slack x : ℕ) (y : Frac) → Rounded scale slack x y → natℚ x ≤ℚ natℚ scale *ℚ mk y
+rounded-low scale slack x y r = simp toℚ at (of-⊑ (nat x) (nat scale *q y) (r .low))
+
+rounded-high : (scale slack x : ℕ) (y : Frac) → Rounded scale slack x y → natℚ scale *ℚ mk y ≤ℚ natℚ x +ℚ natℚ slack
+rounded-high scale slack x y r = subst (λ z. natℚ scale *ℚ mk y ≤ℚ z) (int-plus (pos x) (pos slack)) (simp toℚ at (of-⊑ (nat scale *q y) (nat (x + slack)) (r .high)))
+
+-- the shift found, in mm
+found-is : (d : List ℕ) (j : ℕ) → natℚ shiftScale *ℚ mk (found d j) ≡ natℚ (getD d j 0)
+found-is d j = ap (λ z. natℚ shiftScale *ℚ z) (mk-div (nat (getD d j 0)) (nat shiftScale) ∙ ap₂ _/ℚ_ (mk-int (pos (getD d j 0))) (mk-int (pos shiftScale))) ∙ go (natℚ shiftScale) (natℚ (getD d j 0)) (recipℚ (natℚ shiftScale)) (recip-times (natℚ shiftScale) (simp toℚ at (of-⊏ (nat 0) (nat shiftScale) (record { cross = record { lt = tt } }))))
+  where
+    go : (m a r : ℚ) → m *ℚ r ≡ natℚ 1 → m *ℚ (a *ℚ r) ≡ a
+    go = ∀₃ ℚR _ λ ρ. simp qq λ e. by-eqs (mul-eq (v 1) e) tt
+
+module _ (n : ℕ) (k κ ω x y d : List ℕ) (s : Solvable n k κ ω) (h : HandedDown 0 n k κ ω x y) (u : Climbed n k κ ω x y d) where
+  -- the shift of a level in units
+  abbrev units : ℕ → ℚ
+  units j = natℚ (getD d j 0)
+
+  module _ (ts : List Tier) (ls : List Lash) (near : Near n k κ ω ts ls) where
+    spring : (j : ℕ) → j < n → springs ts j ≡ natℚ (getD k j 0)
+    spring j l = of-≈ (tierAt ts j .K) (nat (getD k j 0)) (near .spring j l) ∙ mk-int (pos (getD k j 0))
+
+    handed-at : (j : ℕ) → j ≤ n → Handed (force (springs ts) units j) (springs ts j) (units j) (natℚ (getD x j 0)) (natℚ (getD y j 0))
+    handed-at j b = go (decLe (suc j) n)
+      where
+        go : Dec (suc j ≤ n) → Handed (force (springs ts) units j) (springs ts j) (units j) (natℚ (getD x j 0)) (natℚ (getD y j 0))
+        go (yes l) =
+            rw (spring j l, h .stiffness j (omega arith) l, h .load j (omega arith) l, u .shifts j l)
+            (handed (getD k j 0) (getD κ j 0) (getD ω j 0) (getD x (suc j) 0) (getD y (suc j) 0) (getD d j 0) (omega (arith, s .springs j l)))
+        go (no l) =
+            let here : n ≡ j = omega arith in
+            let no-x : getD x j 0 ≡ 0 = subst (λ (z : ℕ). getD x z 0 ≡ 0) here (h .top-stiffness) in
+            let no-y : getD y j 0 ≡ 0 = subst (λ (z : ℕ). getD y z 0 ≡ 0) here (h .top-load) in
+            rw (no-spring ts j (omega (arith, near .tiers)), no-x, no-y) (handed-none (getD d j 0) (natℚ 0 *ℚ (units (suc j) -ℚ units j)) (none (units (suc j) -ℚ units j)))
+          where
+            none : (z : ℚ) → natℚ 0 *ℚ z ≡ natℚ 0
+            none = ∀₁ ℚR _ λ ρ. simp qq (by-ring tt)
+
+    -- the balance of level i + 1 by the shifts in units
+    abbrev G : ℕ → ℚ
+    G i = S *ℚ (springs ts i *ℚ (units (suc i) -ℚ units i)) -ℚ S *ℚ force (springs ts) units (suc i) +ℚ natℚ (getD κ i 0) *ℚ units (suc i) -ℚ S *ℚ natℚ (getD ω i 0)
+
+    handed-up : (i : ℕ) (l : i < n) → Handed (force (springs ts) units (suc i)) (springs ts (suc i)) (natℚ (shiftUp (getD k i 0) (getD κ i 0) (getD ω i 0) (getD x (suc i) 0) (getD y (suc i) 0) (getD d i 0))) (natℚ (getD x (suc i) 0)) (natℚ (getD y (suc i) 0))
+    handed-up i l = subst (λ (z : ℕ). Handed (force (springs ts) units (suc i)) (springs ts (suc i)) (natℚ z) (natℚ (getD x (suc i) 0)) (natℚ (getD y (suc i) 0))) (u .shifts i l) (handed-at (suc i) l)
+
+    low : (i : ℕ) → i < n → negℚ (natℚ (651381 * stiffnessScale)) ≤ℚ G i
+    low i l =
+        let step = step-at n k κ ω x y s i l (record { top-stiffness = h .top-stiffness; top-load = h .top-load; stiffness = λ j b. h .stiffness j (omega arith); load = λ j b. h .load j (omega arith) }) in
+        less (natℚ (divisor (getD k i 0) (getD κ i 0) (getD x (suc i) 0))) (G i)
+        (nat-le (divisor (getD k i 0) (getD κ i 0) (getD x (suc i) 0)) (651380 * stiffnessScale) (omega (arith, step .high, step .held, step .above)))
+        (rw (← (spring i l), ← (u .shifts i l)) at (balance-low (getD k i 0) (getD κ i 0) (getD ω i 0) (getD x (suc i) 0) (getD y (suc i) 0) (getD d i 0) (omega (arith, s .springs i l)) (force (springs ts) units (suc i)) (springs ts (suc i)) (handed-up i l)))
+      where
+        less : (c g : ℚ) → c ≤ℚ natℚ (651380 * stiffnessScale) → negℚ (c +ℚ S) ≤ℚ g → negℚ (natℚ (651381 * stiffnessScale)) ≤ℚ g
+        less = ∀₂ ℚR _ λ ρ. simp qq λ a b. by-cert (to a ⊞ to b) tt
+
+    high : (i : ℕ) → i < n → G i ≤ℚ units (suc i) +ℚ S *ℚ springs ts (suc i)
+    high i l =
+        rw (← (spring i l), ← (u .shifts i l)) at
+        (balance-high (getD k i 0) (getD κ i 0) (getD ω i 0) (getD x (suc i) 0) (getD y (suc i) 0) (getD d i 0) (omega (arith, s .springs i l)) (force (springs ts) units (suc i)) (springs ts (suc i)) (handed-up i l))
+
+    -- the spring over a level
+    soft : (j : ℕ) → springs ts j ≤ℚ natℚ 15690
+    soft j = go (decLe (suc j) n)
+      where
+        go : Dec (suc j ≤ n) → springs ts j ≤ℚ natℚ 15690
+        go (yes l) = subst (λ z. z ≤ℚ natℚ 15690) (sym (spring j l)) (nat-le (getD k j 0) 15690 (s .springs j l .1))
+        go (no l) = subst (λ z. z ≤ℚ natℚ 15690) (sym (no-spring ts j (omega (arith, near .tiers)))) (nn-int 15690)
+
+    abbrev f : ℕ → ℚ
+    f j = mk (found d j)
+
+    out-at : (i : ℕ) → i < n → natℚ (2 ^ 50) *ℚ absℚ (load (springs ts) (lashes ls) f i -ℚ loads ts i) ≤ℚ natℚ most
+    out-at i l =
+        let K = springs ts i in
+        let L = springs ts (suc i) in
+        let kq = natℚ (getD κ i 0) in
+        let oq = natℚ (getD ω i 0) in
+        times-abs (natℚ (2 ^ 50)) (load (springs ts) (lashes ls) f i -ℚ loads ts i) (natℚ most)
+        (up (natℚ (2 ^ 50) *ℚ (load (springs ts) (lashes ls) f i -ℚ loads ts i)) (units (suc i)) L (high-law K L (lashes ls i) kq oq (loads ts i) (f i) (f (suc i)) (f (suc (suc i))) (units i) (units (suc i)) (units (suc (suc i))) (found-is d i) (found-is d (suc i)) (found-is d (suc (suc i))) (high i l) (subst (λ z. S *ℚ z ≤ℚ kq +ℚ natℚ 4) (mk-stiffness ls (suc i)) (rounded-high stiffnessScale 4 (getD κ i 0) (stiffnessAt ls (suc i)) (near .held i l))) (subst (λ z. oq ≤ℚ natℚ loadScale *ℚ z) (mk-load ts i) (rounded-low loadScale 4 (getD ω i 0) (loadAt ts i) (near .loaded i l))) (nn-int (getD d (suc i) 0)))
+        (nat-le (getD d (suc i) 0) (2 ^ 40) (far-at n k κ ω x y s h n d u (suc i) l (omega arith))) (soft (suc i)))
+        (≤-trans (natℚ (2 ^ 50) *ℚ negℚ (load (springs ts) (lashes ls) f i -ℚ loads ts i)) (natℚ (651385 * stiffnessScale)) (natℚ most) (low-law K L (lashes ls i) kq oq (loads ts i) (f i) (f (suc i)) (f (suc (suc i))) (units i) (units (suc i)) (units (suc (suc i))) (found-is d i) (found-is d (suc i)) (found-is d (suc (suc i))) (low i l) (subst (λ z. kq ≤ℚ S *ℚ z) (mk-stiffness ls (suc i)) (rounded-low stiffnessScale 4 (getD κ i 0) (stiffnessAt ls (suc i)) (near .held i l))) (subst (λ z. natℚ loadScale *ℚ z ≤ℚ oq +ℚ natℚ 4) (mk-load ts i) (rounded-high loadScale 4 (getD ω i 0) (loadAt ts i) (near .loaded i l))) (nn-int (getD d (suc i) 0)))
+        (nat-le (651385 * stiffnessScale) most (omega arith)))
+      where
+        up : (a d L : ℚ) → a ≤ℚ natℚ 5 *ℚ d +ℚ S *ℚ L → d ≤ℚ natℚ (2 ^ 40) → L ≤ℚ natℚ 15690 → a ≤ℚ natℚ most
+        up = ∀₃ ℚR _ λ ρ. simp qq λ h a b. by-cert (to h ⊞ num 5 ⊠ to a ⊞ num stiffnessScale ⊠ to b) tt
+
+    abbrev size : ℕ → ℚ
+    size i = absℚ (load (springs ts) (lashes ls) f i -ℚ loads ts i)
+
+    outs-at : (i m : ℕ) → i + m ≤ n → natℚ (2 ^ 50) *ℚ sumℚ size (numbers i m) ≤ℚ natℚ m *ℚ natℚ most
+    unfolding sumℚ
+    outs-at i zero b = none (natℚ 0) refl
+      where
+        none : (z : ℚ) → z ≡ natℚ 0 → natℚ (2 ^ 50) *ℚ natℚ 0 ≤ℚ z *ℚ natℚ most
+        none = ∀₁ ℚR _ λ ρ. simp qq λ e. by-cert (times (kp most) e) tt
+    outs-at i (suc m) b =
+        subst (λ z. natℚ (2 ^ 50) *ℚ sumℚ size (numbers i (suc m)) ≤ℚ z *ℚ natℚ most) (sym (int-plus (pos m) (pos 1)) ∙ ap natℚ (add-one m))
+        (more (size i) (sumℚ size (numbers (suc i) m)) (natℚ m) (out-at i (omega arith)) (outs-at (suc i) m (omega arith)))
+      where
+        more : (a t m : ℚ) → natℚ (2 ^ 50) *ℚ a ≤ℚ natℚ most → natℚ (2 ^ 50) *ℚ t ≤ℚ m *ℚ natℚ most → natℚ (2 ^ 50) *ℚ (a +ℚ t) ≤ℚ (m +ℚ natℚ 1) *ℚ natℚ most
+        more = ∀₃ ℚR _ λ ρ. simp qq λ h l. by-cert (to h ⊞ to l) tt
+
+    outs-small : sumℚ size (numbers 0 (length ts)) ≤ℚ mk lashError
+    outs-small = rw (error-is) (go (sumℚ size (numbers 0 (length ts))) (natℚ (length ts)) (recipℚ (natℚ 100)) (outs-at 0 (length ts) (omega (arith, near .tiers))) (nat-le (length ts) 10 (omega (arith, near .tiers, s .few))) hundredth)
+      where
+        hundredth : natℚ 100 *ℚ recipℚ (natℚ 100) ≡ natℚ 1
+        hundredth = recip-times (natℚ 100) (simp toℚ at (of-⊏ (nat 0) (nat 100) (record { cross = record { lt = tt } })))
+
+        error-is : mk lashError ≡ natℚ 5 *ℚ recipℚ (natℚ 100)
+        error-is = simp toℚ
+
+        go : (a m r : ℚ) → natℚ (2 ^ 50) *ℚ a ≤ℚ m *ℚ natℚ most → m ≤ℚ natℚ 10 → natℚ 100 *ℚ r ≡ natℚ 1 → a ≤ℚ natℚ 5 *ℚ r
+        go = ∀₃ ℚR _ λ ρ. simp qq λ h l e. part (100 * 2 ^ 50 - 1) (num 100 ⊠ to h ⊞ num (100 * most) ⊠ to l ⊞ times (kp (5 * 2 ^ 50)) e) tt
+
+  found-none : (j : ℕ) → getD d j 0 ≡ 0 → mk (found d j) ≡ natℚ 0
+  found-none j z = ap (λ (a : ℕ). mk (nat a /q nat shiftScale)) z ∙ mk-div (nat 0) (nat shiftScale) ∙ ap (λ a. a /ℚ mk (nat shiftScale)) (mk-int (pos 0)) ∙ go (recipℚ (mk (nat shiftScale)))
+    where
+      go : (r : ℚ) → natℚ 0 *ℚ r ≡ natℚ 0
+      go = ∀₁ ℚR _ λ ρ. simp qq (by-ring tt)
+
+  module _ (ts : List Tier) (ls : List Lash) (Ds : List Frac) (near : Near n k κ ω ts ls) (sol : Solves ts ls Ds) where
+    near-lashes : sumq (λ l. l .stiffness *q absq (found d (l .level) -q shift Ds (l .level))) ls ⊑ lashError
+    near-lashes =
+        to-⊑ (sumq (λ l. l .stiffness *q absq (found d (l .level) -q shift Ds (l .level))) ls) lashError
+        (rw (mk-errors ls (found d) (shift Ds))
+        (≤-trans (sumℚ (λ l. mk (l .stiffness) *ℚ absℚ (mk (found d (l .level)) -ℚ shifts Ds (l .level))) ls) (sumℚ (size ts ls near) (numbers 0 (length ts))) (mk lashError)
+        (lash-errors ts ls Ds (near .stiff) sol (λ j. mk (found d j)) (found-none 0 (u .deck)) (λ j b. found-none j (u .over j (omega (arith, near .tiers)))))
+        (outs-small ts ls near)))
+
+    near-rackings : (i : ℕ) → i < n → absq (tierAt ts i .K *q (found d (suc i) -q found d i) -q racking ts Ds i) ⊑ rackingError
+    near-rackings i b =
+        to-⊑ (absq (tierAt ts i .K *q (found d (suc i) -q found d i) -q racking ts Ds i)) rackingError
+        (rw (one (tierAt ts i .K) (found d (suc i)) (found d i) (racking ts Ds i), mk-racking ts Ds i)
+        (≤-trans (absℚ (force (springs ts) (λ j. mk (found d j)) i -ℚ force (springs ts) (shifts Ds) i)) (sumℚ (size ts ls near) (numbers 0 (length ts))) (mk rackingError)
+        (racking-errors ts ls Ds (near .stiff) sol (λ j. mk (found d j)) (found-none 0 (u .deck)) i (omega (arith, near .tiers)))
+        (outs-small ts ls near)))
+      where
+        one : (K a b r : Frac) → mk (absq (K *q (a -q b) -q r)) ≡ absℚ (mk K *ℚ (mk a -ℚ mk b) -ℚ mk r)
+        one K a b r = simp toℚ
+
+  pub kept : Promised n k κ ω d
+  kept = record { deck = u .deck; far = λ i. far i (decLe i n); lashes = near-lashes; rackings = near-rackings }
+    where
+      far : (i : ℕ) → Dec (i ≤ n) → getD d i 0 ≤ 2 ^ 40
+      far i (yes b) = far-at n k κ ω x y s h n d u i b (omega arith)
+      far i (no b) = omega (arith, u .over i (omega arith))
