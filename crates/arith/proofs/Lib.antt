@@ -9,3 +9,13 @@ pub mod Rationals
 pub mod RationalTerms
 pub mod Signs
 pub mod FractionsInRationals
+pub mod ByteLaws
+pub mod Quotients
+pub mod RootLaws
+pub mod Sizes
+pub mod Ceilings
+pub mod RationalOrder
+pub mod RationalRounding
+pub mod RoundingLaws
+pub mod OrderedField
+pub mod Sums
