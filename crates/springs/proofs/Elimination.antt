@@ -1,20 +1,19 @@
 -- The chain's equations over ℚ solved by elimination from the top down: a solution exists, under loads not below 0 no level of one is below 0, and one
 -- under loads no smaller is no smaller.
 use mathlib.Core.Path.{_≡_, refl, sym, ap, ap₂, subst, _∙_}
-use mathlib.Core.Bool.{Bool, true, false, not}
 use Prim.Native.Nat.{ℕ, zero, suc, _+_, _-_, _<_, _≤_}
 use native.Mathlib.Omega.{arith}
-use lib.Dec.{T, T-not, not-T}
 use lib.IntN.{ℤ, pos, negsuc}
 use Rattle.arith.proofs.Polynomials.{v, kp, kn, _⊕_, _⊖_, _⊗_, ⊖_}
 use Rattle.arith.proofs.Rings.{∀₁, ∀₂, ∀₃, ∀₄, ∀₅, ∀₆, ∀₇, ∀₈, by-ring, by-cert, by-eqs, to, times, mul-eq, num, _⊞_, _⊠_, _⊹_}
-use Rattle.arith.proofs.Rationals.{ℚR, ℚ, int, _+ℚ_, _-ℚ_, _*ℚ_, negℚ, recipℚ, _≤ℚ_, _<ℚ_, <→≤, leℚ, recip-times, recip-nn, nn-int, nn-plus, nn-times, to-nn, of-nn}
+use Rattle.arith.proofs.Rationals.{ℚR, ℚ, int, _+ℚ_, _-ℚ_, _*ℚ_, negℚ, recipℚ, _≤ℚ_, _<ℚ_, recip-times, recip-nn, nn-int, nn-plus, nn-times, to-nn, of-nn}
 use Rattle.arith.proofs.RationalTerms.{qq}
+use Rattle.arith.proofs.RationalOrder.{lt-of, lt-not}
 use Rattle.springs.proofs.Chain.{natℚ, force, load, load-minus}
 
 -- p above 0, b not below it
 above : (p b : ℚ) → natℚ 0 <ℚ p → natℚ 0 ≤ℚ b → natℚ 0 <ℚ p +ℚ b
-above p b h l = record { lt = not-T (leℚ (p +ℚ b) (natℚ 0)) (λ t. T-not (leℚ p (natℚ 0)) (h .lt) ((less p b l (record { le = t })) .le)) }
+above p b h l = lt-of (natℚ 0) (p +ℚ b) (λ m. lt-not h (less p b l m))
   where
     less : (p b : ℚ) → natℚ 0 ≤ℚ b → p +ℚ b ≤ℚ natℚ 0 → p ≤ℚ natℚ 0
     less = ∀₂ ℚR _ λ ρ. simp qq λ h l. by-cert (to h ⊞ to l) tt

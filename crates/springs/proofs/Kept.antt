@@ -6,23 +6,25 @@ use Prim.Native.Nat.{ℕ, zero, suc, _+_, _*_, _-_, _≤_, _<_, _^_}
 use native.Mathlib.Numerals.{add-one}
 use native.Mathlib.Omega.{arith}
 use native.Mathlib.Decide.{decLe}
+use lib.Dec.{lit<}
 use lib.IntN.{ℤ, pos, negsuc}
 use lib.ListN.{length, getD}
-use Rattle.arith.specs.Fractions.{Frac, nat, _+q_, _-q_, _*q_, _/q_, absq, sumq, _⊑_, _⊏_}
+use Rattle.arith.specs.Fractions.{Frac, nat, _+q_, _-q_, _*q_, _/q_, absq, sumq, _⊑_}
 use Rattle.arith.proofs.Polynomials.{v, kp, kn, _⊕_, _⊖_, _⊗_, ⊖_}
-use Rattle.arith.proofs.Rings.{∀₁, ∀₂, ∀₃, ∀₄, ∀₁₂, by-ring, by-cert, by-eqs, part, to, times, mul-eq, num, _⊞_, _⊠_}
+use Rattle.arith.proofs.Rings.{∀₁, ∀₂, ∀₃, ∀₄, ∀₁₂, by-ring, by-cert, part, to, times, num, _⊞_, _⊠_}
 use Rattle.arith.proofs.Rationals.{ℚR, ℚ, mk, int, _+ℚ_, _-ℚ_, _*ℚ_, negℚ, _/ℚ_, recipℚ, absℚ, _≤ℚ_, nn-int, int-plus, int-times, recip-times, of-⊑, to-⊑}
 use Rattle.arith.proofs.RationalTerms.{qq}
 use Rattle.arith.proofs.Signs.{on}
-use Rattle.arith.proofs.FractionsInRationals.{sumℚ, mk-int, mk-div, mk-abs, mk-sub, mk-mul, of-≈, of-⊏, toℚ}
+use Rattle.arith.proofs.RationalOrder.{≤ℚ-trans, nat-q, above-0, div-times}
+use Rattle.arith.proofs.FractionsInRationals.{sumℚ, mk-int, mk-div, mk-abs, mk-sub, mk-mul, of-≈, toℚ}
 use Rattle.springs.specs.Equations.{Tier, Lash, tierAt, shift, racking, Solves, Stiff}
 use Rattle.springs.specs.Promise.{stiffnessScale, loadScale, shiftScale, stiffnessAt, loadAt, Rounded, Near, found, Solvable, lashError, rackingError, Promised}
 use Rattle.springs.specs.Steps.{divisor, shiftUp, HandedDown, Climbed}
-use Rattle.springs.proofs.Chain.{natℚ, numbers, ≤-trans, force, load}
+use Rattle.springs.proofs.Chain.{natℚ, numbers, force, load}
 use Rattle.springs.proofs.Levels.{springs, lashes, loads, shifts, mk-stiffness, mk-load, mk-racking, no-spring}
 use Rattle.springs.proofs.Stability.{lash-errors, racking-errors, mk-errors}
-use Rattle.springs.proofs.Ranges.{step-at, far-at}
-use Rattle.springs.proofs.Residuals.{nat-le, Handed, handed, handed-none, balance-low, balance-high}
+use Rattle.springs.proofs.Ranges.{later, in-range, far-at}
+use Rattle.springs.proofs.Residuals.{Handed, handed, handed-none, balance-low, balance-high}
 
 -- m x is at most b in size
 times-abs : (m x b : ℚ) → m *ℚ x ≤ℚ b → m *ℚ negℚ x ≤ℚ b → m *ℚ absℚ x ≤ℚ b
@@ -52,10 +54,7 @@ rounded-high scale slack x y r = subst (λ z. natℚ scale *ℚ mk y ≤ℚ z) (
 
 -- the shift found, in mm
 found-is : (d : List ℕ) (j : ℕ) → natℚ shiftScale *ℚ mk (found d j) ≡ natℚ (getD d j 0)
-found-is d j = ap (λ z. natℚ shiftScale *ℚ z) (mk-div (nat (getD d j 0)) (nat shiftScale) ∙ ap₂ _/ℚ_ (mk-int (pos (getD d j 0))) (mk-int (pos shiftScale))) ∙ go (natℚ shiftScale) (natℚ (getD d j 0)) (recipℚ (natℚ shiftScale)) (recip-times (natℚ shiftScale) (simp toℚ at (of-⊏ (nat 0) (nat shiftScale) (record { cross = record { lt = tt } }))))
-  where
-    go : (m a r : ℚ) → m *ℚ r ≡ natℚ 1 → m *ℚ (a *ℚ r) ≡ a
-    go = ∀₃ ℚR _ λ ρ. simp qq λ e. by-eqs (mul-eq (v 1) e) tt
+found-is d j = ap (λ z. natℚ shiftScale *ℚ z) (mk-div (nat (getD d j 0)) (nat shiftScale) ∙ ap₂ _/ℚ_ (mk-int (pos (getD d j 0))) (mk-int (pos shiftScale))) ∙ div-times (natℚ (getD d j 0)) (natℚ shiftScale) (above-0 shiftScale (lit< tt))
 
 module _ (n : ℕ) (k κ ω x y d : List ℕ) (s : Solvable n k κ ω) (h : HandedDown 0 n k κ ω x y) (u : Climbed n k κ ω x y d) where
   -- the shift of a level in units
@@ -91,9 +90,9 @@ module _ (n : ℕ) (k κ ω x y d : List ℕ) (s : Solvable n k κ ω) (h : Hand
 
     low : (i : ℕ) → i < n → negℚ (natℚ (651381 * stiffnessScale)) ≤ℚ G i
     low i l =
-        let step = step-at n k κ ω x y s i l (record { top-stiffness = h .top-stiffness; top-load = h .top-load; stiffness = λ j b. h .stiffness j (omega arith); load = λ j b. h .load j (omega arith) }) in
+        let range = in-range n k κ ω x y s i l (later 0 (suc i) n k κ ω x y (omega arith) h) in
         less (natℚ (divisor (getD k i 0) (getD κ i 0) (getD x (suc i) 0))) (G i)
-        (nat-le (divisor (getD k i 0) (getD κ i 0) (getD x (suc i) 0)) (651380 * stiffnessScale) (omega (arith, step .high, step .held, step .above)))
+        (nat-q (divisor (getD k i 0) (getD κ i 0) (getD x (suc i) 0)) (651380 * stiffnessScale) (omega (arith, range .high, range .held, range .above)))
         (rw (← (spring i l), ← (u .shifts i l)) at (balance-low (getD k i 0) (getD κ i 0) (getD ω i 0) (getD x (suc i) 0) (getD y (suc i) 0) (getD d i 0) (omega (arith, s .springs i l)) (force (springs ts) units (suc i)) (springs ts (suc i)) (handed-up i l)))
       where
         less : (c g : ℚ) → c ≤ℚ natℚ (651380 * stiffnessScale) → negℚ (c +ℚ S) ≤ℚ g → negℚ (natℚ (651381 * stiffnessScale)) ≤ℚ g
@@ -109,7 +108,7 @@ module _ (n : ℕ) (k κ ω x y d : List ℕ) (s : Solvable n k κ ω) (h : Hand
     soft j = go (decLe (suc j) n)
       where
         go : Dec (suc j ≤ n) → springs ts j ≤ℚ natℚ 15690
-        go (yes l) = subst (λ z. z ≤ℚ natℚ 15690) (sym (spring j l)) (nat-le (getD k j 0) 15690 (s .springs j l .1))
+        go (yes l) = subst (λ z. z ≤ℚ natℚ 15690) (sym (spring j l)) (nat-q (getD k j 0) 15690 (s .springs j l .1))
         go (no l) = subst (λ z. z ≤ℚ natℚ 15690) (sym (no-spring ts j (omega (arith, near .tiers)))) (nn-int 15690)
 
     abbrev f : ℕ → ℚ
@@ -123,9 +122,9 @@ module _ (n : ℕ) (k κ ω x y d : List ℕ) (s : Solvable n k κ ω) (h : Hand
         let oq = natℚ (getD ω i 0) in
         times-abs (natℚ (2 ^ 50)) (load (springs ts) (lashes ls) f i -ℚ loads ts i) (natℚ most)
         (up (natℚ (2 ^ 50) *ℚ (load (springs ts) (lashes ls) f i -ℚ loads ts i)) (units (suc i)) L (high-law K L (lashes ls i) kq oq (loads ts i) (f i) (f (suc i)) (f (suc (suc i))) (units i) (units (suc i)) (units (suc (suc i))) (found-is d i) (found-is d (suc i)) (found-is d (suc (suc i))) (high i l) (subst (λ z. S *ℚ z ≤ℚ kq +ℚ natℚ 4) (mk-stiffness ls (suc i)) (rounded-high stiffnessScale 4 (getD κ i 0) (stiffnessAt ls (suc i)) (near .held i l))) (subst (λ z. oq ≤ℚ natℚ loadScale *ℚ z) (mk-load ts i) (rounded-low loadScale 4 (getD ω i 0) (loadAt ts i) (near .loaded i l))) (nn-int (getD d (suc i) 0)))
-        (nat-le (getD d (suc i) 0) (2 ^ 40) (far-at n k κ ω x y s h n d u (suc i) l (omega arith))) (soft (suc i)))
-        (≤-trans (natℚ (2 ^ 50) *ℚ negℚ (load (springs ts) (lashes ls) f i -ℚ loads ts i)) (natℚ (651385 * stiffnessScale)) (natℚ most) (low-law K L (lashes ls i) kq oq (loads ts i) (f i) (f (suc i)) (f (suc (suc i))) (units i) (units (suc i)) (units (suc (suc i))) (found-is d i) (found-is d (suc i)) (found-is d (suc (suc i))) (low i l) (subst (λ z. kq ≤ℚ S *ℚ z) (mk-stiffness ls (suc i)) (rounded-low stiffnessScale 4 (getD κ i 0) (stiffnessAt ls (suc i)) (near .held i l))) (subst (λ z. natℚ loadScale *ℚ z ≤ℚ oq +ℚ natℚ 4) (mk-load ts i) (rounded-high loadScale 4 (getD ω i 0) (loadAt ts i) (near .loaded i l))) (nn-int (getD d (suc i) 0)))
-        (nat-le (651385 * stiffnessScale) most (omega arith)))
+        (nat-q (getD d (suc i) 0) (2 ^ 40) (far-at n k κ ω x y s h n d u (suc i) l (omega arith))) (soft (suc i)))
+        (≤ℚ-trans (natℚ (2 ^ 50) *ℚ negℚ (load (springs ts) (lashes ls) f i -ℚ loads ts i)) (natℚ (651385 * stiffnessScale)) (natℚ most) (low-law K L (lashes ls i) kq oq (loads ts i) (f i) (f (suc i)) (f (suc (suc i))) (units i) (units (suc i)) (units (suc (suc i))) (found-is d i) (found-is d (suc i)) (found-is d (suc (suc i))) (low i l) (subst (λ z. kq ≤ℚ S *ℚ z) (mk-stiffness ls (suc i)) (rounded-low stiffnessScale 4 (getD κ i 0) (stiffnessAt ls (suc i)) (near .held i l))) (subst (λ z. natℚ loadScale *ℚ z ≤ℚ oq +ℚ natℚ 4) (mk-load ts i) (rounded-high loadScale 4 (getD ω i 0) (loadAt ts i) (near .loaded i l))) (nn-int (getD d (suc i) 0)))
+        (nat-q (651385 * stiffnessScale) most (omega arith)))
       where
         up : (a d L : ℚ) → a ≤ℚ natℚ 5 *ℚ d +ℚ S *ℚ L → d ≤ℚ natℚ (2 ^ 40) → L ≤ℚ natℚ 15690 → a ≤ℚ natℚ most
         up = ∀₃ ℚR _ λ ρ. simp qq λ h a b. by-cert (to h ⊞ num 5 ⊠ to a ⊞ num stiffnessScale ⊠ to b) tt
@@ -147,10 +146,10 @@ module _ (n : ℕ) (k κ ω x y d : List ℕ) (s : Solvable n k κ ω) (h : Hand
         more = ∀₃ ℚR _ λ ρ. simp qq λ h l. by-cert (to h ⊞ to l) tt
 
     outs-small : sumℚ size (numbers 0 (length ts)) ≤ℚ mk lashError
-    outs-small = rw (error-is) (go (sumℚ size (numbers 0 (length ts))) (natℚ (length ts)) (recipℚ (natℚ 100)) (outs-at 0 (length ts) (omega (arith, near .tiers))) (nat-le (length ts) 10 (omega (arith, near .tiers, s .few))) hundredth)
+    outs-small = rw (error-is) (go (sumℚ size (numbers 0 (length ts))) (natℚ (length ts)) (recipℚ (natℚ 100)) (outs-at 0 (length ts) (omega (arith, near .tiers))) (nat-q (length ts) 10 (omega (arith, near .tiers, s .few))) hundredth)
       where
         hundredth : natℚ 100 *ℚ recipℚ (natℚ 100) ≡ natℚ 1
-        hundredth = recip-times (natℚ 100) (simp toℚ at (of-⊏ (nat 0) (nat 100) (record { cross = record { lt = tt } })))
+        hundredth = recip-times (natℚ 100) (above-0 100 (lit< tt))
 
         error-is : mk lashError ≡ natℚ 5 *ℚ recipℚ (natℚ 100)
         error-is = simp toℚ
@@ -169,7 +168,7 @@ module _ (n : ℕ) (k κ ω x y d : List ℕ) (s : Solvable n k κ ω) (h : Hand
     near-lashes =
         to-⊑ (sumq (λ l. l .stiffness *q absq (found d (l .level) -q shift Ds (l .level))) ls) lashError
         (rw (mk-errors ls (found d) (shift Ds))
-        (≤-trans (sumℚ (λ l. mk (l .stiffness) *ℚ absℚ (mk (found d (l .level)) -ℚ shifts Ds (l .level))) ls) (sumℚ (size ts ls near) (numbers 0 (length ts))) (mk lashError)
+        (≤ℚ-trans (sumℚ (λ l. mk (l .stiffness) *ℚ absℚ (mk (found d (l .level)) -ℚ shifts Ds (l .level))) ls) (sumℚ (size ts ls near) (numbers 0 (length ts))) (mk lashError)
         (lash-errors ts ls Ds (near .stiff) sol (λ j. mk (found d j)) (found-none 0 (u .deck)) (λ j b. found-none j (u .over j (omega (arith, near .tiers)))))
         (outs-small ts ls near)))
 
@@ -177,7 +176,7 @@ module _ (n : ℕ) (k κ ω x y d : List ℕ) (s : Solvable n k κ ω) (h : Hand
     near-rackings i b =
         to-⊑ (absq (tierAt ts i .K *q (found d (suc i) -q found d i) -q racking ts Ds i)) rackingError
         (rw (one (tierAt ts i .K) (found d (suc i)) (found d i) (racking ts Ds i), mk-racking ts Ds i)
-        (≤-trans (absℚ (force (springs ts) (λ j. mk (found d j)) i -ℚ force (springs ts) (shifts Ds) i)) (sumℚ (size ts ls near) (numbers 0 (length ts))) (mk rackingError)
+        (≤ℚ-trans (absℚ (force (springs ts) (λ j. mk (found d j)) i -ℚ force (springs ts) (shifts Ds) i)) (sumℚ (size ts ls near) (numbers 0 (length ts))) (mk rackingError)
         (racking-errors ts ls Ds (near .stiff) sol (λ j. mk (found d j)) (found-none 0 (u .deck)) i (omega (arith, near .tiers)))
         (outs-small ts ls near)))
       where

@@ -8,3 +8,4 @@ pub mod Stability
 pub mod Ranges
 pub mod Residuals
 pub mod Kept
+pub mod Loops

@@ -8,7 +8,7 @@ use native.Mathlib.Omega.{arith}
 use native.Mathlib.Decide.{decLe}
 use lib.ListN.{getD}
 use Rattle.springs.specs.Promise.{stiffnessScale, Solvable}
-use Rattle.springs.specs.Steps.{divisor, stiffnessDown, loadDown, shiftUp, Step, HandedDown, Climbed}
+use Rattle.springs.specs.Steps.{divisor, stiffnessDown, loadDown, shiftUp, InRange, mostLoad, HandedDown, Climbed}
 
 pub quotient-le : (x c b : ℕ) → 0 < c → x ≤ b * c → x / c ≤ b
 quotient-le x c b p h = le-of-mul-le-mul-right (omega (arith, div-add-mod' x c)) p
@@ -45,6 +45,20 @@ shift-le k κ ω x y p h = go (ω + y) (shiftUp k κ ω x y p) (omega (arith, di
         by-cases (yes l) = omega arith
         by-cases (no l) = omega (arith, mul-le-mul-right (q - p) h, split q (omega arith))
 
+-- what a step scales by 2^22 is at most 2^28 times its divisor, and the divisor is below 2^42
+module _ (k κ x : ℕ) (r : InRange k κ x) where
+  pub scalable : (a : ℕ) → a / divisor k κ x ≤ 2 ^ 28 → (0 < divisor k κ x) × (divisor k κ x * stiffnessScale < 2 ^ 64) × ((a / divisor k κ x + 1) * stiffnessScale < 2 ^ 64)
+  scalable a h = (omega (arith, r .low), omega (arith, r .high, r .held, r .above), omega arith)
+
+  pub stiffness-fits : k * (κ + x) / divisor k κ x ≤ 2 ^ 28
+  stiffness-fits = quotient-le (k * (κ + x)) (divisor k κ x) (2 ^ 28) (omega (arith, r .low)) (omega (arith, mul-le-mul-right (κ + x) (r .high)))
+
+  pub load-fits : (a : ℕ) → a ≤ mostLoad → k * a / divisor k κ x ≤ 2 ^ 28
+  load-fits a h = quotient-le (k * a) (divisor k κ x) (2 ^ 28) (omega (arith, r .low)) (omega (arith, mul-le-mul-left k h))
+
+  pub shift-fits : (a p : ℕ) → a ≤ mostLoad → p ≤ 2 ^ 40 → (a + k * p) / divisor k κ x ≤ 2 ^ 28
+  shift-fits a p h l = quotient-le (a + k * p) (divisor k κ x) (2 ^ 28) (omega (arith, r .low)) (omega (arith, mul-le-mul-left k l, r .low))
+
 -- 1 + 2 + .. + m
 abbrev triangle : ℕ → ℕ
 triangle zero = 0
@@ -60,6 +74,10 @@ triangle-le n h = omega (arith, twice n, mul-le-mul h h)
     twice zero = refl
     twice (suc m) = step m (suc m) (triangle m) (sym (add-one m)) (twice m)
 
+-- what is known from level i up is known from any level over it
+pub later : (i j n : ℕ) (k κ ω x y : List ℕ) → i ≤ j → HandedDown i n k κ ω x y → HandedDown j n k κ ω x y
+later i j n k κ ω x y l h = record { top-stiffness = h .top-stiffness; top-load = h .top-load; stiffness = λ m b. h .stiffness m (omega arith); load = λ m b. h .load m (omega arith) }
+
 module _ (n : ℕ) (k κ ω x y : List ℕ) (s : Solvable n k κ ω) where
   -- what is handed down to level j
   stiffness-at : (i j : ℕ) → HandedDown i n k κ ω x y → i ≤ j → j ≤ n → getD x j 0 ≤ 15690 * stiffnessScale
@@ -74,15 +92,13 @@ module _ (n : ℕ) (k κ ω x y : List ℕ) (s : Solvable n k κ ω) where
   load-at i j (suc m) h l e =
       omega (arith, h .load j l (omega arith), load-le (getD k j 0) (getD κ j 0) (getD ω j 0) (getD x (suc j) 0) (getD y (suc j) 0) (omega (arith, s .springs j (omega arith))), s .loaded j (omega arith), load-at i (suc j) m h (omega arith) (omega arith), add-one m)
 
-  -- a step at tier j + 1 is in range, once what is handed down to the level over it is known
-  pub step-at : (j : ℕ) → j < n → HandedDown (suc j) n k κ ω x y → Step (getD k j 0) (getD κ j 0) (getD ω j 0) (getD x (suc j) 0) (getD y (suc j) 0)
-  step-at j l h = record {
-    low = s .springs j l .0;
-    high = s .springs j l .1;
-    held = s .held j l;
-    above = stiffness-at (suc j) (suc j) h (omega arith) l;
-    load = omega (arith, s .loaded j l, load-at (suc j) (suc j) (n - suc j) h (omega arith) (omega arith), s .few);
-  }
+  -- a step at tier j + 1 is in range, once it is known what is handed down to the level over it
+  module _ (j : ℕ) (l : j < n) (h : HandedDown (suc j) n k κ ω x y) where
+    pub in-range : InRange (getD k j 0) (getD κ j 0) (getD x (suc j) 0)
+    in-range = record { low = s .springs j l .0; high = s .springs j l .1; held = s .held j l; above = stiffness-at (suc j) (suc j) h (omega arith) l }
+
+    pub load-in-range : getD ω j 0 + getD y (suc j) 0 ≤ mostLoad
+    load-in-range = omega (arith, s .loaded j l, load-at (suc j) (suc j) (n - suc j) h (omega arith) (omega arith), s .few)
 
   module _ (h : HandedDown 0 n k κ ω x y) (c : ℕ) (d : List ℕ) (u : Climbed c k κ ω x y d) where
     climb : (j m : ℕ) → j ≤ c → j + m ≡ n → 3730 * getD d j 0 + triangle m * 2 ^ 46 ≤ triangle n * 2 ^ 46
