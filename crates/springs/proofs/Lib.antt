@@ -9,3 +9,4 @@ pub mod Ranges
 pub mod Residuals
 pub mod Kept
 pub mod Loops
+pub mod Examples

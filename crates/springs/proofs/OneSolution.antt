@@ -8,13 +8,13 @@ use lib.IntN.{ℤ, pos}
 use lib.ListN.{length, getD}
 use Rattle.arith.specs.Fractions.{Frac, nat, _+q_, _-q_, _*q_, _/q_, _≈_, recip}
 use Rattle.arith.proofs.Rationals.{ℚ, mk, int, _+ℚ_, _-ℚ_, _*ℚ_, _/ℚ_, recipℚ}
-use Rattle.arith.proofs.FractionLaws.{≈-refl, ⊑-refl, ⊑-antisym}
-use Rattle.arith.proofs.FractionsInRationals.{mk-int, mk-add, mk-mul, mk-div}
-use Rattle.springs.specs.Equations.{Tier, Lash, tierAt, shift, Solves, Stiff, Agree}
+use Rattle.arith.proofs.FractionLaws.{≈-refl, ⊑-refl, ⊑-antisym, *q-cong-r}
+use Rattle.arith.proofs.FractionsInRationals.{mk-int, mk-add, mk-mul, mk-div, of-≈, to-≈}
+use Rattle.springs.specs.Equations.{Tier, Lash, tierAt, shift, athwart, racking, Solves, Stiff, Agree}
 use Rattle.springs.specs.Promise.{stiffnessAt, loadAt}
 use Rattle.springs.proofs.Chain.{numbers, load-same}
 use Rattle.springs.proofs.Elimination as E
-use Rattle.springs.proofs.Levels.{springs, lashes, loads, shifts, mk-stiffness, mk-load, no-spring, spring-pos, spring-nn, lashes-nn, solves}
+use Rattle.springs.proofs.Levels.{springs, lashes, loads, shifts, mk-stiffness, mk-load, mk-racking, no-spring, spring-pos, spring-nn, lashes-nn, solves}
 use Rattle.springs.proofs.Growth.{Heavier, growth}
 
 -- elimination from the top down: what m tiers from tier i + 1 on, with the lashes over them, hand down to level i, stiffness and load
@@ -112,3 +112,12 @@ unique ts ls Ds Es s d e = record {
   where
     self : Heavier ts ts
     self = record { tiers = refl; springs = λ i h. ≈-refl (tierAt ts i .K); loads = λ i h. ⊑-refl (loadAt ts i) }
+
+-- where two lists of shifts agree, so do the rackings and the athwart parts
+pub same-racking : (ts : List Tier) (Ds Es : List Frac) → Agree Ds Es → (i : ℕ) → racking ts Ds i ≈ racking ts Es i
+same-racking ts Ds Es a i =
+    to-≈ (racking ts Ds i) (racking ts Es i)
+    (mk-racking ts Ds i ∙ ap₂ (λ x y. springs ts i *ℚ (x -ℚ y)) (of-≈ (shift Ds (suc i)) (shift Es (suc i)) (a .same (suc i))) (of-≈ (shift Ds i) (shift Es i) (a .same i)) ∙ sym (mk-racking ts Es i))
+
+pub same-athwart : (Ds Es : List Frac) → Agree Ds Es → (l : Lash) → athwart Ds l ≈ athwart Es l
+same-athwart Ds Es a l = *q-cong-r (shift Ds (l .level)) (shift Es (l .level)) (l .stiffness) (a .same (l .level))

@@ -76,8 +76,9 @@ fn climb(
     let mut d = [0u64; 11];
     let mut i = 0;
     while i < n {
-        d[i + 1] = shift_up(k[i], kappa[i], omega[i], x[i + 1], y[i + 1], d[i]);
-        i += 1;
+        let j = i + 1;
+        d[j] = shift_up(k[i], kappa[i], omega[i], x[j], y[j], d[i]);
+        i = j;
     }
     d
 }

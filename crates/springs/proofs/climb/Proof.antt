@@ -18,6 +18,9 @@ abbrev μ-loop : tie.MeasureT-loop
 loop-holds : tie.Need-loop-holds Inv-loop μ-loop
 loop-holds c = let g = c .args in up-start (g .n) (g .t2) (g .t3) (g .t4) (g .t5) (g .t6)
 
+add-j : tie.Need-add-j Inv-loop μ-loop
+add-j c = search needs
+
 mul-shift-up : tie.Need-mul-shift-up Inv-loop μ-loop
 mul-shift-up c = search needs
 
@@ -36,17 +39,11 @@ mul-shift-up-3 c = search needs
 array-read-shift-up-3 : tie.Need-array-read-shift-up-3 Inv-loop μ-loop
 array-read-shift-up-3 c = search needs
 
-add-shift-up : tie.Need-add-shift-up Inv-loop μ-loop
-add-shift-up c = search needs
-
 mul-shift-up-4 : tie.Need-mul-shift-up-4 Inv-loop μ-loop
 mul-shift-up-4 c = search needs
 
 array-read-shift-up-4 : tie.Need-array-read-shift-up-4 Inv-loop μ-loop
 array-read-shift-up-4 c = search needs
-
-add-shift-up-2 : tie.Need-add-shift-up-2 Inv-loop μ-loop
-add-shift-up-2 c = search needs
 
 mul-shift-up-5 : tie.Need-mul-shift-up-5 Inv-loop μ-loop
 mul-shift-up-5 c = search needs
@@ -63,17 +60,11 @@ array-read-shift-up-6 c = search needs
 shift-up-requires : tie.Need-shift-up-requires Inv-loop μ-loop
 shift-up-requires c κs = let b = c .before .before in let l = c .before .loop in let g = b .args in up-ready (g .n) (g .t2) (g .t3) (g .t4) (g .t5) (g .t6) (l .d) (l .i) (l .i + 1) (add-one (l .i)) (c .loop-test .taken) (b .pre .0) (l .inv) (b .pre .1)
 
-add-d : tie.Need-add-d Inv-loop μ-loop
-add-d c = search needs
-
 mul-d : tie.Need-mul-d Inv-loop μ-loop
 mul-d c = search needs
 
 array-write-d : tie.Need-array-write-d Inv-loop μ-loop
 array-write-d c = search needs
-
-add-i : tie.Need-add-i Inv-loop μ-loop
-add-i c = search needs
 
 loop-less : tie.Need-loop-less Inv-loop μ-loop
 loop-less c = search needs
@@ -91,25 +82,22 @@ climb-spec =
     Inv-loop
     μ-loop
     loop-holds
+    add-j
     mul-shift-up
     array-read-shift-up
     mul-shift-up-2
     array-read-shift-up-2
     mul-shift-up-3
     array-read-shift-up-3
-    add-shift-up
     mul-shift-up-4
     array-read-shift-up-4
-    add-shift-up-2
     mul-shift-up-5
     array-read-shift-up-5
     mul-shift-up-6
     array-read-shift-up-6
     shift-up-requires
-    add-d
     mul-d
     array-write-d
-    add-i
     loop-less
     loop-again
     returns)
