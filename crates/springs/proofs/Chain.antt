@@ -8,9 +8,9 @@ use native.Mathlib.Nat.{zero-add, add-suc, suc-add}
 use native.Mathlib.Omega.{arith}
 use native.Mathlib.Decide.{decLe}
 use lib.Dec.{T}
-use lib.IntN.{ℤ, pos, negsuc}
-use Rattle.arith.proofs.Polynomials.{v, kp, kn, _⊕_, _⊖_, _⊗_, ⊖_}
-use Rattle.arith.proofs.Rings.{∀₁, ∀₂, ∀₃, ∀₄, ∀₅, ∀₆, ∀₇, ∀₈, ∀₉, ∀₁₁, by-ring, by-cert, by-eqs, to, times, mul-eq, num, _⊞_, _⊠_, _⊹_}
+use lib.IntN.{pos}
+use Rattle.arith.proofs.Polynomials.{v, kp}
+use Rattle.arith.proofs.Rings.{∀₁, ∀₂, ∀₃, ∀₆, ∀₇, ∀₈, ∀₉, ∀₁₁, by-ring, by-cert, to, times, num, _⊞_, _⊠_}
 use Rattle.arith.proofs.Rationals.{ℚR, ℚ, int, _+ℚ_, _-ℚ_, _*ℚ_, negℚ, _≤ℚ_, leℚ, flip, absℚ, plus-zero, plus-assoc, nn-int, nn-plus}
 use Rattle.arith.proofs.RationalTerms.{qq}
 use Rattle.arith.proofs.Signs.{absℚ-le, sgq, nn-q, ge-q, ge-neg-q, hit-q, low-q}

@@ -1,12 +1,11 @@
--- The chain's equations over ℚ solved by elimination from the top down: a solution exists, under loads not below 0 no level of one is below 0, and one
--- under loads no smaller is no smaller.
+-- The chain's equations over ℚ, solved by elimination from the top down: there is a solution; under loads not below 0 no shift is below 0; under loads
+-- no smaller no shift is smaller.
 use mathlib.Core.Path.{_≡_, refl, sym, ap, ap₂, subst, _∙_}
-use Prim.Native.Nat.{ℕ, zero, suc, _+_, _-_, _<_, _≤_}
+use Prim.Native.Nat.{ℕ, zero, suc, _+_, _-_, _<_}
 use native.Mathlib.Omega.{arith}
-use lib.IntN.{ℤ, pos, negsuc}
-use Rattle.arith.proofs.Polynomials.{v, kp, kn, _⊕_, _⊖_, _⊗_, ⊖_}
-use Rattle.arith.proofs.Rings.{∀₁, ∀₂, ∀₃, ∀₄, ∀₅, ∀₆, ∀₇, ∀₈, by-ring, by-cert, by-eqs, to, times, mul-eq, num, _⊞_, _⊠_, _⊹_}
-use Rattle.arith.proofs.Rationals.{ℚR, ℚ, int, _+ℚ_, _-ℚ_, _*ℚ_, negℚ, recipℚ, _≤ℚ_, _<ℚ_, recip-times, recip-nn, nn-int, nn-plus, nn-times, to-nn, of-nn}
+use Rattle.arith.proofs.Polynomials.{v, _⊕_, _⊖_, _⊗_, ⊖_}
+use Rattle.arith.proofs.Rings.{∀₂, ∀₅, ∀₇, ∀₈, by-ring, by-cert, by-eqs, to, mul-eq, _⊞_, _⊹_}
+use Rattle.arith.proofs.Rationals.{ℚR, ℚ, _+ℚ_, _-ℚ_, _*ℚ_, recipℚ, _≤ℚ_, _<ℚ_, recip-times, recip-nn, nn-int, nn-plus, nn-times, to-nn, of-nn}
 use Rattle.arith.proofs.RationalTerms.{qq}
 use Rattle.arith.proofs.RationalOrder.{lt-of, lt-not}
 use Rattle.springs.proofs.Chain.{natℚ, force, load, load-minus}

@@ -1,28 +1,29 @@
 -- The promise kept: shifts that come about by the solver's steps are as near to the exact ones as specs/Promise says.
-use mathlib.Core.Path.{_≡_, refl, sym, ap, ap₂, subst, fun-ext, _∙_}
-use mathlib.Core.Bool.{Bool, true, false, cond}
-use mathlib.Core.List.{List, [], _∷_}
+use mathlib.Core.Path.{_≡_, refl, sym, ap, ap₂, subst, _∙_}
+use mathlib.Core.Bool.{cond}
+use mathlib.Core.List.{List}
 use Prim.Native.Nat.{ℕ, zero, suc, _+_, _*_, _-_, _≤_, _<_, _^_}
 use native.Mathlib.Numerals.{add-one}
 use native.Mathlib.Omega.{arith}
 use native.Mathlib.Decide.{decLe}
 use lib.Dec.{lit<}
-use lib.IntN.{ℤ, pos, negsuc}
+use lib.IntN.{pos}
 use lib.ListN.{length, getD}
-use Rattle.arith.specs.Fractions.{Frac, nat, _+q_, _-q_, _*q_, _/q_, absq, sumq, _⊑_}
-use Rattle.arith.proofs.Polynomials.{v, kp, kn, _⊕_, _⊖_, _⊗_, ⊖_}
-use Rattle.arith.proofs.Rings.{∀₁, ∀₂, ∀₃, ∀₄, ∀₁₂, by-ring, by-cert, part, to, times, num, _⊞_, _⊠_}
-use Rattle.arith.proofs.Rationals.{ℚR, ℚ, mk, int, _+ℚ_, _-ℚ_, _*ℚ_, negℚ, _/ℚ_, recipℚ, absℚ, _≤ℚ_, nn-int, int-plus, int-times, recip-times, of-⊑, to-⊑}
+use Rattle.arith.specs.Fractions.{Frac, nat, _-q_, _*q_, _/q_, absq, sumq, _⊑_}
+use Rattle.arith.proofs.Polynomials.{v, kp, _⊕_, _⊖_, _⊗_, ⊖_}
+use Rattle.arith.proofs.Rings.{∀₁, ∀₂, ∀₃, ∀₁₂, by-ring, by-cert, part, to, times, num, _⊞_, _⊠_}
+use Rattle.arith.proofs.Rationals.{ℚR, ℚ, mk, _+ℚ_, _-ℚ_, _*ℚ_, negℚ, _/ℚ_, recipℚ, absℚ, _≤ℚ_, nn-int, int-plus, recip-times, to-⊑}
 use Rattle.arith.proofs.RationalTerms.{qq}
 use Rattle.arith.proofs.Signs.{on}
 use Rattle.arith.proofs.RationalOrder.{≤ℚ-trans, nat-q, above-0, div-times}
-use Rattle.arith.proofs.FractionsInRationals.{sumℚ, mk-int, mk-div, mk-abs, mk-sub, mk-mul, of-≈, toℚ}
-use Rattle.springs.specs.Equations.{Tier, Lash, tierAt, shift, racking, Solves, Stiff}
-use Rattle.springs.specs.Promise.{stiffnessScale, loadScale, shiftScale, stiffnessAt, loadAt, Rounded, Near, found, Solvable, lashError, rackingError, Promised}
+use Rattle.arith.proofs.FractionsInRationals.{sumℚ, mk-int, mk-div, of-≈, toℚ}
+use Rattle.springs.specs.Equations.{Tier, Lash, tierAt, shift, racking, Solves}
+use Rattle.springs.specs.Promise.{stiffnessScale, loadScale, shiftScale, stiffnessAt, loadAt, Near, found, Solvable, errorHundredths, lashError, rackingError, Promised}
 use Rattle.springs.specs.Steps.{divisor, shiftUp, HandedDown, Climbed}
 use Rattle.springs.proofs.Chain.{natℚ, numbers, force, load}
 use Rattle.springs.proofs.Levels.{springs, lashes, loads, shifts, mk-stiffness, mk-load, mk-racking, no-spring}
 use Rattle.springs.proofs.Stability.{lash-errors, racking-errors, mk-errors}
+use Rattle.springs.proofs.Inputs.{rounded-low, rounded-high}
 use Rattle.springs.proofs.Ranges.{later, in-range, far-at}
 use Rattle.springs.proofs.Residuals.{Handed, handed, handed-none, balance-low, balance-high}
 
@@ -45,12 +46,6 @@ low-law = ∀₁₂ ℚR _ λ ρ. simp qq λ e0 e1 e2 g hk hq hd. by-cert (to g 
 -- what a level may be out of balance by, in 2^-50 N: 0.00495 N
 abbrev most : ℕ
 most = 5 * 2 ^ 40 + 15690 * stiffnessScale
-
-rounded-low : (scale slack x : ℕ) (y : Frac) → Rounded scale slack x y → natℚ x ≤ℚ natℚ scale *ℚ mk y
-rounded-low scale slack x y r = simp toℚ at (of-⊑ (nat x) (nat scale *q y) (r .low))
-
-rounded-high : (scale slack x : ℕ) (y : Frac) → Rounded scale slack x y → natℚ scale *ℚ mk y ≤ℚ natℚ x +ℚ natℚ slack
-rounded-high scale slack x y r = subst (λ z. natℚ scale *ℚ mk y ≤ℚ z) (int-plus (pos x) (pos slack)) (simp toℚ at (of-⊑ (nat scale *q y) (nat (x + slack)) (r .high)))
 
 -- the shift found, in mm
 found-is : (d : List ℕ) (j : ℕ) → natℚ shiftScale *ℚ mk (found d j) ≡ natℚ (getD d j 0)
@@ -151,11 +146,11 @@ module _ (n : ℕ) (k κ ω x y d : List ℕ) (s : Solvable n k κ ω) (h : Hand
         hundredth : natℚ 100 *ℚ recipℚ (natℚ 100) ≡ natℚ 1
         hundredth = recip-times (natℚ 100) (above-0 100 (lit< tt))
 
-        error-is : mk lashError ≡ natℚ 5 *ℚ recipℚ (natℚ 100)
+        error-is : mk lashError ≡ natℚ errorHundredths *ℚ recipℚ (natℚ 100)
         error-is = simp toℚ
 
-        go : (a m r : ℚ) → natℚ (2 ^ 50) *ℚ a ≤ℚ m *ℚ natℚ most → m ≤ℚ natℚ 10 → natℚ 100 *ℚ r ≡ natℚ 1 → a ≤ℚ natℚ 5 *ℚ r
-        go = ∀₃ ℚR _ λ ρ. simp qq λ h l e. part (100 * 2 ^ 50 - 1) (num 100 ⊠ to h ⊞ num (100 * most) ⊠ to l ⊞ times (kp (5 * 2 ^ 50)) e) tt
+        go : (a m r : ℚ) → natℚ (2 ^ 50) *ℚ a ≤ℚ m *ℚ natℚ most → m ≤ℚ natℚ 10 → natℚ 100 *ℚ r ≡ natℚ 1 → a ≤ℚ natℚ errorHundredths *ℚ r
+        go = ∀₃ ℚR _ λ ρ. simp qq λ h l e. part (100 * 2 ^ 50 - 1) (num 100 ⊠ to h ⊞ num (100 * most) ⊠ to l ⊞ times (kp (errorHundredths * 2 ^ 50)) e) tt
 
   found-none : (j : ℕ) → getD d j 0 ≡ 0 → mk (found d j) ≡ natℚ 0
   found-none j z = ap (λ (a : ℕ). mk (nat a /q nat shiftScale)) z ∙ mk-div (nat 0) (nat shiftScale) ∙ ap (λ a. a /ℚ mk (nat shiftScale)) (mk-int (pos 0)) ∙ go (recipℚ (mk (nat shiftScale)))

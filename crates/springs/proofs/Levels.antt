@@ -1,22 +1,22 @@
 -- Document 01's equations of an end, in fractions and per tier and lash, are the balance of a chain over ℚ, level by level.
 use mathlib.Core.Path.{_≡_, refl, sym, ap, ap₂, subst, fun-ext, _∙_}
 use mathlib.Core.Bool.{Bool, true, false}
-use mathlib.Core.List.{List, [], _∷_}
+use mathlib.Core.List.{List}
 use Prim.Native.Nat.{ℕ, zero, suc, _+_, _-_, _<_, _≤_}
 use native.Mathlib.Omega.{arith}
 use native.Mathlib.Decide.{decLe}
 use lib.Dec.{leb, eqb}
-use lib.IntN.{ℤ, pos}
+use lib.IntN.{pos}
 use lib.ListN.{length, getD, List·getD-eq-default}
-use Rattle.arith.specs.Fractions.{Frac, nat, _+q_, _-q_, _*q_, _≈_, _⊑_, _⊏_, sumq}
-use Rattle.arith.proofs.Rings.{∀₁, ∀₂, ∀₃, ∀₈, by-ring, by-eqs, mul-eq, _⊹_}
-use Rattle.arith.proofs.Polynomials.{v, kp, kn, _⊕_, _⊖_, _⊗_, ⊖_}
-use Rattle.arith.proofs.Rationals.{ℚR, ℚ, mk, int, _+ℚ_, _-ℚ_, _*ℚ_, _≤ℚ_, _<ℚ_, <→≤, nn-int, nn-plus}
+use Rattle.arith.specs.Fractions.{Frac, nat, _-q_}
+use Rattle.arith.proofs.Rings.{∀₁, ∀₈, by-ring, by-eqs, mul-eq, _⊹_}
+use Rattle.arith.proofs.Polynomials.{kp, kn}
+use Rattle.arith.proofs.Rationals.{ℚR, ℚ, mk, _+ℚ_, _-ℚ_, _*ℚ_, _≤ℚ_, _<ℚ_, <→≤, nn-int}
 use Rattle.arith.proofs.RationalTerms.{qq}
-use Rattle.arith.proofs.FractionsInRationals.{sumℚ, mk-int, mk-add, mk-sub, mk-mul, mk-sum, of-≈, to-≈, of-⊏, toℚ}
+use Rattle.arith.proofs.FractionsInRationals.{sumℚ, mk-int, mk-sub, mk-mul, mk-sum, of-≈, to-≈, of-⊏, toℚ}
 use Rattle.springs.specs.Equations.{Tier, Lash, noTier, tierAt, shift, given, athwart, athwartFrom, racking, Solves, Stiff}
 use Rattle.springs.specs.Promise.{stiffnessAt, loadAt}
-use Rattle.springs.proofs.Chain.{natℚ, numbers, force, load}
+use Rattle.springs.proofs.Chain.{natℚ, force, load}
 use Rattle.springs.proofs.Lashes.{givenℚ, from, own, from-step, from-top, own-nn}
 
 -- the chain: the spring of each tier, the stiffness of each level's lashes, the load on each level, its shift

@@ -1,13 +1,13 @@
 -- One solution: for any tiers and lashes stiffer than zero the equations of an end have a solution, and any two agree at every level.
-use mathlib.Core.Path.{_≡_, refl, sym, ap, ap₂, subst, _∙_}
-use mathlib.Core.List.{List, [], _∷_, map}
+use mathlib.Core.Path.{_≡_, refl, sym, ap, ap₂, _∙_}
+use mathlib.Core.List.{List, map}
 use Prim.Native.Nat.{ℕ, zero, suc, _+_, _-_, _<_, _≤_}
 use native.Mathlib.Nat.{add-zero, add-suc, suc-add, zero-add, not-suc-le-zero}
 use native.Mathlib.Omega.{arith}
-use lib.IntN.{ℤ, pos}
+use lib.IntN.{pos}
 use lib.ListN.{length, getD}
-use Rattle.arith.specs.Fractions.{Frac, nat, _+q_, _-q_, _*q_, _/q_, _≈_, recip}
-use Rattle.arith.proofs.Rationals.{ℚ, mk, int, _+ℚ_, _-ℚ_, _*ℚ_, _/ℚ_, recipℚ}
+use Rattle.arith.specs.Fractions.{Frac, nat, _+q_, _*q_, _/q_, _≈_}
+use Rattle.arith.proofs.Rationals.{ℚ, mk, _+ℚ_, _-ℚ_, _*ℚ_, _/ℚ_}
 use Rattle.arith.proofs.FractionLaws.{≈-refl, ⊑-refl, ⊑-antisym, *q-cong-r}
 use Rattle.arith.proofs.FractionsInRationals.{mk-int, mk-add, mk-mul, mk-div, of-≈, to-≈}
 use Rattle.springs.specs.Equations.{Tier, Lash, tierAt, shift, athwart, racking, Solves, Stiff, Agree}

@@ -1,17 +1,12 @@
 -- How far the solver's rounded shifts leave each level out of balance, from the remainders of its divisions.
-use mathlib.Core.Path.{_≡_, refl, sym, ap, ap₂, subst, _∙_}
-use mathlib.Core.Bool.{Bool, true, false, cond}
-use mathlib.Core.List.{List}
-use Prim.Native.Nat.{ℕ, zero, suc, _+_, _*_, _/_, _%_, _-_, _≤_, _<_, _^_}
+use mathlib.Core.Path.{_≡_, sym, ap, subst, _∙_}
+use Prim.Native.Nat.{ℕ, _+_, _*_, _/_, _%_, _<_}
 use native.Mathlib.Nat.{div-add-mod', mod-lt}
 use native.Mathlib.Omega.{arith}
-use native.Mathlib.Decide.{decLe}
-use lib.Dec.{le→leb}
-use lib.IntN.{ℤ, pos, negsuc}
-use lib.ListN.{getD}
+use lib.IntN.{pos}
 use Rattle.arith.proofs.Polynomials.{v, kp, kn, _⊕_, _⊖_, _⊗_, ⊖_}
-use Rattle.arith.proofs.Rings.{∀₁, ∀₂, ∀₃, ∀₉, ∀₁₀, ∀₁₁, ∀₁₂, by-ring, by-cert, over, part, to, times, num, _⊞_, _⊠_}
-use Rattle.arith.proofs.Rationals.{ℚR, ℚ, int, _+ℚ_, _-ℚ_, _*ℚ_, negℚ, _≤ℚ_, nn-int, int-plus, int-times, one-pos}
+use Rattle.arith.proofs.Rings.{∀₂, ∀₁₀, by-cert, over, to, times, num, _⊞_, _⊠_}
+use Rattle.arith.proofs.Rationals.{ℚR, ℚ, _+ℚ_, _-ℚ_, _*ℚ_, negℚ, _≤ℚ_, nn-int, int-plus, int-times}
 use Rattle.arith.proofs.RationalTerms.{qq, q-int-add, q-int-mul}
 use Rattle.arith.proofs.RationalOrder.{lt-not, nat-q, above-0}
 use Rattle.springs.specs.Promise.{stiffnessScale}

@@ -1,11 +1,11 @@
 -- Document 01, "The springs": one end's equations, from stiffnesses and loads alone.
 use mathlib.Core.Bool.{Bool, true, false}
-use mathlib.Core.List.{List, [], _∷_}
+use mathlib.Core.List.{List}
 use mathlib.Core.Path.{_≡_}
 use Prim.Native.Nat.{ℕ, zero, suc, _<_}
 use lib.Dec.{leb}
 use lib.ListN.{length, getD}
-use Rattle.arith.specs.Fractions.{Frac, nat, _+q_, _-q_, _*q_, _≈_, _⊑_, _⊏_, sumq}
+use Rattle.arith.specs.Fractions.{Frac, nat, _-q_, _*q_, _≈_, _⊏_, sumq}
 
 -- a tier: its spring K, in N/mm, and its load Q, in N. Tiers stand bottom first: entry i is tier i + 1, between levels i and i + 1
 pub record Tier : Type 0 where

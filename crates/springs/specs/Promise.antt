@@ -1,10 +1,10 @@
 -- What the solver promises: how far its shifts, in whole numbers, may lie from the exact ones, for every exact chain near its inputs.
-use mathlib.Core.List.{List, [], _∷_}
+use mathlib.Core.List.{List}
 use mathlib.Core.Path.{_≡_}
-use Prim.Native.Nat.{ℕ, zero, suc, _+_, _*_, _<_, _≤_, _^_}
+use Prim.Native.Nat.{ℕ, suc, _+_, _*_, _<_, _≤_, _^_}
 use lib.Dec.{eqb}
 use lib.ListN.{length, getD}
-use Rattle.arith.specs.Fractions.{Frac, nat, _+q_, _-q_, _*q_, _/q_, absq, _≈_, _⊑_, sumq}
+use Rattle.arith.specs.Fractions.{Frac, nat, _-q_, _*q_, _/q_, absq, _≈_, _⊑_, sumq}
 use Rattle.springs.specs.Equations.{Tier, Lash, tierAt, shift, given, racking, Solves, Stiff}
 
 -- the scales: stiffnesses in 2^-22 N/mm, loads in 2^-28 N, shifts in 2^-28 mm
@@ -41,20 +41,23 @@ pub record Near (n : ℕ) (k κ ω : List ℕ) (ts : List Tier) (ls : List Lash)
 abbrev pub found : List ℕ → ℕ → Frac
 found d i = nat (getD d i 0) /q nat shiftScale
 
--- when the solver may be called: at most 10 tiers, springs of 3,730 to 15,690 N/mm; a level's lashes of at most 620,000 N/mm and its load
--- below 2^18 N, as document 01's limits have them (four lashes of 153,960 N/mm; 243,323 N)
+-- when the solver may be called: at most 10 tiers, springs of 3,730 to 15,690 N/mm; a level's lashes of at most 620,000 N/mm and its load of at
+-- most 2^18 N, as document 01's limits have them (four lashes of 153,960 N/mm; 243,323 N)
 pub record Solvable (n : ℕ) (k κ ω : List ℕ) : Type 0 where
   pub few : n ≤ 10
   pub springs : (i : ℕ) → i < n → (3730 ≤ getD k i 0) × (getD k i 0 ≤ 15690)
   pub held : (i : ℕ) → i < n → getD κ i 0 ≤ 620000 * stiffnessScale
   pub loaded : (i : ℕ) → i < n → getD ω i 0 ≤ 2 ^ 46
 
--- the two constants of the promise, in N: the sum of stiffness × shift error over the lashes, and the error of a tier's racking
+-- the constants of the promise, in N: the sum of stiffness × shift error over the lashes, and the error of a tier's racking. Both are 0.05
+abbrev pub errorHundredths : ℕ
+errorHundredths = 5
+
 abbrev pub lashError : Frac
-lashError = nat 5 /q nat 100
+lashError = nat errorHundredths /q nat 100
 
 abbrev pub rackingError : Frac
-rackingError = nat 5 /q nat 100
+rackingError = nat errorHundredths /q nat 100
 
 pub record Promised (n : ℕ) (k κ ω d : List ℕ) : Type 0 where
   pub deck : getD d 0 0 ≡ 0

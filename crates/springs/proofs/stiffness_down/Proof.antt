@@ -1,6 +1,6 @@
 -- `springs::stiffness_down` meets its contract: its product and its divisor are in range by Ranges.
-use Prim.Native.Nat.{_+_, _*_, _^_}
-use native.Mathlib.Nat.{mul-le-mul-left, mul-le-mul-right}
+use Prim.Native.Nat.{_+_, _*_}
+use native.Mathlib.Nat.{mul-le-mul-right}
 use native.Mathlib.Omega.{arith}
 use Rattle.springs.specs.Steps.{stiffnessDown}
 use Rattle.springs.proofs.Ranges.{scalable, stiffness-fits}
