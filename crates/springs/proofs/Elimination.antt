@@ -61,7 +61,7 @@ module _ (K k q : ℕ → ℚ) where
         go : (K b a p r : ℚ) → (K +ℚ b) *ℚ r ≡ natℚ 1 → K *ℚ ((a +ℚ K *ℚ p) *ℚ r -ℚ p) ≡ K *ℚ a *ℚ r -ℚ K *ℚ b *ℚ r *ℚ p
         go = ∀₅ ℚR _ λ ρ. simp qq λ e. by-eqs (mul-eq (v 0 ⊗ v 3) e) tt
 
-    -- ---- a solution exists
+    -- a solution exists
     solved-is : (i m : ℕ) → i + suc m ≡ n → solved n (suc i) ≡ lifted i m (solved n i)
     solved-is i m h = ap (λ (z : ℕ). lifted i z (solved n i)) {x = n - suc i} {y = m} (omega arith)
 
@@ -77,7 +77,7 @@ module _ (K k q : ℕ → ℚ) where
         go : (K k x q y p r : ℚ) → (K +ℚ (k +ℚ x)) *ℚ r ≡ natℚ 1 → K *ℚ ((q +ℚ y +ℚ K *ℚ p) *ℚ r -ℚ p) -ℚ (y -ℚ x *ℚ ((q +ℚ y +ℚ K *ℚ p) *ℚ r)) +ℚ k *ℚ ((q +ℚ y +ℚ K *ℚ p) *ℚ r) ≡ q
         go = ∀₇ ℚR _ λ ρ. simp qq λ e. by-eqs (mul-eq (v 3 ⊕ v 4 ⊕ v 0 ⊗ v 5) e) tt
 
-    -- ---- a solution is the one that elimination gives
+    -- a solution is the one that elimination gives
     module _ (D : ℕ → ℚ) (balance : (i : ℕ) → i < n → load K k D i ≡ q i) where
       lifts : (i m : ℕ) → i + suc m ≡ n → force K D (suc i) ≡ handed-load (suc i) m -ℚ handed-stiffness (suc i) m *ℚ D (suc i) → D (suc i) ≡ lifted i m (D i)
       lifts i m h f =
@@ -91,7 +91,7 @@ module _ (K k q : ℕ → ℚ) where
       handed i zero h = top-force D i h
       handed i (suc m) h = ap (λ z. K i *ℚ (z -ℚ D i)) (lifts i m h (handed (suc i) m (omega arith))) ∙ lifted-force i m h (D i)
 
-      -- ---- loads not below 0
+      -- loads not below 0
       module _ (pushed : (i : ℕ) → i < n → natℚ 0 ≤ℚ q i) (deck : D 0 ≡ natℚ 0) where
         handed-load-nn : (i m : ℕ) → i + m ≡ n → natℚ 0 ≤ℚ handed-load i m
         handed-load-nn i zero h = nn-int 0

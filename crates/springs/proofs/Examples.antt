@@ -3,16 +3,16 @@ use mathlib.Core.Path.{refl}
 use mathlib.Core.List.{List, [], _∷_}
 use Prim.Native.Nat.{ℕ, zero, suc, _<_}
 use native.Mathlib.Omega.{arith}
-use lib.ListN.{getD}
 use Rattle.arith.specs.Fractions.{Frac, nat, _+q_, _*q_, _/q_, recip, sumq, _≈_, _⊏_}
 use Rattle.arith.proofs.FractionLaws.{≈-trans, ≈⊑}
 use Rattle.arith.proofs.OrderedField.{⊑-⊏-trans}
-use Rattle.springs.specs.Equations.{Tier, Lash, tierAt, shift, racking, Solves, Stiff}
+use Rattle.springs.specs.Equations.{Tier, Lash, tierAt, lashAt, shift, racking, Solves, Stiff}
+use Rattle.springs.specs.Promise.{softest}
 use Rattle.springs.proofs.OneSolution.{handedStiffness, handedLoad, shiftOf, solution, exists, unique, same-racking}
 
 -- a tier at the door end, of a load Q
 abbrev door : Frac → Tier
-door Q = record { K = nat 3730; Q = Q }
+door Q = record { K = nat softest; Q = Q }
 
 -- rod S at a level
 abbrev rod : ℕ → Lash
@@ -43,7 +43,7 @@ two = door (share *q heavy +q light) ∷ door (share *q light) ∷ []
 abbrev rodTwo : List Lash
 rodTwo = rod 2 ∷ []
 
-stiff-rod : (i j : ℕ) → j < 1 → nat 0 ⊏ getD (rod i ∷ []) j (record { level = 0; stiffness = nat 0 }) .stiffness
+stiff-rod : (i j : ℕ) → j < 1 → nat 0 ⊏ lashAt (rod i ∷ []) j .stiffness
 stiff-rod i zero h = record { cross = record { lt = tt } }
 stiff-rod i (suc j) h = absurd (omega arith)
 

@@ -18,7 +18,7 @@ use Rattle.arith.proofs.Signs.{on}
 use Rattle.arith.proofs.RationalOrder.{≤ℚ-trans, nat-q, above-0, div-times}
 use Rattle.arith.proofs.FractionsInRationals.{sumℚ, mk-int, mk-div, of-≈, toℚ}
 use Rattle.springs.specs.Equations.{Tier, Lash, tierAt, shift, racking, Solves}
-use Rattle.springs.specs.Promise.{stiffnessScale, loadScale, shiftScale, stiffnessAt, loadAt, Near, found, Solvable, errorHundredths, lashError, rackingError, Promised}
+use Rattle.springs.specs.Promise.{stiffnessScale, stiffest, mostHeld, farthest, loadScale, shiftScale, stiffnessAt, loadAt, Near, found, Solvable, errorHundredths, lashError, rackingError, Promised}
 use Rattle.springs.specs.Steps.{divisor, shiftUp, HandedDown, Climbed}
 use Rattle.springs.proofs.Chain.{natℚ, numbers, force, load}
 use Rattle.springs.proofs.Levels.{springs, lashes, loads, shifts, mk-stiffness, mk-load, mk-racking, no-spring}
@@ -35,17 +35,21 @@ times-abs m x b h l = on x (λ c. m *ℚ cond c x (negℚ x) ≤ℚ b) (λ p. h)
 abbrev S : ℚ
 S = natℚ stiffnessScale
 
+-- the largest divisor: two springs, of the tier and what hands down, and a level's lashes
+abbrev widest : ℕ
+widest = 2 * stiffest * stiffnessScale + mostHeld
+
+-- what a level may be out of balance by, in 2^-50 N: less than 0.00495 N
+abbrev most : ℕ
+most = 5 * farthest + stiffest * stiffnessScale
+
 -- K and L the springs under and over a level, k its lashes and κ theirs as found, q its load and ω it as found; f₀ f₁ f₂ the shifts found under it, of it
 -- and over it, p d e the same in units
 high-law : (K L k κ ω q f₀ f₁ f₂ p d e : ℚ) → natℚ shiftScale *ℚ f₀ ≡ p → natℚ shiftScale *ℚ f₁ ≡ d → natℚ shiftScale *ℚ f₂ ≡ e → S *ℚ (K *ℚ (d -ℚ p)) -ℚ S *ℚ (L *ℚ (e -ℚ d)) +ℚ κ *ℚ d -ℚ S *ℚ ω ≤ℚ d +ℚ S *ℚ L → S *ℚ k ≤ℚ κ +ℚ natℚ 4 → ω ≤ℚ natℚ loadScale *ℚ q → natℚ 0 ≤ℚ d → natℚ (2 ^ 50) *ℚ (K *ℚ (f₁ -ℚ f₀) -ℚ L *ℚ (f₂ -ℚ f₁) +ℚ k *ℚ f₁ -ℚ q) ≤ℚ natℚ 5 *ℚ d +ℚ S *ℚ L
 high-law = ∀₁₂ ℚR _ λ ρ. simp qq λ e0 e1 e2 g hk hq hd. by-cert (to g ⊞ to hk ⊠ to hd ⊞ num stiffnessScale ⊠ to hq ⊞ times (kp stiffnessScale ⊗ v 0) e0 ⊞ times (⊖ (kp stiffnessScale ⊗ (v 0 ⊕ v 1 ⊕ v 2))) e1 ⊞ times (kp stiffnessScale ⊗ v 1) e2) tt
 
-low-law : (K L k κ ω q f₀ f₁ f₂ p d e : ℚ) → natℚ shiftScale *ℚ f₀ ≡ p → natℚ shiftScale *ℚ f₁ ≡ d → natℚ shiftScale *ℚ f₂ ≡ e → negℚ (natℚ (651381 * stiffnessScale)) ≤ℚ S *ℚ (K *ℚ (d -ℚ p)) -ℚ S *ℚ (L *ℚ (e -ℚ d)) +ℚ κ *ℚ d -ℚ S *ℚ ω → κ ≤ℚ S *ℚ k → natℚ loadScale *ℚ q ≤ℚ ω +ℚ natℚ 4 → natℚ 0 ≤ℚ d → natℚ (2 ^ 50) *ℚ negℚ (K *ℚ (f₁ -ℚ f₀) -ℚ L *ℚ (f₂ -ℚ f₁) +ℚ k *ℚ f₁ -ℚ q) ≤ℚ natℚ (651385 * stiffnessScale)
+low-law : (K L k κ ω q f₀ f₁ f₂ p d e : ℚ) → natℚ shiftScale *ℚ f₀ ≡ p → natℚ shiftScale *ℚ f₁ ≡ d → natℚ shiftScale *ℚ f₂ ≡ e → negℚ (natℚ (widest + stiffnessScale)) ≤ℚ S *ℚ (K *ℚ (d -ℚ p)) -ℚ S *ℚ (L *ℚ (e -ℚ d)) +ℚ κ *ℚ d -ℚ S *ℚ ω → κ ≤ℚ S *ℚ k → natℚ loadScale *ℚ q ≤ℚ ω +ℚ natℚ 4 → natℚ 0 ≤ℚ d → natℚ (2 ^ 50) *ℚ negℚ (K *ℚ (f₁ -ℚ f₀) -ℚ L *ℚ (f₂ -ℚ f₁) +ℚ k *ℚ f₁ -ℚ q) ≤ℚ natℚ (widest + 5 * stiffnessScale)
 low-law = ∀₁₂ ℚR _ λ ρ. simp qq λ e0 e1 e2 g hk hq hd. by-cert (to g ⊞ to hk ⊠ to hd ⊞ num stiffnessScale ⊠ to hq ⊞ times (⊖ (kp stiffnessScale ⊗ v 0)) e0 ⊞ times (kp stiffnessScale ⊗ (v 0 ⊕ v 1 ⊕ v 2)) e1 ⊞ times (⊖ (kp stiffnessScale ⊗ v 1)) e2) tt
-
--- what a level may be out of balance by, in 2^-50 N: 0.00495 N
-abbrev most : ℕ
-most = 5 * 2 ^ 40 + 15690 * stiffnessScale
 
 -- the shift found, in mm
 found-is : (d : List ℕ) (j : ℕ) → natℚ shiftScale *ℚ mk (found d j) ≡ natℚ (getD d j 0)
@@ -83,14 +87,14 @@ module _ (n : ℕ) (k κ ω x y d : List ℕ) (s : Solvable n k κ ω) (h : Hand
     handed-up : (i : ℕ) (l : i < n) → Handed (force (springs ts) units (suc i)) (springs ts (suc i)) (natℚ (shiftUp (getD k i 0) (getD κ i 0) (getD ω i 0) (getD x (suc i) 0) (getD y (suc i) 0) (getD d i 0))) (natℚ (getD x (suc i) 0)) (natℚ (getD y (suc i) 0))
     handed-up i l = subst (λ (z : ℕ). Handed (force (springs ts) units (suc i)) (springs ts (suc i)) (natℚ z) (natℚ (getD x (suc i) 0)) (natℚ (getD y (suc i) 0))) (u .shifts i l) (handed-at (suc i) l)
 
-    low : (i : ℕ) → i < n → negℚ (natℚ (651381 * stiffnessScale)) ≤ℚ G i
+    low : (i : ℕ) → i < n → negℚ (natℚ (widest + stiffnessScale)) ≤ℚ G i
     low i l =
         let range = in-range n k κ ω x y s i l (later 0 (suc i) n k κ ω x y (omega arith) h) in
         less (natℚ (divisor (getD k i 0) (getD κ i 0) (getD x (suc i) 0))) (G i)
-        (nat-q (divisor (getD k i 0) (getD κ i 0) (getD x (suc i) 0)) (651380 * stiffnessScale) (omega (arith, range .high, range .held, range .above)))
+        (nat-q (divisor (getD k i 0) (getD κ i 0) (getD x (suc i) 0)) widest (omega (arith, range .high, range .held, range .above)))
         (rw (← (spring i l), ← (u .shifts i l)) at (balance-low (getD k i 0) (getD κ i 0) (getD ω i 0) (getD x (suc i) 0) (getD y (suc i) 0) (getD d i 0) (omega (arith, s .springs i l)) (force (springs ts) units (suc i)) (springs ts (suc i)) (handed-up i l)))
       where
-        less : (c g : ℚ) → c ≤ℚ natℚ (651380 * stiffnessScale) → negℚ (c +ℚ S) ≤ℚ g → negℚ (natℚ (651381 * stiffnessScale)) ≤ℚ g
+        less : (c g : ℚ) → c ≤ℚ natℚ widest → negℚ (c +ℚ S) ≤ℚ g → negℚ (natℚ (widest + stiffnessScale)) ≤ℚ g
         less = ∀₂ ℚR _ λ ρ. simp qq λ a b. by-cert (to a ⊞ to b) tt
 
     high : (i : ℕ) → i < n → G i ≤ℚ units (suc i) +ℚ S *ℚ springs ts (suc i)
@@ -99,12 +103,12 @@ module _ (n : ℕ) (k κ ω x y d : List ℕ) (s : Solvable n k κ ω) (h : Hand
         (balance-high (getD k i 0) (getD κ i 0) (getD ω i 0) (getD x (suc i) 0) (getD y (suc i) 0) (getD d i 0) (omega (arith, s .springs i l)) (force (springs ts) units (suc i)) (springs ts (suc i)) (handed-up i l))
 
     -- the spring over a level
-    soft : (j : ℕ) → springs ts j ≤ℚ natℚ 15690
+    soft : (j : ℕ) → springs ts j ≤ℚ natℚ stiffest
     soft j = go (decLe (suc j) n)
       where
-        go : Dec (suc j ≤ n) → springs ts j ≤ℚ natℚ 15690
-        go (yes l) = subst (λ z. z ≤ℚ natℚ 15690) (sym (spring j l)) (nat-q (getD k j 0) 15690 (s .springs j l .1))
-        go (no l) = subst (λ z. z ≤ℚ natℚ 15690) (sym (no-spring ts j (omega (arith, near .tiers)))) (nn-int 15690)
+        go : Dec (suc j ≤ n) → springs ts j ≤ℚ natℚ stiffest
+        go (yes l) = subst (λ z. z ≤ℚ natℚ stiffest) (sym (spring j l)) (nat-q (getD k j 0) stiffest (s .springs j l .1))
+        go (no l) = subst (λ z. z ≤ℚ natℚ stiffest) (sym (no-spring ts j (omega (arith, near .tiers)))) (nn-int stiffest)
 
     abbrev f : ℕ → ℚ
     f j = mk (found d j)
@@ -117,11 +121,11 @@ module _ (n : ℕ) (k κ ω x y d : List ℕ) (s : Solvable n k κ ω) (h : Hand
         let oq = natℚ (getD ω i 0) in
         times-abs (natℚ (2 ^ 50)) (load (springs ts) (lashes ls) f i -ℚ loads ts i) (natℚ most)
         (up (natℚ (2 ^ 50) *ℚ (load (springs ts) (lashes ls) f i -ℚ loads ts i)) (units (suc i)) L (high-law K L (lashes ls i) kq oq (loads ts i) (f i) (f (suc i)) (f (suc (suc i))) (units i) (units (suc i)) (units (suc (suc i))) (found-is d i) (found-is d (suc i)) (found-is d (suc (suc i))) (high i l) (subst (λ z. S *ℚ z ≤ℚ kq +ℚ natℚ 4) (mk-stiffness ls (suc i)) (rounded-high stiffnessScale 4 (getD κ i 0) (stiffnessAt ls (suc i)) (near .held i l))) (subst (λ z. oq ≤ℚ natℚ loadScale *ℚ z) (mk-load ts i) (rounded-low loadScale 4 (getD ω i 0) (loadAt ts i) (near .loaded i l))) (nn-int (getD d (suc i) 0)))
-        (nat-q (getD d (suc i) 0) (2 ^ 40) (far-at n k κ ω x y s h n d u (suc i) l (omega arith))) (soft (suc i)))
-        (≤ℚ-trans (natℚ (2 ^ 50) *ℚ negℚ (load (springs ts) (lashes ls) f i -ℚ loads ts i)) (natℚ (651385 * stiffnessScale)) (natℚ most) (low-law K L (lashes ls i) kq oq (loads ts i) (f i) (f (suc i)) (f (suc (suc i))) (units i) (units (suc i)) (units (suc (suc i))) (found-is d i) (found-is d (suc i)) (found-is d (suc (suc i))) (low i l) (subst (λ z. kq ≤ℚ S *ℚ z) (mk-stiffness ls (suc i)) (rounded-low stiffnessScale 4 (getD κ i 0) (stiffnessAt ls (suc i)) (near .held i l))) (subst (λ z. natℚ loadScale *ℚ z ≤ℚ oq +ℚ natℚ 4) (mk-load ts i) (rounded-high loadScale 4 (getD ω i 0) (loadAt ts i) (near .loaded i l))) (nn-int (getD d (suc i) 0)))
-        (nat-q (651385 * stiffnessScale) most (omega arith)))
+        (nat-q (getD d (suc i) 0) farthest (far-at n k κ ω x y s h n d u (suc i) l (omega arith))) (soft (suc i)))
+        (≤ℚ-trans (natℚ (2 ^ 50) *ℚ negℚ (load (springs ts) (lashes ls) f i -ℚ loads ts i)) (natℚ (widest + 5 * stiffnessScale)) (natℚ most) (low-law K L (lashes ls i) kq oq (loads ts i) (f i) (f (suc i)) (f (suc (suc i))) (units i) (units (suc i)) (units (suc (suc i))) (found-is d i) (found-is d (suc i)) (found-is d (suc (suc i))) (low i l) (subst (λ z. kq ≤ℚ S *ℚ z) (mk-stiffness ls (suc i)) (rounded-low stiffnessScale 4 (getD κ i 0) (stiffnessAt ls (suc i)) (near .held i l))) (subst (λ z. natℚ loadScale *ℚ z ≤ℚ oq +ℚ natℚ 4) (mk-load ts i) (rounded-high loadScale 4 (getD ω i 0) (loadAt ts i) (near .loaded i l))) (nn-int (getD d (suc i) 0)))
+        (nat-q (widest + 5 * stiffnessScale) most (omega arith)))
       where
-        up : (a d L : ℚ) → a ≤ℚ natℚ 5 *ℚ d +ℚ S *ℚ L → d ≤ℚ natℚ (2 ^ 40) → L ≤ℚ natℚ 15690 → a ≤ℚ natℚ most
+        up : (a d L : ℚ) → a ≤ℚ natℚ 5 *ℚ d +ℚ S *ℚ L → d ≤ℚ natℚ farthest → L ≤ℚ natℚ stiffest → a ≤ℚ natℚ most
         up = ∀₃ ℚR _ λ ρ. simp qq λ h a b. by-cert (to h ⊞ num 5 ⊠ to a ⊞ num stiffnessScale ⊠ to b) tt
 
     abbrev size : ℕ → ℚ
@@ -181,6 +185,6 @@ module _ (n : ℕ) (k κ ω x y d : List ℕ) (s : Solvable n k κ ω) (h : Hand
   pub kept : Promised n k κ ω d
   kept = record { deck = u .deck; far = λ i. far i (decLe i n); lashes = near-lashes; rackings = near-rackings }
     where
-      far : (i : ℕ) → Dec (i ≤ n) → getD d i 0 ≤ 2 ^ 40
+      far : (i : ℕ) → Dec (i ≤ n) → getD d i 0 ≤ farthest
       far i (yes b) = far-at n k κ ω x y s h n d u i b (omega arith)
       far i (no b) = omega (arith, u .over i (omega arith))

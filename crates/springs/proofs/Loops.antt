@@ -1,12 +1,12 @@
 -- The solver's two loops: what holds of their arrays at each turn.
 use mathlib.Core.Path.{_≡_, refl, sym, ap, ap₂, subst, _∙_}
 use mathlib.Core.List.{List}
-use Prim.Native.Nat.{ℕ, zero, suc, _+_, _^_, _≤_, _<_}
+use Prim.Native.Nat.{ℕ, zero, suc, _+_, _≤_, _<_}
 use native.Mathlib.Omega.{arith}
 use native.Mathlib.Decide.{ℕ-discrete}
 use lib.ListN.{getD, length, set, replicate, length-set}
 use lib.Seq.{getD-set-same, getD-set-other}
-use Rattle.springs.specs.Promise.{Solvable}
+use Rattle.springs.specs.Promise.{farthest, Solvable}
 use Rattle.springs.specs.Steps.{stiffnessDown, loadDown, shiftUp, InRange, mostLoad, HandedDown, Climbed}
 use Rattle.springs.proofs.Ranges.{later, in-range, load-in-range, far-at}
 
@@ -91,9 +91,9 @@ up-start n k κ ω x y = record { within = omega arith; long = refl; done = reco
 
 -- a turn at the entry i, for level j
 module _ (n : ℕ) (k κ ω x y d : List ℕ) (i j : ℕ) (next : j ≡ suc i) (inside : i < n) (s : Solvable n k κ ω) (t : Up n k κ ω x y d i) where
-  pub up-ready : HandedDown 0 n k κ ω x y → InRange (getD k i 0) (getD κ i 0) (getD x j 0) × (getD ω i 0 + getD y j 0 ≤ mostLoad) × (getD d i 0 ≤ 2 ^ 40)
+  pub up-ready : HandedDown 0 n k κ ω x y → InRange (getD k i 0) (getD κ i 0) (getD x j 0) × (getD ω i 0 + getD y j 0 ≤ mostLoad) × (getD d i 0 ≤ farthest)
   up-ready h =
-      subst (λ (z : ℕ). InRange (getD k i 0) (getD κ i 0) (getD x z 0) × (getD ω i 0 + getD y z 0 ≤ mostLoad) × (getD d i 0 ≤ 2 ^ 40)) (sym next)
+      subst (λ (z : ℕ). InRange (getD k i 0) (getD κ i 0) (getD x z 0) × (getD ω i 0 + getD y z 0 ≤ mostLoad) × (getD d i 0 ≤ farthest)) (sym next)
       (in-range n k κ ω x y s i inside from-here, load-in-range n k κ ω x y s i inside from-here, far-at n k κ ω x y s h i d (t .done) i (omega arith) (omega arith))
     where
       from-here : HandedDown (suc i) n k κ ω x y

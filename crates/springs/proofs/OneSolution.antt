@@ -38,7 +38,7 @@ shiftOf ts ls n (suc i) =
 unfoldable pub solution : List Tier → List Lash → List Frac
 solution ts ls = map (λ i. shiftOf ts ls (length ts) (suc i)) (numbers 0 (length ts))
 
--- ---- the same over ℚ
+-- the same over ℚ
 module _ (ts : List Tier) (ls : List Lash) where
   abbrev stiffnessℚ : ℕ → ℕ → ℚ
   stiffnessℚ i m = E.handed-stiffness (springs ts) (lashes ls) (loads ts) i m
@@ -78,7 +78,7 @@ module _ (ts : List Tier) (ls : List Lash) where
       let c = tierAt ts i .K +q (stiffnessAt ls (suc i) +q handedStiffness ts ls (suc i) m) in
       mk-div (a +q tierAt ts i .K *q shiftOf ts ls n i) c ∙ ap₂ _/ℚ_ (mk-add a (tierAt ts i .K *q shiftOf ts ls n i) ∙ ap₂ _+ℚ_ (mk-add (loadAt ts i) (handedLoad ts ls (suc i) m) ∙ ap₂ _+ℚ_ (mk-load ts i) (mk-loaded (suc i) m)) (mk-mul (tierAt ts i .K) (shiftOf ts ls n i) ∙ ap (λ z. springs ts i *ℚ z) (mk-shift n i))) (mk-divisor i m)
 
-  -- ---- the list
+  -- the list
   length-numbers : (f : ℕ → Frac) (i m : ℕ) → length (map f (numbers i m)) ≡ m
   length-numbers f i zero = refl
   length-numbers f i (suc m) = ap suc (length-numbers f (suc i) m)

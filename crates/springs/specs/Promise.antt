@@ -29,7 +29,8 @@ stiffnessAt ls i = sumq (λ l. given (eqb i (l .level)) (l .stiffness)) ls
 abbrev pub loadAt : List Tier → ℕ → Frac
 loadAt ts i = tierAt ts i .Q -q tierAt ts (suc i) .Q
 
--- an exact chain that the solver's inputs stand for: n tiers of springs k; of each level over them the lashes' stiffness κ and the load ω
+-- an exact chain that the solver's inputs stand for: n tiers of springs k; of each level over them the lashes' stiffness κ and the load ω, each a sum of
+-- at most four numbers rounded down
 pub record Near (n : ℕ) (k κ ω : List ℕ) (ts : List Tier) (ls : List Lash) : Type 0 where
   pub tiers : length ts ≡ n
   pub stiff : Stiff ts ls
@@ -41,13 +42,30 @@ pub record Near (n : ℕ) (k κ ω : List ℕ) (ts : List Tier) (ls : List Lash)
 abbrev pub found : List ℕ → ℕ → Frac
 found d i = nat (getD d i 0) /q nat shiftScale
 
--- when the solver may be called: at most 10 tiers, springs of 3,730 to 15,690 N/mm; a level's lashes of at most 620,000 N/mm and its load of at
--- most 2^18 N, as document 01's limits have them (four lashes of 153,960 N/mm; 243,323 N)
+-- document 01's two springs, in N/mm
+abbrev pub softest : ℕ
+softest = 3730
+
+abbrev pub stiffest : ℕ
+stiffest = 15690
+
+-- the most that its limits allow at a level, rounded up: lashes of 620,000 N/mm (four of 153,960) and a load of 2^18 N (243,323); and the farthest shift
+-- then, 2^12 mm (3,262)
+abbrev pub mostHeld : ℕ
+mostHeld = 620000 * stiffnessScale
+
+abbrev pub mostLoaded : ℕ
+mostLoaded = 2 ^ 18 * loadScale
+
+abbrev pub farthest : ℕ
+farthest = 2 ^ 12 * shiftScale
+
+-- when the solver may be called
 pub record Solvable (n : ℕ) (k κ ω : List ℕ) : Type 0 where
   pub few : n ≤ 10
-  pub springs : (i : ℕ) → i < n → (3730 ≤ getD k i 0) × (getD k i 0 ≤ 15690)
-  pub held : (i : ℕ) → i < n → getD κ i 0 ≤ 620000 * stiffnessScale
-  pub loaded : (i : ℕ) → i < n → getD ω i 0 ≤ 2 ^ 46
+  pub springs : (i : ℕ) → i < n → (softest ≤ getD k i 0) × (getD k i 0 ≤ stiffest)
+  pub held : (i : ℕ) → i < n → getD κ i 0 ≤ mostHeld
+  pub loaded : (i : ℕ) → i < n → getD ω i 0 ≤ mostLoaded
 
 -- the constants of the promise, in N: the sum of stiffness × shift error over the lashes, and the error of a tier's racking. Both are 0.05
 abbrev pub errorHundredths : ℕ
@@ -61,7 +79,7 @@ rackingError = nat errorHundredths /q nat 100
 
 pub record Promised (n : ℕ) (k κ ω d : List ℕ) : Type 0 where
   pub deck : getD d 0 0 ≡ 0
-  pub far : (i : ℕ) → getD d i 0 ≤ 2 ^ 40
+  pub far : (i : ℕ) → getD d i 0 ≤ farthest
   pub lashes :
       (ts : List Tier) (ls : List Lash) (Ds : List Frac) →
       Near n k κ ω ts ls →

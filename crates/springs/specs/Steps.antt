@@ -1,10 +1,10 @@
 -- Contracts of the solver's inner functions, cited by no other crate: elimination from the top down, then the shifts from the deck up, in whole numbers.
 use mathlib.Core.List.{List}
 use mathlib.Core.Path.{_≡_}
-use Prim.Native.Nat.{ℕ, suc, _+_, _*_, _<_, _≤_, _^_}
+use Prim.Native.Nat.{ℕ, suc, _+_, _*_, _<_, _≤_}
 use lib.ListN.{getD}
 use Rattle.arith.specs.Rounding.{scaledDown}
-use Rattle.springs.specs.Promise.{stiffnessScale}
+use Rattle.springs.specs.Promise.{stiffnessScale, softest, stiffest, mostHeld, mostLoaded}
 
 -- a tier of spring k, over it a level of lashes κ and load ω, to which the tiers above hand down the stiffness x and the load y
 abbrev pub divisor : ℕ → ℕ → ℕ → ℕ
@@ -24,14 +24,14 @@ shiftUp k κ ω x y p = scaledDown (ω + y + k * p) stiffnessScale (divisor k κ
 
 -- the ranges of a step
 pub record InRange (k κ x : ℕ) : Type 0 where
-  pub low : 3730 ≤ k
-  pub high : k ≤ 15690
-  pub held : κ ≤ 620000 * stiffnessScale
-  pub above : x ≤ 15690 * stiffnessScale
+  pub low : softest ≤ k
+  pub high : k ≤ stiffest
+  pub held : κ ≤ mostHeld
+  pub above : x ≤ stiffest * stiffnessScale
 
--- the load of a level with what is handed down to it: that of ten levels
+-- the most load of a level with what is handed down to it: that of ten levels
 abbrev pub mostLoad : ℕ
-mostLoad = 10 * 2 ^ 46
+mostLoad = 10 * mostLoaded
 
 -- x and y hold at each level from i up what is handed down to it, and 0 at level n
 pub record HandedDown (i n : ℕ) (k κ ω x y : List ℕ) : Type 0 where

@@ -1,8 +1,8 @@
 // One end of a stack as a chain of springs: the shifts of its levels, in whole numbers. From the top down, each level learns what stiffness and load
 // the tiers over it hand down to it; then, from the deck up, each level's shift follows from the one under it.
 ghost use mathlib.Core.Path.{_≡_};
-ghost use Prim.Native.Nat.{_+_, _≤_, _^_};
-ghost use Rattle.springs.specs.Promise.{Solvable, Promised};
+ghost use Prim.Native.Nat.{_+_, _≤_};
+ghost use Rattle.springs.specs.Promise.{farthest, Solvable, Promised};
 ghost use Rattle.springs.specs.Steps.{stiffnessDown, loadDown, shiftUp, InRange, mostLoad, HandedDown, Climbed};
 use arith::rounding::scaled;
 
@@ -28,7 +28,7 @@ fn load_down(k: u64, kappa: u64, omega: u64, x: u64, y: u64) -> u64
 
 // Its shift, where the level under it has the shift p.
 fn shift_up(k: u64, kappa: u64, omega: u64, x: u64, y: u64, p: u64) -> u64
-    requires { ⌜ InRange k kappa x × (omega + y ≤ mostLoad) × (p ≤ 2 ^ 40) ⌝ }
+    requires { ⌜ InRange k kappa x × (omega + y ≤ mostLoad) × (p ≤ farthest) ⌝ }
     ensures { λ r. ⌜ r ≡ shiftUp k kappa omega x y p ⌝ }
 {
     scaled(omega + y + k * p, SCALE, k * SCALE + (kappa + x))
