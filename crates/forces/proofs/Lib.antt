@@ -34,3 +34,5 @@ pub mod PostSums
 pub mod PostFigures
 pub mod EndReported
 pub mod Margins
+-- From the promise to the figures.
+pub mod Figured
