@@ -1,16 +1,15 @@
--- Absolute values and signs of ℤ and ℚ, and the way between whole numbers and ℚ. From the algebra. Assumes nothing.
+-- Absolute values and signs of ℤ and ℚ, and the way between whole numbers and ℚ. From the algebra.
 use mathlib.Core.Path.{_≡_, refl, sym, ap, subst, _∙_}
 use mathlib.Core.Bool.{Bool, true, false, not, cond}
-use mathlib.Core.List.{List, [], _∷_}
-use Prim.Native.Nat.{ℕ, zero, suc, _+_, _*_, _≤_}
+use Prim.Native.Nat.{zero, suc, _+_, _*_, _≤_}
 use lib.Dec.{T}
-use lib.IntN.{ℤ, pos, negsuc, negℤ, _+ℤ_, _-ℤ_, _*ℤ_}
-use Rattle.arith.proofs.Polynomials.{v, kp, kn, _⊕_, _⊖_, _⊗_, ⊖_}
-use Rattle.arith.proofs.Rings.{ORing, ∀₁, ∀₂, ∀₃, ∀₄, by-ring, by-cert, by-eqs, to, times, mul-eq, sq, num, _⊞_, _⊠_, _⊹_}
+use lib.IntN.{ℤ, pos, negsuc, negℤ, _*ℤ_}
+use Rattle.arith.proofs.Polynomials.{v, _⊖_, ⊖_}
+use Rattle.arith.proofs.Rings.{ORing, ∀₁, ∀₂, ∀₃, ∀₄, by-ring, by-cert, by-eqs, to, times, mul-eq, num, _⊞_, _⊠_, _⊹_}
 use Rattle.arith.proofs.Integers.{ℤR, _≼_, antisym}
 use Rattle.arith.proofs.IntegerTerms.{zq}
 use Rattle.arith.proofs.IntegerOrder.{abs, abs-nn, abs-ge, abs-ge-neg}
-use Rattle.arith.proofs.Rationals.{ℚR, ℚ, _+ℚ_, _-ℚ_, _*ℚ_, _/ℚ_, negℚ, recipℚ, int, _≤ℚ_, _<ℚ_, leℚ, flip, recip-times, recip-nn, absℚ, to-⊑, of-⊑}
+use Rattle.arith.proofs.Rationals.{ℚR, ℚ, _+ℚ_, _-ℚ_, _*ℚ_, _/ℚ_, negℚ, recipℚ, int, _≤ℚ_, _<ℚ_, leℚ, flip, recip-times, absℚ, to-⊑, of-⊑}
 use Rattle.arith.specs.Fractions as F
 use Rattle.arith.proofs.RationalTerms.{qq}
 
@@ -23,7 +22,7 @@ pub record Signs (R : ORing) : Type 0 where
   pub back : (p : R .C) → R .times (sg p) (abs p) ≡ p
   pub low : (p x : R .C) → R .leq (R .times (sg p) x) (abs x)
 
--- ---- ℤ
+-- ℤ
 abbrev pub sg : ℤ → ℤ
 sg (pos zero) = pos 0
 sg (pos (suc n)) = pos 1
@@ -62,7 +61,7 @@ low-z (negsuc n) x = minus-le-z x (abs x) (abs-ge-neg x)
 abbrev pub ℤS : Signs ℤR
 ℤS = record { abs = abs; nn = abs-nn; sg = sg; hit = hit-z; back = back-z; low = low-z }
 
--- ---- ℚ
+-- ℚ
 up : (p : ℚ) → int (pos 0) ≤ℚ p → negℚ p ≤ℚ p
 up = ∀₁ ℚR _ λ ρ. simp qq λ h. by-cert (to h ⊞ to h) tt
 
@@ -193,7 +192,7 @@ absℚ-mul p q =
     (λ h. rw (absℚ-nn p h) (mul-nn p q h))
     (λ h. rw (absℚ-np p h) (ap absℚ (neg-both p q) ∙ mul-nn (negℚ p) (negℚ q) (neg-nn p h) ∙ ap (λ z. negℚ p *ℚ z) (absℚ-neg q)))
 
--- ---- from ℚ back to ℤ, as a statement on a program's numbers wants it
+-- from ℚ back to ℤ, as a statement on a program's numbers wants it
 units : (a b : ℤ) → a *ℤ pos 1 ≼ b *ℤ pos 1 → a ≼ b
 units = ∀₂ ℤR _ λ ρ. simp zq λ h. by-cert (to h) tt
 
