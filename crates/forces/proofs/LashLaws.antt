@@ -1,21 +1,16 @@
--- The whole numbers of a lash: its length is found, and the steps to its stiffness and its forces stay in range.
+-- The whole numbers of a lash: the steps to its stiffness and its forces stay in range.
 use Prim.Native.Nat.{ℕ, zero, suc, _+_, _*_, _-_, _/_, _^_, _<_, _≤_}
-use mathlib.Core.Path.{_≡_, sym, ap, _∙_}
-use native.Mathlib.Nat.{mul-le-mul, mul-le-mul-left, mul-le-mul-right, div-le-of-le-mul, lt-of-le-of-lt}
+use mathlib.Core.Path.{_≡_}
+use native.Mathlib.Nat.{mul-le-mul, mul-le-mul-left, div-le-of-le-mul}
 use native.Mathlib.Omega.{arith}
-use Rattle.arith.specs.Roots.{Least}
 use Rattle.sheet.specs.declared.Lash.{Lash}
 use Rattle.forces.specs.Facts.{LashFacts}
-use Rattle.forces.specs.Lashes.{hookLevel, lashLength}
-use Rattle.forces.proofs.LashLength.{squares, length-least, length-le}
-
--- there is one least root
-pub length-one : (l : Lash) (r : ℕ) → Least (squares l) r → r ≡ lashLength l
-length-one l r h = omega (arith, h .least (lashLength l) (length-least l .enough), length-least l .least r (h .enough))
+use Rattle.forces.specs.Lashes.{lashLength}
+use Rattle.forces.proofs.LashLength.{squares, length-least}
 
 module _ {n : ℕ} (l : Lash) (f : LashFacts n l) where
   pub length-most : lashLength l ≤ 22913
-  length-most = length-le f 22913 (omega (arith, mul-le-mul (f .lx) (f .lx), mul-le-mul (f .ly-most) (f .ly-most), mul-le-mul (f .lz-most) (f .lz-most)))
+  length-most = length-least l .least 22913 (omega (arith, mul-le-mul (f .lx) (f .lx), mul-le-mul (f .ly-most) (f .ly-most), mul-le-mul (f .lz-most) (f .lz-most)))
 
   short : (k : ℕ) → squares l ≤ k * k → suc k ≤ l .ly → ⊥
   short k h q = omega (arith, mul-le-mul q q)

@@ -14,7 +14,7 @@ use mir.Val.{Fits, SFits, toZ, ofZ}
 use mir.ValLaws.{toZ-ofZ}
 use Rattle.forces.specs.Fixed.{ceil, notBelow, rackingFigure}
 use Rattle.arith.specs.Sizes.{Small}
-use Rattle.arith.proofs.Sizes.{fits64, small-weaken, small-pos, small-add, small-sub, small-mul, abs-quot}
+use Rattle.arith.proofs.Sizes.{fits64, small-weaken, small-pos, small-add, small-sub, small-mul, natAbs-quot}
 
 -- a word of 64 bits that holds a signed number reads back as it
 pub held : {b : ℕ} {z : ℤ} → Small b z → b < 2 ^ 63 → toZ w64 (ofZ w64 z) ≡ z
@@ -62,7 +62,7 @@ newtons-le z size newtons s e h = omega (arith, s .size)
 
 -- a quotient towards zero
 pub small-quot : {b c : ℕ} {z : ℤ} (d : ℕ) → Small b z → natAbs z / d ≤ c → Small c (quotZ z (pos d))
-small-quot {z = z} d s h = record { size = rw (abs-quot z d) h }
+small-quot {z = z} d s h = record { size = rw (natAbs-quot z d) h }
 
 module _ (k u l : ℕ) (hk : k ≤ 15690) (hu : u ≤ 2 ^ 40) (hl : l ≤ 2 ^ 40) where
   pub spring-le : (k * u ≤ 15690 * 2 ^ 40) × (k * l ≤ 15690 * 2 ^ 40)

@@ -9,9 +9,9 @@ use lib.IntN.{ℤ, pos, negℤ, _+ℤ_, _-ℤ_, _*ℤ_}
 use Rattle.sheet.specs.declared.Tier.{Tier}
 use Rattle.sheet.specs.declared.Lash.{Lash}
 use Rattle.forces.specs.declared.LevelFigures.{LevelFigures}
-use Rattle.forces.specs.declared.Weights.{Weights}
+use Rattle.forces.specs.declared.HalfWeights.{HalfWeights}
 use Rattle.forces.specs.declared.Gear.{Gear}
-use Rattle.forces.specs.declared.LashFigures.{LashFigures}
+use Rattle.forces.specs.declared.Pulls.{Pulls}
 use Rattle.forces.specs.Lashes.{hookLevel, lashLength}
 use Rattle.forces.specs.Reported.{noLash}
 use Rattle.forces.specs.Fixed.{noTier, levelLoad, halfWeight, stiffnessOf, levelStiffness, pullFigure, athwartFigure, verticalFigure, upwards, leePart, windwardPart, rackingPart, rackingFigure, leeFound, windwardFound, postFigure}
@@ -27,7 +27,7 @@ pub record Loaded (share factor n : ℕ) (ts : List Tier) (r : List ℕ) : Type 
   pub small : (i : ℕ) → i < n → getD r i 0 ≤ 2 ^ 46
 
 -- half of the weight above each level
-pub record Weighed (ts : List Tier) (w : Weights) : Type 0 where
+pub record Weighed (ts : List Tier) (w : HalfWeights) : Type 0 where
   pub most : (i : ℕ) → getD (w .most) i 0 ≡ halfWeight (λ t. t .avmax) ts i
   pub least : (i : ℕ) → getD (w .least) i 0 ≡ halfWeight (λ t. t .avmin) ts i
   pub most-light : (i : ℕ) → getD (w .most) i 0 ≤ 2 ^ 40
@@ -40,7 +40,7 @@ pub record Geared (m : ℕ) (ls : List Lash) (g : Gear) : Type 0 where
   pub held : (i : ℕ) → getD (g .level) i 0 ≡ levelStiffness ls (suc i)
 
 -- the figures of m lashes at the shifts d, and the vertical parts on the posts at each level
-pub record Pulled (m : ℕ) (ls : List Lash) (d : List ℕ) (r : LashFigures) : Type 0 where
+pub record Pulled (m : ℕ) (ls : List Lash) (d : List ℕ) (r : Pulls) : Type 0 where
   pub pull : Filled 0 m (λ j. pullFigure d (getD ls j noLash)) (r .pull)
   pub athwart : Filled 0 m (λ j. athwartFigure d (getD ls j noLash)) (r .athwart)
   pub vertical : Filled 0 m (λ j. verticalFigure d (getD ls j noLash)) (r .vertical)

@@ -9,7 +9,7 @@ ghost use Rattle.forces.specs.Reported.{noLash};
 ghost use Rattle.forces.specs.Fixed.{ceil, stiffnessOf, leePart, windwardPart};
 ghost use Rattle.forces.specs.Steps.{Geared, Pulled};
 use crate::Gear;
-use crate::LashFigures;
+use crate::Pulls;
 use crate::Uplift;
 use arith::roots::length;
 use arith::rounding::ceil_div;
@@ -139,7 +139,7 @@ fn on_posts(l: Lashing, upward: u64) -> Uplift
 }
 
 // The figures of an end's lashes, and the sums of the vertical parts by level on each post.
-pub fn lash_figures(lashes: [Lash; 8], m: usize, gear: Gear, d: [u64; 11]) -> LashFigures
+pub fn lash_figures(lashes: [Lash; 8], m: usize, gear: Gear, d: [u64; 11]) -> Pulls
     requires { ⌜ (m ≤ 8) × ((j : ℕ) → j < m → LashFacts 10 (getD (take m lashes) j noLash)) ⌝ }
     requires { ⌜ Geared m (take m lashes) gear × ((i : ℕ) → getD d i 0 ≤ 2 ^ 40) ⌝ }
     ensures { λ r. ⌜ Pulled m (take m lashes) d r ⌝ }
@@ -164,7 +164,7 @@ pub fn lash_figures(lashes: [Lash; 8], m: usize, gear: Gear, d: [u64; 11]) -> La
         windward[at] = windward[at] + u.windward;
         j += 1;
     }
-    LashFigures {
+    Pulls {
         pull: pull,
         athwart: athwart,
         vertical: vertical,

@@ -21,7 +21,7 @@ pub struct Figures {
 }
 
 // Half of V above each level, with A_Vmax and with A_Vmin.
-pub struct Weights {
+pub struct HalfWeights {
     pub most: [u64; 11],
     pub least: [u64; 11],
 }
@@ -34,7 +34,7 @@ pub struct Gear {
 }
 
 // The figures of an end's lashes, and the vertical parts on each post at levels 0 to 10.
-pub struct LashFigures {
+pub struct Pulls {
     pub pull: [u64; 8],
     pub athwart: [u64; 8],
     pub vertical: [u64; 8],

@@ -6,7 +6,7 @@ ghost use lib.ListN.{take, getD};
 ghost use Rattle.forces.specs.Facts.{TierFacts};
 ghost use Rattle.forces.specs.Fixed.{noTier, push, gust};
 ghost use Rattle.forces.specs.Steps.{Loaded, Weighed};
-use crate::Weights;
+use crate::HalfWeights;
 use arith::rounding::scaled;
 use sheet::Tier;
 
@@ -90,7 +90,7 @@ fn half_weight(lifted: u64) -> u64
 }
 
 // Half of V above levels 0 to n, with A_Vmax and with A_Vmin.
-pub fn half_weights(n: usize, tiers: [Tier; 10]) -> Weights
+pub fn half_weights(n: usize, tiers: [Tier; 10]) -> HalfWeights
     requires { ⌜ n ≤ 10 ⌝ }
     requires { ⌜ ((i : ℕ) → i < n → TierFacts (getD (take n tiers) i noTier)) ⌝ }
     ensures { λ r. ⌜ Weighed (take n tiers) r ⌝ }
@@ -108,7 +108,7 @@ pub fn half_weights(n: usize, tiers: [Tier; 10]) -> Weights
         most[i] = half_weight(most_lifted);
         least[i] = half_weight(least_lifted);
     }
-    Weights {
+    HalfWeights {
         most: most,
         least: least,
     }

@@ -1,7 +1,7 @@
 use lib.Dec.{lit<}
 use mir.Syntax.{w64}
 use mir.ValLaws.{toZ-ofZ}
-use Rattle.arith.proofs.Sizes.{small-neg, abs-neg}
+use Rattle.arith.proofs.Sizes.{small-neg, natAbs-neg}
 use Rattle.forces.proofs.LevelLaws.{held, neg-size, pos-size, size-fits}
 use borrow.Author.Needs.{needs}
 use Rattle.forces.proofs.levels.size.Statement.{statement}
@@ -22,7 +22,7 @@ returns : tie.Need-returns
 returns c =
     let b = c .before .before in
     let h = toZ-ofZ w64 (b .args .x) (b .fits .x) in
-    rw (simp h at (c .negative .ensures), held (small-neg (b .pre)) (lit< tt)) (abs-neg (b .args .x))
+    rw (simp h at (c .negative .ensures), held (small-neg (b .pre)) (lit< tt)) (natAbs-neg (b .args .x))
 
 cast-result-2 : tie.Need-cast-result-2
 cast-result-2 c =
