@@ -1,7 +1,8 @@
 use mathlib.Core.Path.{refl}
 use lib.Dec.{lit<}
 use Rattle.arith.proofs.Sizes.{fits64}
-use Rattle.forces.proofs.LevelLaws.{held, lean-small}
+use Rattle.forces.proofs.LevelLaws.{lean-small}
+use Rattle.forces.proofs.Words.{held}
 use Rattle.forces.proofs.levels.lean_of.Statement.{statement}
 use Rattle.forces.proofs.levels.lean_of.Tie as tie
 

@@ -1,25 +1,37 @@
+use lib.ListN.{take}
+use lib.Seq.{getD-take, length-take-le}
+use mathlib.Core.Path.{_≡_, sym, ap, _∙_}
+use Rattle.sheet.specs.declared.Tier.{Tier}
+use Rattle.forces.proofs.Descent.{Descended, Long, at-top, turned-once, at-foot}
 use mir.Syntax.{w32}
 use mir.ValLaws.{toZ-ofZ}
-use Rattle.forces.proofs.Descent.{Descended, at-top, turned-once, at-foot}
 use Prim.Native.Nat.{_<_, _-_}
 use Rattle.forces.specs.Fixed.{noTier, rackingPart, leeFound, windwardFound}
-use mathlib.Core.Path.{refl, _∙_}
 use native.Mathlib.Omega.{arith}
 use lib.Dec.{lit<, lit≤}
-use lib.Seq.{getD-take}
 use Rattle.arith.proofs.Sizes.{small-pos, small-weaken}
-use Rattle.forces.proofs.LevelLaws.{held}
+use Rattle.forces.proofs.Words.{held}
 use borrow.Author.Needs.{needs}
 use Rattle.forces.proofs.levels.level_figures.Statement.{statement}
 use Rattle.forces.proofs.levels.level_figures.Tie as tie
 
 abbrev Inv-loop : tie.InvT-loop
 Inv-loop n k tiers d most least lee windward racking₀ compressions₀ tensions₀ above₀ i₀ racking compressions tensions above i =
-    Descended n k tiers d most least lee windward racking compressions tensions (above .moment) (above .uplift .lee) (above .uplift .windward) i
+    Descended n k (take n tiers) d most least lee windward racking compressions tensions (above .moment) (above .uplift .lee) (above .uplift .windward) i
 
 abbrev μ-loop : tie.MeasureT-loop
 μ-loop n k tiers d most least lee windward racking₀ compressions₀ tensions₀ above₀ i₀ racking compressions tensions above i =
     i
+
+long : (c : tie.Start Inv-loop μ-loop) → Long (c .args .n) (take (c .args .n) (c .args .t3)) (c .args .t7) (c .args .t8)
+long c =
+    let g = c .good .1 .1 .1 .1 .1 .1 in
+    let few = c .pre .few in
+    record {
+      stacked = length-take-le (c .args .n) (c .args .t3) (omega (arith, c .good .1 .1 .0 .1 .0 .1));
+      lee-long = omega (arith, g .0 .1 .0 .1);
+      windward-long = omega (arith, g .1 .0 .1 .0 .1);
+    }
 
 mul-compressions : tie.Need-mul-compressions Inv-loop μ-loop
 mul-compressions c = search needs
@@ -53,10 +65,7 @@ array-write-compressions c = search needs
 
 loop-holds : tie.Need-loop-holds Inv-loop μ-loop
 unfolding leeFound windwardFound
-loop-holds c =
-    let b = c .before in
-    let a = b .args in
-    at-top (a .n) (a .t2) (a .t3) (a .t4) (a .t5) (a .t6) (a .t7) (a .t8) (b .good .1 .1 .0 .1 .0 .1) (b .good .1 .1 .1 .1 .1 .1 .0 .1 .0 .1) (b .good .1 .1 .1 .1 .1 .1 .1 .0 .1 .0 .1) (b .pre) (c .compression .result) (c .compression .ensures)
+loop-holds c = at-top (c .before .pre) (long (c .before)) (c .compression .ensures)
 
 mul-upper : tie.Need-mul-upper Inv-loop μ-loop
 mul-upper c = search needs
@@ -158,24 +167,34 @@ loop-less : tie.Need-loop-less Inv-loop μ-loop
 loop-less c = search needs
 
 loop-again : tie.Need-loop-again Inv-loop μ-loop
-unfolding rackingPart
 loop-again c =
     let u = c .before .before in
+    let t = u .before .before .before in
+    let l = t .before .loop in
+    let b = t .before .before .before in
     let p = u .before .racking-part .ensures in
-    let l = u .before .before .before .before .loop in
-    let b = u .before .before .before .before .before .before in
-    let a = b .args in
     let h = held (p .1) (lit< tt) in
-    let e = u .level-under .ensures in
     let g = c .before .racking-figure in
-    turned-once (a .n) (a .t2) (a .t3) (a .t4) (a .t5) (a .t6) (a .t7) (a .t8) (b .good .1 .1 .0 .1 .0 .1) (b .good .1 .1 .1 .1 .1 .1 .0 .1 .0 .1) (b .good .1 .1 .1 .1 .1 .1 .1 .0 .1 .0 .1) (b .pre) (l .racking) (l .compressions) (l .tensions) (l .above .moment) (l .above .uplift .lee) (l .above .uplift .windward) (l .i) (u .before .before .before .loop-test .taken) (l .inv) (u .before .racking-part .result) _ (p .0) refl _ _ _ _ _ _ (toZ-ofZ w32 (g .result) (record { sfits = g .ok }) ∙ simp h at (g .ensures)) (simp h at (e .0)) (e .1 .0 .0) (e .1 .0 .1) (simp h at (e .1 .1 .0)) (simp h at (e .1 .1 .1))
+    let e = u .level-under .ensures in
+    let w : l .i - 1 < b .args .n = omega (arith, l .inv .within) in
+    turned-once
+    (b .pre)
+    (long b)
+    (t .loop-test .taken)
+    (l .inv)
+    (p .0)
+    (ap (λ (r : Tier). r .height) (sym (getD-take (b .args .n) (b .args .t3) (l .i - 1) noTier w)))
+    (toZ-ofZ w32 (g .result) (record { sfits = g .ok }) ∙ simp h at (g .ensures))
+    (simp h at (e .0))
+    (e .1 .0 .0)
+    (e .1 .0 .1)
+    (simp h at (e .1 .1 .0))
+    (simp h at (e .1 .1 .1))
 
 returns : tie.Need-returns Inv-loop μ-loop
 returns c =
     let b = c .before .before .before in
-    let a = b .args in
-    let l = c .before .loop in
-    at-foot (a .n) (a .t2) (a .t3) (a .t4) (a .t5) (a .t6) (a .t7) (a .t8) (b .good .1 .1 .0 .1 .0 .1) (b .good .1 .1 .1 .1 .1 .1 .0 .1 .0 .1) (b .good .1 .1 .1 .1 .1 .1 .1 .0 .1 .0 .1) (b .pre) (l .racking) (l .compressions) (l .tensions) (l .above .moment) (l .above .uplift .lee) (l .above .uplift .windward) (l .i) (c .loop-test .left) (l .inv)
+    at-foot (b .pre) (long b) (c .loop-test .left) (c .before .loop .inv)
 
 pub level-figures-spec : {M : Type 1} → statement M
 level-figures-spec =

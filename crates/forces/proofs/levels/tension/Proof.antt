@@ -1,6 +1,6 @@
 use lib.Dec.{lit<, lit≤}
 use Rattle.arith.proofs.Sizes.{small-neg, small-weaken}
-use Rattle.forces.proofs.LevelLaws.{held}
+use Rattle.forces.proofs.Words.{held}
 use borrow.Author.Needs.{needs}
 use Rattle.forces.proofs.levels.tension.Statement.{statement}
 use Rattle.forces.proofs.levels.tension.Tie as tie
