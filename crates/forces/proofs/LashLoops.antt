@@ -76,12 +76,13 @@ module _ {m : ℕ} {ls : List Lash} (g : Listed m ls) where
       {l : Lash} (own : getD ls j noLash ≡ l) {stiff at : ℕ} (es : stiff ≡ stiffnessOf l) (ea : suc at ≡ hookLevel l) where
     pub held-fits : getD levels at 0 + stiff < 2 ^ 64
     held-fits =
-        omega
-        (arith,
-        tallied-le (s .held) (first h own) (only-over ea),
-        tally-le (155000 * 2 ^ 22) (over at) stiffnessOf ls each-stiff,
-        g .counted,
-        g .few)
+        omega (
+          arith,
+          tallied-le (s .held) (first h own) (only-over ea),
+          tally-le (155000 * 2 ^ 22) (over at) stiffnessOf ls each-stiff,
+          g .counted,
+          g .few,
+        )
 
     pub hung-more : {long : ℕ} → long ≡ lashLength l → at < 10 → Hung m ls (set lengths j long) (set stiffnesses j stiff) (set levels at (getD levels at 0 + stiff)) (suc j)
     hung-more {long} el low =

@@ -1,12 +1,12 @@
 use lib.ListN.{take}
 use lib.Seq.{getD-take, length-take-le}
-use mathlib.Core.Path.{_≡_, sym, ap, _∙_}
+use mathlib.Core.Path.{sym, ap, _∙_}
 use Rattle.sheet.specs.declared.Tier.{Tier}
 use Rattle.forces.proofs.Descent.{Descended, Long, at-top, turned-once, at-foot}
 use mir.Syntax.{w32}
 use mir.ValLaws.{toZ-ofZ}
 use Prim.Native.Nat.{_<_, _-_}
-use Rattle.forces.specs.Fixed.{noTier, rackingPart, leeFound, windwardFound}
+use Rattle.forces.specs.Fixed.{noTier, leeFound, windwardFound}
 use native.Mathlib.Omega.{arith}
 use lib.Dec.{lit<, lit≤}
 use Rattle.arith.proofs.Sizes.{small-pos, small-weaken}

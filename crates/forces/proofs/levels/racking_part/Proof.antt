@@ -3,10 +3,6 @@ use Prim.Native.Nat.{_*_}
 use mathlib.Core.Path.{refl}
 use native.Mathlib.Omega.{arith}
 use lib.Dec.{lit<}
-use lib.IntN.{pos, _-ℤ_}
-use lib.Signed.{quotZ}
-use mir.Syntax.{w64}
-use mir.ValLaws.{toZ-ofZ}
 use Rattle.arith.proofs.Sizes.{fits64}
 use Rattle.arith.proofs.Ceilings.{divisor}
 use Rattle.forces.proofs.LevelLaws.{spring-le, difference, racking-small}
