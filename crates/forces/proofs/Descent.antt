@@ -62,22 +62,16 @@ pub record Descended
   pub lees-small : lees ≤ (suc n - i) * 2 ^ 58
   pub windwards-small : windwards ≤ (suc n - i) * 2 ^ 58
 
--- the lists are as long as they are read
-pub record Long (n : ℕ) (ts : List Tier) (lee windward : List ℕ) : Type 0 where
-  pub stacked : length ts ≡ n
-  pub lee-long : suc n ≤ length lee
-  pub windward-long : suc n ≤ length windward
-
 module _ {n : ℕ} {k : List ℕ} {ts : List Tier} {d most least lee windward : List ℕ}
-    (m : Measured n k ts d most least lee windward) (g : Long n ts lee windward) where
+    (m : Measured n k ts d most least lee windward) (stacked : length ts ≡ n) where
   pub at-top :
       {v : ℕ} →
       v ≡ compressed (getD most n 0) (pos 0) (getD lee n 0) (getD windward n 0) →
       Descended n k ts d most least lee windward (replicate 10 (pos 0)) (set (replicate 11 0) n v) (replicate 10 0) (pos 0) (getD lee n 0) (getD windward n 0) n
   at-top {v} e =
-      let no-moment = moment-off k d ts n (g .stacked) in
-      let top-lee = total-top lee n (g .lee-long) in
-      let top-windward = total-top windward n (g .windward-long) in
+      let no-moment = moment-off k d ts n stacked in
+      let top-lee = total-top lee n (omega (arith, m .few, m .lee-long)) in
+      let top-windward = total-top windward n (omega (arith, m .few, m .windward-long)) in
       record {
         within = omega arith;
         racked = between-none _ _ 10 n;
@@ -125,13 +119,13 @@ module _ {n : ℕ} {k : List ℕ} {ts : List Tier} {d most least lee windward : 
       where
         moment-under : pos h *ℤ p +ℤ moment ≡ momentOf k d (drop j ts) j
         moment-under =
-            rw (ep, eh, s .moment-is) (sym (moment-peel k d ts j (omega (arith, s .within, g .stacked))))
+            rw (ep, eh, s .moment-is) (sym (moment-peel k d ts j (omega (arith, s .within))))
 
         lee-under : lees + getD lee j 0 ≡ total (drop j (take (suc n) lee))
-        lee-under = omega (arith, s .lees-are, total-peel lee (suc n) j (omega (arith, s .within)) (g .lee-long))
+        lee-under = omega (arith, s .lees-are, total-peel lee (suc n) j (omega (arith, s .within)) (omega (arith, m .few, m .lee-long)))
 
         windward-under : windwards + getD windward j 0 ≡ total (drop j (take (suc n) windward))
-        windward-under = omega (arith, s .windwards-are, total-peel windward (suc n) j (omega (arith, s .within)) (g .windward-long))
+        windward-under = omega (arith, s .windwards-are, total-peel windward (suc n) j (omega (arith, s .within)) (omega (arith, m .few, m .windward-long)))
 
         small : Small ((n - j) * most-turn) (pos h *ℤ p +ℤ moment)
         small =

@@ -128,6 +128,8 @@ module _ {n : ℕ} {k : List ℕ} {ts : List Tier} {m : ℕ} {ls : List Lash} {�
         least-light = h .weighed .least-light;
         lee-small = u .lee-small;
         windward-small = u .windward-small;
+        lee-long = u .lee-long;
+        windward-long = u .windward-long;
       }
 
   pub end-worked :

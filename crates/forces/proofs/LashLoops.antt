@@ -15,7 +15,7 @@ use Rattle.sheet.specs.Lashings.{lashingOf}
 use Rattle.forces.specs.Facts.{LashFacts}
 use Rattle.forces.specs.Lashes.{hookLevel, lashLength}
 use Rattle.forces.specs.Reported.{noLash}
-use Rattle.forces.specs.Fixed.{ceil, stiffnessOf, levelStiffness, part, upward, upwards, pullFigure, athwartFigure, verticalFigure, leePart, windwardPart}
+use Rattle.forces.specs.Fixed.{ceil, lashPad, stiffnessOf, levelStiffness, part, upward, upwards, pullFigure, athwartFigure, verticalFigure, leePart, windwardPart}
 use Rattle.forces.specs.Steps.{Geared, Pulled}
 use Rattle.forces.proofs.Arrays.{Between, between-none, fill-above, filled}
 use Rattle.forces.proofs.LashStiffness.{stiffness-most}
@@ -173,9 +173,9 @@ module _ {m : ℕ} {ls : List Lash} {d : List ℕ} (g : Listed m ls) (small : (i
     pub strained-more :
         {p a v : ℕ} →
         at < 11 →
-        p ≡ ceil (ceil ((stiffnessOf l * getD d at 0 / 2 ^ 32 + 34336) * lashLength l) (l .ly)) (2 ^ 18) →
-        a ≡ ceil (stiffnessOf l * getD d at 0 / 2 ^ 32 + 34336) (2 ^ 18) →
-        v ≡ ceil (ceil ((stiffnessOf l * getD d at 0 / 2 ^ 32 + 34336) * l .lz) (l .ly)) (2 ^ 18) →
+        p ≡ ceil (ceil ((stiffnessOf l * getD d at 0 / 2 ^ 32 + lashPad) * lashLength l) (l .ly)) (2 ^ 18) →
+        a ≡ ceil (stiffnessOf l * getD d at 0 / 2 ^ 32 + lashPad) (2 ^ 18) →
+        v ≡ ceil (ceil ((stiffnessOf l * getD d at 0 / 2 ^ 32 + lashPad) * l .lz) (l .ly)) (2 ^ 18) →
         Strained m ls d (set pull j p) (set athwart j a) (set vertical j v) (set lee at (getD lee at 0 + leePart (lashingOf l) up)) (set windward at (getD windward at 0 + windwardPart (lashingOf l) up)) (suc j)
     unfolding pullFigure athwartFigure verticalFigure part
     strained-more {p} {a} {v} low ep eq ev =

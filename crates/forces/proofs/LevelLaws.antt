@@ -9,7 +9,7 @@ use lib.IntN.{ℤ, pos, negsuc, natAbs, negℤ, _+ℤ_, _-ℤ_, _*ℤ_}
 use lib.Signed.{quotZ, ltZ}
 use Rattle.arith.specs.Sizes.{Small}
 use Rattle.arith.proofs.Sizes.{small-weaken, small-pos, small-add, small-sub, small-mul}
-use Rattle.forces.specs.Fixed.{ceil, rackingFigure}
+use Rattle.forces.specs.Fixed.{ceil, rackingPad, rackingFigure, postPad}
 use Rattle.forces.proofs.Words.{not-below, small-quot}
 
 -- a racking
@@ -24,15 +24,15 @@ module _ {k u l : ℕ} (hk : k ≤ 15690) (hu : u ≤ 2 ^ 40) (hl : l ≤ 2 ^ 40
   racking-small = small-quot 1024 difference (omega (arith, difference .size))
 
 -- its figure
-pub newtons-le : {z : ℤ} {size newtons : ℕ} → Small (2 ^ 45) z → size ≡ natAbs z → newtons ≤ (size + 68158) / 262144 + 1 → newtons ≤ 2 ^ 30
+pub newtons-le : {z : ℤ} {size newtons : ℕ} → Small (2 ^ 45) z → size ≡ natAbs z → newtons ≤ (size + rackingPad) / 2 ^ 18 + 1 → newtons ≤ 2 ^ 30
 newtons-le s e h = omega (arith, s .size)
 
-pub figure-below : (z : ℤ) → ltZ z (pos 0) ≡ true → negℤ (pos (ceil (natAbs z + 68158) 262144)) ≡ rackingFigure z
+pub figure-below : (z : ℤ) → ltZ z (pos 0) ≡ true → negℤ (pos (ceil (natAbs z + rackingPad) (2 ^ 18))) ≡ rackingFigure z
 unfolding rackingFigure
 figure-below (pos n) e = absurd (not-below n e)
 figure-below (negsuc n) e = refl
 
-pub figure-from : (z : ℤ) → ltZ z (pos 0) ≡ false → pos (ceil (natAbs z + 68158) 262144) ≡ rackingFigure z
+pub figure-from : (z : ℤ) → ltZ z (pos 0) ≡ false → pos (ceil (natAbs z + rackingPad) (2 ^ 18)) ≡ rackingFigure z
 unfolding rackingFigure
 figure-from (pos n) e = refl
 figure-from (negsuc n) e = absurd (true≢false e)
@@ -56,5 +56,5 @@ module _ {weight : ℕ} {lean : ℤ} (hw : weight ≤ 2 ^ 40) (hl : Small (2 ^ 5
   pub post-small : {vertical : ℕ} → vertical ≤ 2 ^ 62 → Small (3 * 2 ^ 61) (pos weight +ℤ lean +ℤ pos vertical)
   post-small hv = small-weaken (small-add leaned (small-pos hv)) (lit≤ tt)
 
-pub padded : {z : ℤ} → Small (3 * 2 ^ 61) z → Small (3 * 2 ^ 61 + 2322596) (z +ℤ pos 2322596)
-padded s = small-add s (small-pos {b = 2322596} (lit≤ tt))
+pub padded : {z : ℤ} → Small (3 * 2 ^ 61) z → Small (3 * 2 ^ 61 + postPad) (z +ℤ pos postPad)
+padded s = small-add s (small-pos {b = postPad} (lit≤ tt))

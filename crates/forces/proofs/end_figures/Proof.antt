@@ -25,14 +25,13 @@ lash-figures-requires c κs =
 
 level-figures-requires : tie.Need-level-figures-requires
 level-figures-requires c κs =
-    let p = c .before .before .before .before in
-    let b = p .before .before .before .before in
-    end-measured (b .pre) (counted b) (p .before .solve .ensures) (p .lash-figures .ensures)
+    let b = c .before .before .before .before in
+    end-measured (b .pre) (counted b) (c .before .solve .ensures) (c .lash-figures .ensures)
 
 returns : tie.Need-returns
 returns c =
     let v = c .before .before .before .before .before .before in
-    let p = v .before .before .before .before .before in
+    let p = v .before in
     let s = p .before .before .before in
     end-worked (s .before .pre) (counted (s .before)) (s .gear-of .ensures) (p .before .solve .ensures) (p .lash-figures .ensures) (v .level-figures .ensures)
 
