@@ -11,3 +11,6 @@ pub mod Signs
 pub mod FractionsInRationals
 pub mod ByteLaws
 pub mod Quotients
+pub mod RootLaws
+pub mod Sizes
+pub mod Ceilings

@@ -1,7 +1,7 @@
--- Quotients of products of whole numbers, computed by parts.
-use Prim.Native.Nat.{ℕ, zero, suc, _+_, _*_, _/_, _%_, _<_, _≤_}
+-- Quotients of whole numbers as the code computes them: of products by parts, and rounded up by a step.
+use Prim.Native.Nat.{ℕ, _+_, _*_, _-_, _/_, _%_, _<_, _≤_}
 use mathlib.Core.Path.{_≡_, sym, ap, _∙_}
-use native.Mathlib.Nat.{mul-comm, mul-assoc, add-mul, div-add-mod', mul-add-div-right, mul-add-mod-self-right, mod-lt, le-of-lt, mul-le-mul-left, mul-le-mul-right, div-le-of-le-mul, div-div-eq-div-mul}
+use native.Mathlib.Nat.{mul-comm, mul-assoc, add-mul, div-add-mod', mul-add-div-right, mul-add-mod-self-right, mod-lt, le-of-lt, mul-le-mul-left, mul-le-mul-right, div-le-of-le-mul, div-div-eq-div-mul, div-eq-of-lt, div-eq-of-lt-le, add-assoc, add-zero}
 use native.Mathlib.Omega.{arith}
 
 -- x = x / c * c + x % c, times m
@@ -51,3 +51,24 @@ module _ (x y m : ℕ) (h : 0 < m) where
 
 pub split-mul-twice : (x y m n : ℕ) → 0 < m → (x * (y / m) + x * (y % m) / m) / n ≡ x * y / (m * n)
 split-mul-twice x y m n h = rw (split-mul x y m h) (div-div-eq-div-mul (x * y) m n)
+
+-- rounded up: one above the quotient rounded down where there is a remainder
+module _ (x d : ℕ) (h : 0 < d) where
+  up-by-parts : (x + (d - 1)) / d ≡ x / d + (x % d + (d - 1)) / d
+  up-by-parts =
+      let e : x + (d - 1) ≡ x / d * d + (x % d + (d - 1)) = omega (arith, div-add-mod' x d) in
+      ap (λ (n : ℕ). n / d) e ∙ mul-add-div-right h (x / d) (x % d + (d - 1))
+
+  pub up-step : 0 < x % d → x / d + 1 ≡ (x + (d - 1)) / d
+  up-step r =
+      let l : 1 * d ≤ x % d + (d - 1) = omega arith in
+      let u : x % d + (d - 1) < (1 + 1) * d = omega (arith, mod-lt x h) in
+      sym (up-by-parts ∙ ap (λ (n : ℕ). x / d + n) (div-eq-of-lt-le d l u))
+
+  pub up-level : x % d ≤ 0 → x / d ≡ (x + (d - 1)) / d
+  up-level r =
+      let l : x % d + (d - 1) < d = omega arith in
+      sym (up-by-parts ∙ ap (λ (n : ℕ). x / d + n) (div-eq-of-lt l) ∙ add-zero (x / d))
+
+  pub step-le : 0 < x % d → x / d + 1 ≤ x
+  step-le r = omega (arith, div-add-mod' x d, mul-le-mul-left (x / d) h)

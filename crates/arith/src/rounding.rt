@@ -2,7 +2,9 @@
 
 ghost use mathlib.Core.Path.{_≡_};
 ghost use Prim.Native.Nat.{ℕ, _+_, _*_, _/_, _<_, _≤_, _^_};
-ghost use Rattle.arith.specs.Rounding.{scaledDown};
+ghost use lib.IntN.{ℤ, natAbs};
+ghost use Rattle.arith.specs.Rounding.{scaledDown, roundedUp, roundedUpZ};
+ghost use Rattle.arith.specs.Sizes.{Small};
 
 // x * m / c, rounded down: the whole part of x / c and its remainder are scaled apart.
 pub fn scaled(x: u64, m: u64, c: u64) -> u64
@@ -27,4 +29,29 @@ pub fn split_product(x: u64, y: u64, m: u64, n: u64) -> u64
     ensures { λ r. ⌜ r ≡ scaledDown x y (m * n) ⌝ }
 {
     (x * (y / m) + (x * (y % m)) / m) / n
+}
+
+// x / d, rounded up.
+pub fn ceil_div(x: u64, d: u64) -> u64
+    requires { ⌜ 0 < d ⌝ }
+    ensures { λ r. ⌜ (r ≡ roundedUp x d) × (r ≤ x / d + 1) ⌝ }
+{
+    let q = x / d;
+    if x % d > 0 {
+        return q + 1;
+    }
+    q
+}
+
+// m / d of a signed m, rounded up: division itself rounds towards zero, which is up where m is below zero.
+pub fn ceil_signed(m: i64, d: u64) -> i64
+    requires { ⌜ (0 < d) × (d < 2 ^ 63) ⌝ }
+    ensures { λ r. ⌜ (r ≡ roundedUpZ m d) × Small (natAbs m / d + 1) r ⌝ }
+{
+    let e = d as i64;
+    let q = m / e;
+    if m % e > 0 {
+        return q + 1;
+    }
+    q
 }
