@@ -1,2 +1,5 @@
 pub mod Routes
 pub mod Kinds
+pub mod Layout
+pub mod Refusals
+pub mod Lashings

@@ -52,3 +52,17 @@ pub fn keep(s: Sheet) -> Sheet {
 pub fn keep_lashing(l: Lashing) -> Lashing {
     l
 }
+
+pub enum Reading {
+    Taken,
+    Refused(u64, usize),
+}
+
+pub struct Decoded {
+    pub reading: Reading,
+    pub sheet: Sheet,
+}
+
+pub fn keep_decoded(d: Decoded) -> Decoded {
+    d
+}

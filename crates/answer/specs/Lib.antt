@@ -1,0 +1,4 @@
+pub mod Limits
+pub mod Findings
+pub mod Answers
+pub mod Checked
