@@ -1,0 +1,4 @@
+pub mod Arrays
+pub mod Sizes
+pub mod Stores
+pub mod FindingLaws

@@ -2,3 +2,4 @@ pub mod Limits
 pub mod Findings
 pub mod Answers
 pub mod Checked
+pub mod Steps

@@ -1,5 +1,8 @@
 // The check: bytes of a stack sheet in, bytes of an answer out.
 
+pub mod findings; // findings.rt: where a reported size exceeds its limit
+pub mod limits; // limits.rt: permissible loads
+
 // What a check returns: the answer's length, or the two numbers of a refusal.
 pub enum Outcome {
     Taken(usize),

@@ -1,0 +1,46 @@
+-- Contracts of inner functions; nothing here need be believed.
+use mathlib.Core.Path.{_≡_}
+use mathlib.Core.Bool.{cond}
+use mathlib.Core.List.{List, [], _∷_, _++_, flatMap}
+use Prim.Native.Nat.{ℕ, zero, suc, _+_}
+use lib.Dec.{ltb}
+use lib.IntN.{pos, natAbs}
+use lib.ListN.{getD, length}
+use lib.Seq.{sets}
+use Rattle.sheet.specs.declared.Lash.{Lash}
+use Rattle.forces.specs.declared.EndFigures.{EndFigures}
+use Rattle.forces.specs.Reported.{noLash}
+use Rattle.answer.specs.Limits.{rackingLimit, compressionLimit, cornerTensionLimit, lashVerticalLimit, lashAthwartLimit, safeLoad}
+use Rattle.answer.specs.Answers.{below}
+
+-- `bytes` stored in a buffer from `at` on, and the place behind them
+pub record Wrote (before : List ℕ) (at : ℕ) (bytes after : List ℕ) (next : ℕ) : Type 0 where
+  pub stored : after ≡ sets before at bytes
+  pub place : next ≡ at + length bytes
+  pub room : length after ≡ length before
+
+-- the safe load of lash j
+abbrev pub lashLimit : List Lash → ℕ → ℕ
+lashLimit ls j = safeLoad (getD ls j noLash .material) (getD ls j noLash .breaking)
+
+-- the bytes of a finding where the size exceeds the limit, else none
+unfoldable pub findingWhere : ℕ → ℕ → ℕ → ℕ → ℕ → List ℕ
+findingWhere end kind index size limit = cond (ltb limit size) (end ∷ kind ∷ index ∷ []) []
+
+-- the bytes of the findings of one kind: of n sizes and limits, the first of which has the index `first`
+unfoldable pub findingsOver : ℕ → ℕ → ℕ → (ℕ → ℕ) → (ℕ → ℕ) → ℕ → List ℕ
+findingsOver end kind first size limit n = flatMap (λ k. findingWhere end kind (first + k) (size k) (limit k)) (below n)
+
+-- the bytes of an end's findings: kinds 1 to 4, of its tiers and levels, and kinds 5 to 7, of its lashes
+unfoldable pub tierFindings : ℕ → ℕ → ℕ → EndFigures → List ℕ
+tierFindings end n lock f =
+    findingsOver end 1 1 (λ k. natAbs (getD (f .racking) k (pos 0))) (λ k. rackingLimit) n
+    ++ findingsOver end 2 1 (λ k. getD (f .compression) (1 + k) 0) (λ k. compressionLimit) n
+    ++ findingsOver end 3 0 (λ k. getD (f .tension) k 0) (λ k. cornerTensionLimit) n
+    ++ findingsOver end 4 0 (λ k. getD (f .tension) k 0) (λ k. lock) n
+
+unfoldable pub lashFindings : ℕ → List Lash → ℕ → EndFigures → List ℕ
+lashFindings end ls m f =
+    findingsOver end 5 0 (λ j. getD (f .pull) j 0) (lashLimit ls) m
+    ++ findingsOver end 6 0 (λ j. getD (f .vertical) j 0) (λ j. lashVerticalLimit) m
+    ++ findingsOver end 7 0 (λ j. getD (f .athwart) j 0) (λ j. lashAthwartLimit) m
