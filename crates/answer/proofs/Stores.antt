@@ -7,7 +7,7 @@ use native.Mathlib.Numerals.{add-one}
 use native.Mathlib.Omega.{arith}
 use lib.ListN.{length, set, drop, length-append, length-set}
 use lib.Seq.{sets, sets-eq, set-comm, length-sets}
-use Rattle.answer.specs.Answers.{upFrom, below}
+use Rattle.answer.specs.Answers.{upFrom, below, counted}
 use Rattle.answer.specs.Steps.{Wrote}
 
 sets-append : (l xs ys : List ℕ) (i : ℕ) → sets l i (xs ++ ys) ≡ sets (sets l i xs) (i + length xs) ys
@@ -82,3 +82,7 @@ module _ (entry : ℕ → List ℕ) where
     entries-all n h g =
         let e : n ≡ i = omega arith in
         rw e w
+
+  -- a count stored first, then n entries
+  pub counted-all : {l k m : List ℕ} {at p : ℕ} (i n : ℕ) → k ≡ sets l at (n ∷ []) → Wrote k (at + 1) (flatMap entry (below i)) m p → i ≤ n → n ≤ i → Wrote l at (counted n entry) m p
+  counted-all i n e w h g = then (run {bytes = n ∷ []} e refl) (entries-all i w n h g)

@@ -7,11 +7,12 @@ use lib.Dec.{ltb}
 use lib.IntN.{pos, natAbs}
 use lib.ListN.{getD, length}
 use lib.Seq.{sets}
+use Rattle.arith.specs.Bytes.{bytes4, twos}
 use Rattle.sheet.specs.declared.Lash.{Lash}
 use Rattle.forces.specs.declared.EndFigures.{EndFigures}
 use Rattle.forces.specs.Reported.{noLash}
 use Rattle.answer.specs.Limits.{rackingLimit, compressionLimit, cornerTensionLimit, lashVerticalLimit, lashAthwartLimit, safeLoad}
-use Rattle.answer.specs.Answers.{below}
+use Rattle.answer.specs.Answers.{below, counted}
 
 -- `bytes` stored in a buffer from `at` on, and the place behind them
 pub record Wrote (before : List ℕ) (at : ℕ) (bytes after : List ℕ) (next : ℕ) : Type 0 where
@@ -44,3 +45,14 @@ lashFindings end ls m f =
     findingsOver end 5 0 (λ j. getD (f .pull) j 0) (lashLimit ls) m
     ++ findingsOver end 6 0 (λ j. getD (f .vertical) j 0) (λ j. lashVerticalLimit) m
     ++ findingsOver end 7 0 (λ j. getD (f .athwart) j 0) (λ j. lashAthwartLimit) m
+
+-- the bytes of a lash's three forces, and of an end of n tiers and m lashes
+abbrev pub lashBytes : ℕ → ℕ → ℕ → List ℕ
+lashBytes pull athwart vertical = bytes4 pull ++ bytes4 athwart ++ bytes4 vertical
+
+unfoldable pub endBytesOf : ℕ → ℕ → EndFigures → List ℕ
+endBytesOf n m f =
+    counted n (λ i. bytes4 (twos (getD (f .racking) i (pos 0))))
+    ++ counted (n + 1) (λ i. bytes4 (getD (f .compression) i 0))
+    ++ counted n (λ i. bytes4 (getD (f .tension) i 0))
+    ++ counted m (λ j. lashBytes (getD (f .pull) j 0) (getD (f .athwart) j 0) (getD (f .vertical) j 0))

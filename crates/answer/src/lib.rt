@@ -1,5 +1,6 @@
 // The check: bytes of a stack sheet in, bytes of an answer out.
 
+pub mod encode; // encode.rt: the answer's bytes
 pub mod findings; // findings.rt: where a reported size exceeds its limit
 pub mod limits; // limits.rt: permissible loads
 
