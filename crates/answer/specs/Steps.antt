@@ -2,23 +2,34 @@
 use mathlib.Core.Path.{_≡_}
 use mathlib.Core.Bool.{cond}
 use mathlib.Core.List.{List, [], _∷_, _++_, flatMap}
-use Prim.Native.Nat.{ℕ, zero, suc, _+_}
+use Prim.Native.Nat.{ℕ, _+_, _≤_}
 use lib.Dec.{ltb}
 use lib.IntN.{pos, natAbs}
 use lib.ListN.{getD, length}
 use lib.Seq.{sets}
 use Rattle.arith.specs.Bytes.{bytes4, twos}
 use Rattle.sheet.specs.declared.Lash.{Lash}
+use Rattle.sheet.specs.declared.Sheet.{Sheet}
 use Rattle.forces.specs.declared.EndFigures.{EndFigures}
+use Rattle.forces.specs.declared.Figures.{Figures}
 use Rattle.forces.specs.Reported.{noLash}
 use Rattle.answer.specs.Limits.{rackingLimit, compressionLimit, cornerTensionLimit, lashVerticalLimit, lashAthwartLimit, safeLoad}
-use Rattle.answer.specs.Answers.{below, counted}
+use Rattle.answer.specs.Findings.{findings}
+use Rattle.answer.specs.Answers.{below, counted, findingBytes}
 
 -- `bytes` stored in a buffer from `at` on, and the place behind them
 pub record Wrote (before : List ℕ) (at : ℕ) (bytes after : List ℕ) (next : ℕ) : Type 0 where
   pub stored : after ≡ sets before at bytes
   pub place : next ≡ at + length bytes
   pub room : length after ≡ length before
+
+-- the counts of a sheet fit its arrays
+pub record Sized (t : Sheet) : Type 0 where
+  pub tiers : t .ntiers ≤ 10
+  pub door : t .ndoor ≤ 8
+  pub closed : t .nclosed ≤ 8
+  pub door-array : length (t .door) ≡ 8
+  pub closed-array : length (t .closed) ≡ 8
 
 -- the safe load of lash j
 abbrev pub lashLimit : List Lash → ℕ → ℕ
@@ -56,3 +67,7 @@ endBytesOf n m f =
     ++ counted (n + 1) (λ i. bytes4 (getD (f .compression) i 0))
     ++ counted n (λ i. bytes4 (getD (f .tension) i 0))
     ++ counted m (λ j. lashBytes (getD (f .pull) j 0) (getD (f .athwart) j 0) (getD (f .vertical) j 0))
+
+-- the bytes of the findings, behind their count
+unfoldable pub findingsBytes : Sheet → Figures → List ℕ
+findingsBytes t f = length (findings t f) ∷ flatMap findingBytes (findings t f)

@@ -1,14 +1,19 @@
 // Document 01, "The answer sheet": a finding, of 3 bytes, wherever a reported size exceeds its limit.
 
 ghost use mathlib.Core.Path.{_≡_};
+ghost use mathlib.Core.List.{_++_};
 ghost use Prim.Native.Nat.{ℕ, _+_, _*_, _<_, _≤_};
 ghost use lib.IntN.{ℤ, pos, natAbs};
 ghost use lib.ListN.{length, getD};
-ghost use Rattle.answer.specs.Steps.{Wrote, findingWhere, findingsOver, tierFindings, lashFindings};
+ghost use Rattle.answer.specs.Steps.{Wrote, Sized, findingWhere, findingsOver, tierFindings, lashFindings, findingsBytes};
 use crate::limits::Limits;
+use crate::limits::safe_load;
 use crate::limits::safe_loads;
+use arith::bytes::write1;
 use forces::EndFigures;
+use forces::Figures;
 use sheet::Lash;
+use sheet::Sheet;
 
 // The size of a racking, its value without the sign.
 fn size(x: i32) -> u64
@@ -164,4 +169,38 @@ fn write_lash_findings(
     let p = write_lashes_over(answer, at, end, 5, pull, safe_loads(lashes, m), m);
     let q = write_lashes_over(answer, p, end, 6, vertical, [Limits::LASH_VERTICAL; 8], m);
     write_lashes_over(answer, q, end, 7, athwart, [Limits::LASH_ATHWART; 8], m)
+}
+
+// The findings of an end of n tiers and m lashes.
+fn write_end_findings(
+    answer: &mut [u8],
+    at: usize,
+    end: u8,
+    n: usize,
+    lock: u64,
+    lashes: [Lash; 8],
+    m: usize,
+    f: EndFigures,
+) -> usize
+    requires { ⌜ (n ≤ 10) × (m ≤ 8) × (at + 12 * n + 9 * m ≤ length (now answer)) ⌝ }
+    ensures { λ r. ⌜ Wrote (now (answer .entry)) at (tierFindings end n lock f ++ lashFindings end lashes m f) (now (answer .exit)) r × (r ≤ at + 12 * n + 9 * m) ⌝ }
+{
+    let p = write_tier_findings(answer, at, end, n, lock, f);
+    write_lash_findings(answer, p, end, lashes, m, f)
+}
+
+// All findings behind their count: the door end's, then the closed end's. The count is stored last.
+pub fn write_findings(answer: &mut [u8], at: usize, t: Sheet, f: Figures) -> usize
+    requires { ⌜ Sized t × (at + 385 ≤ length (now answer)) ⌝ }
+    ensures { λ r. ⌜ Wrote (now (answer .entry)) at (findingsBytes t f) (now (answer .exit)) r × (r ≤ at + 385) ⌝ }
+{
+    let n = t.ntiers;
+    let head = t.head;
+    let lock = safe_load(head.lock, head.breaking);
+    let door = t.door;
+    let closed = t.closed;
+    let p = write_end_findings(answer, at + 1, 0, n, lock, door, t.ndoor, f.door);
+    let q = write_end_findings(answer, p, 1, n, lock, closed, t.nclosed, f.closed);
+    write1(answer, at, ((q - at - 1) / 3) as u64);
+    q
 }
