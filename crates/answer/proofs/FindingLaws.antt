@@ -102,10 +102,10 @@ module _ (t : Sheet) (f : Figures) (e : End) (ls : List Lash) (m : ℕ) (few : l
       back j = omega arith
 
 -- the lashes of an end are those of its array
-door-few : (t : Sheet) → Sized t → length (lashesOf door t) ≡ t .ndoor
+pub door-few : (t : Sheet) → Sized t → length (lashesOf door t) ≡ t .ndoor
 door-few t s = length-take-le (t .ndoor) (t .door) (omega arith)
 
-closed-few : (t : Sheet) → Sized t → length (lashesOf closed t) ≡ t .nclosed
+pub closed-few : (t : Sheet) → Sized t → length (lashesOf closed t) ≡ t .nclosed
 closed-few t s = length-take-le (t .nclosed) (t .closed) (omega arith)
 
 -- both ends, behind the count that the place behind them gives

@@ -2,3 +2,4 @@ pub mod Arrays
 pub mod Sizes
 pub mod Stores
 pub mod FindingLaws
+pub mod AnswerLaws

@@ -1,18 +1,23 @@
 // Document 01, "The answer sheet": its bytes, one section behind another.
 
 ghost use mathlib.Core.Path.{_≡_};
+ghost use mathlib.Core.Bool.{cond};
 ghost use mathlib.Core.List.{_++_};
 ghost use Prim.Native.Nat.{ℕ, suc, _+_, _*_, _<_, _≤_};
 ghost use lib.IntN.{ℤ, pos};
-ghost use lib.ListN.{length, getD};
+ghost use lib.Dec.{eqb};
+ghost use lib.ListN.{length, getD, drop};
 ghost use Rattle.arith.specs.Bytes.{bytes4, twos};
 ghost use Rattle.forces.specs.Reported.{Fitting};
-ghost use Rattle.answer.specs.Answers.{counted};
-ghost use Rattle.answer.specs.Steps.{Wrote, lashBytes, endBytesOf};
+ghost use Rattle.answer.specs.Answers.{counted, answerBytes};
+ghost use Rattle.answer.specs.Steps.{Wrote, Sized, lashBytes, endBytesOf};
+use crate::findings::write_findings;
 use arith::bytes::write_signed;
 use arith::bytes::write1;
 use arith::bytes::write4;
 use forces::EndFigures;
+use forces::Figures;
+use sheet::Sheet;
 
 // A count n and n rackings; the place behind them.
 fn write_rackings(answer: &mut [u8], at: usize, racking: [i32; 10], n: usize) -> usize
@@ -108,4 +113,27 @@ fn write_end(answer: &mut [u8], at: usize, n: usize, m: usize, f: EndFigures) ->
     let q = write_compressions(answer, p, compression, n + 1);
     let s = write_tensions(answer, q, tension, n);
     write_lashes(answer, s, pull, athwart, vertical, m)
+}
+
+// 0 accepted, 1 not: findings stand from `first` to `end`.
+fn verdict_of(first: usize, end: usize) -> u64
+    ensures { λ r. ⌜ (r ≡ cond (eqb end first) 0 1) × (r ≤ 1) ⌝ }
+{
+    if end == first {
+        return 0;
+    }
+    1
+}
+
+// The answer to a sheet, from its figures: its length. The verdict is stored last, since the findings decide it.
+pub fn write_answer(answer: &mut [u8], t: Sheet, f: Figures) -> usize
+    requires { ⌜ Sized t × Fitting (f .door) × Fitting (f .closed) × (834 ≤ length (now answer)) ⌝ }
+    ensures { λ r. ⌜ (r ≡ length (answerBytes t f)) × (now (answer .exit) ≡ answerBytes t f ++ drop (length (answerBytes t f)) (now (answer .entry))) ⌝ }
+{
+    let n = t.ntiers;
+    let p = write_end(answer, 1, n, t.ndoor, f.door);
+    let q = write_end(answer, p, n, t.nclosed, f.closed);
+    let end = write_findings(answer, q, t, f);
+    write1(answer, 0, verdict_of(q + 1, end));
+    end
 }
