@@ -14,3 +14,5 @@ pub mod Quotients
 pub mod RootLaws
 pub mod Sizes
 pub mod Ceilings
+pub mod RationalRounding
+pub mod RoundingLaws

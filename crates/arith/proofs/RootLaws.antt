@@ -4,17 +4,17 @@ use native.Mathlib.Nat.{mul-le-mul}
 use native.Mathlib.Omega.{arith}
 use Rattle.arith.specs.Roots.{Least}
 
--- the last step: lo is too small, and hi is at most one above it
-module _ (s lo hi : ℕ) (below : lo * lo < s) (near : hi ≤ lo + 1) where
-  too-small : (k : ℕ) → s ≤ k * k → k < hi → ⊥
+-- the last step: lo is too small, and the next number is enough
+module _ (s lo : ℕ) (below : lo * lo < s) where
+  too-small : (k : ℕ) → s ≤ k * k → k < lo + 1 → ⊥
   too-small k h q =
       let l : k ≤ lo = omega arith in
       omega (arith, mul-le-mul l l)
 
-  above : (k : ℕ) → s ≤ k * k → hi ≤ k
+  above : (k : ℕ) → s ≤ k * k → lo + 1 ≤ k
   above k h = omega (arith, too-small k h)
 
-  pub last-step : s ≤ hi * hi → Least s hi
+  pub last-step : s ≤ (lo + 1) * (lo + 1) → Least s (lo + 1)
   last-step enough = record { enough = enough; least = above }
 
 -- the first step: what is below the longest side is too small

@@ -29,7 +29,8 @@ fn square(x: u64) -> u64
     x * x
 }
 
-// The least root of s, found by halving, from a side m on and no more than 5,000 above it.
+// The least root of s, found by halving, from a side m on and no more than 5,000 above it: lo is too small, hi is
+// enough.
 fn least_root(s: u64, m: u64) -> u64
     requires { ⌜ (0 < m) × (m ≤ 20000) × (m * m ≤ s) × (s ≤ (m + 5000) * (m + 5000)) ⌝ }
     ensures { λ r. ⌜ Least s r × (m ≤ r) ⌝ }
@@ -44,7 +45,7 @@ fn least_root(s: u64, m: u64) -> u64
             hi = mid;
         }
     }
-    hi
+    lo + 1
 }
 
 // The least whole length whose square is the sum of the sides' squares or more. Within these limits it is at most

@@ -49,9 +49,9 @@ pub fn ceil_signed(m: i64, d: u64) -> i64
     ensures { λ r. ⌜ (r ≡ roundedUpZ m d) × Small (natAbs m / d + 1) r ⌝ }
 {
     let e = d as i64;
-    let q = m / e;
+    let t = m / e;
     if m % e > 0 {
-        return q + 1;
+        return t + 1;
     }
-    q
+    t
 }

@@ -13,7 +13,7 @@ use Rattle.sheet.specs.declared.Lash.{Lash}
 use Rattle.sheet.specs.declared.Lashing.{Lashing}
 use Rattle.sheet.specs.declared.Lashing.the-variants.{Cross, Side}
 use Rattle.sheet.specs.declared.Sheet.{Sheet}
-use Rattle.sheet.specs.Kinds.{lashingOf}
+use Rattle.sheet.specs.Lashings.{lashingOf}
 use Rattle.sheet.specs.Routes.{routePercent}
 use Rattle.forces.specs.declared.EndFigures.{EndFigures}
 use Rattle.forces.specs.Loads.{boxLength}

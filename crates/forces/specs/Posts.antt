@@ -12,7 +12,7 @@ use Rattle.sheet.specs.declared.Tier.{Tier}
 use Rattle.sheet.specs.declared.Lash.{Lash}
 use Rattle.sheet.specs.declared.Lashing.{Lashing}
 use Rattle.sheet.specs.declared.Lashing.the-variants.{Cross, Side}
-use Rattle.sheet.specs.Kinds.{lashingOf}
+use Rattle.sheet.specs.Lashings.{lashingOf}
 use Rattle.forces.specs.Loads.{half, transverse, wind, upright}
 use Rattle.forces.specs.Lashes.{hookLevel, athwartPart, verticalPart}
 

@@ -114,14 +114,18 @@ lashRows n s at k = row1 s (lashPlace at k) 20 ∷ row10 s at k ∷ row11 n s at
 abbrev pub endRows : ℕ → List ℕ → ℕ → List Row
 endRows n s at = lashCountRows s at then flatMap (lashRows n s at) (below (byteAt s at))
 
--- the head, the tiers, the door end, the closed end; 2 follows the last entry
+abbrev pub doorRows : List ℕ → List Row
+doorRows s = endRows (tierCount s) s (doorPlace s)
+
+abbrev pub closedRows : List ℕ → List Row
+closedRows s = endRows (tierCount s) s (closedPlace s)
+
+-- 2 follows the last entry
+abbrev pub endsRows : List ℕ → List Row
+endsRows s = doorRows s then closedRows s then row2 s (sparePlace s) ∷ []
+
 abbrev pub sheetRows : List ℕ → List Row
-sheetRows s =
-    headRows s
-    then tiersRows s
-    then endRows (tierCount s) s (doorPlace s)
-    then endRows (tierCount s) s (closedPlace s)
-    then row2 s (sparePlace s) ∷ []
+sheetRows s = headRows s then tiersRows s then endsRows s
 
 -- the first row that holds turns the sheet back; where none does, it is taken
 unfoldable pub first : List Row → Reading

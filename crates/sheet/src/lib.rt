@@ -1,4 +1,24 @@
-// Stand-in: the structs of the sheet crate, until the decoder is merged.
+// A stack sheet: what its bytes hold, or why it is turned back. Tiers and lashes are counted from 0 here, bottom tier first.
+
+mod fields; // fields.rt: the fields and entries of a sheet, read from its bytes
+mod tests; // tests.rt: the tests of a sheet's items, in the order of reading
+
+ghost use mathlib.Core.Path.{_≡_};
+ghost use Prim.Native.Nat.{_<_, _≤_};
+ghost use Rattle.sheet.specs.Lashings.{lashingOf};
+ghost use Rattle.sheet.specs.Refusals.{decoded};
+ghost use Rattle.sheet.specs.Routes.{routePercent};
+
+// The head: rule number, route, lock material, a zero byte, lock breaking load in N.
+pub struct Head {
+    pub rule: u64,
+    pub route: u64,
+    pub lock: u64,
+    pub zero: u64,
+    pub breaking: u64,
+}
+
+// A tier: size in feet, wind, height in mm, mass in kg; A_T, A_Vmax and A_Vmin in thousandths of g.
 pub struct Tier {
     pub size: u64,
     pub wind: u64,
@@ -9,6 +29,7 @@ pub struct Tier {
     pub avmin: u64,
 }
 
+// A lash: tier (from 1), hook, kind, material; LX, LY, LZ in mm, area in mm², modulus in N/mm², breaking load in N.
 pub struct Lash {
     pub tier: u64,
     pub hook: u64,
@@ -22,14 +43,7 @@ pub struct Lash {
     pub breaking: u64,
 }
 
-pub struct Head {
-    pub rule: u64,
-    pub route: u64,
-    pub lock: u64,
-    pub zero: u64,
-    pub breaking: u64,
-}
-
+// A decoded sheet. Entries of an array behind its count are blank.
 pub struct Sheet {
     pub head: Head,
     pub tiers: [Tier; 10],
@@ -40,19 +54,7 @@ pub struct Sheet {
     pub nclosed: usize,
 }
 
-pub enum Lashing {
-    Cross(Lash),
-    Side(Lash),
-}
-
-pub fn keep(s: Sheet) -> Sheet {
-    s
-}
-
-pub fn keep_lashing(l: Lashing) -> Lashing {
-    l
-}
-
+// What comes of reading: the sheet is taken, or refused with a number of the table and its second number.
 pub enum Reading {
     Taken,
     Refused(u64, usize),
@@ -63,6 +65,44 @@ pub struct Decoded {
     pub sheet: Sheet,
 }
 
-pub fn keep_decoded(d: Decoded) -> Decoded {
-    d
+// A lash by its kind: a cross lash is on the lee corner, a side lash on the windward corner.
+pub enum Lashing {
+    Cross(Lash),
+    Side(Lash),
+}
+
+// The sheet that the bytes hold, or a blank one with the first fault.
+pub fn decode(s: &[u8]) -> Decoded
+    ensures { λ r. ⌜ r ≡ decoded (now (s .entry)) ⌝ }
+{
+    let reading = tests::test_sheet(s);
+    match reading {
+        Reading::Taken => Decoded {
+            reading: Reading::Taken,
+            sheet: fields::sheet_of(s),
+        },
+        Reading::Refused(number, second) => Decoded {
+            reading: Reading::Refused(number, second),
+            sheet: fields::blank_sheet(),
+        },
+    }
+}
+
+pub fn lashing_of(l: Lash) -> Lashing
+    ensures { λ r. ⌜ r ≡ lashingOf l ⌝ }
+{
+    if l.kind == 0 {
+        return Lashing::Cross(l);
+    }
+    Lashing::Side(l)
+}
+
+// Route factor percents (CR 5.2.4(c)).
+pub const ROUTE_PERCENT: [u64; 13] = [100, 87, 96, 95, 94, 100, 95, 73, 86, 90, 90, 73, 87];
+
+pub fn route_percent(route: u64) -> u64
+    requires { ⌜ route < 13 ⌝ }
+    ensures { λ r. ⌜ (r ≡ routePercent route) × (73 ≤ r) × (r ≤ 100) ⌝ }
+{
+    ROUTE_PERCENT[route as usize]
 }

@@ -1,5 +1,6 @@
 -- `arith::roots::least_root` by halving: lo is too small, hi is enough, and no trial lies below m.
 use Prim.Native.Nat.{_*_, _+_, _/_, _-_, _<_, _≤_}
+use mathlib.Core.Path.{_≡_}
 use native.Mathlib.Nat.{mul-le-mul}
 use native.Mathlib.Omega.{arith}
 use borrow.Author.Needs.{needs}
@@ -52,8 +53,15 @@ loop-less-2 c = search needs
 loop-again-2 : tie.Need-loop-again-2 Inv-loop μ-loop
 loop-again-2 c = search needs
 
+add-result : tie.Need-add-result Inv-loop μ-loop
+add-result c = search needs
+
 returns : tie.Need-returns Inv-loop μ-loop
-returns c = (last-step _ _ _ (c .before .loop .inv .0) (c .loop-test .left) (c .before .loop .inv .1), search needs)
+returns c =
+    let l = c .before .loop in
+    let e : l .hi ≡ l .lo + 1 = omega arith in
+    let enough : c .before .before .args .s ≤ (l .lo + 1) * (l .lo + 1) = rw (← e) (l .inv .1) in
+    (last-step _ _ (l .inv .0) enough, search needs)
 
 pub least-root-spec : {M : Type 1} → statement M
 least-root-spec =
@@ -72,4 +80,5 @@ least-root-spec =
     loop-again
     loop-less-2
     loop-again-2
+    add-result
     returns)

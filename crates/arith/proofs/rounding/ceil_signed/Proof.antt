@@ -11,8 +11,8 @@ use Rattle.arith.proofs.rounding.ceil_signed.Tie as tie
 cast-e : tie.Need-cast-e
 cast-e c = search needs
 
-div-q : tie.Need-div-q
-div-q c =
+div-t : tie.Need-div-t
+div-t c =
     let m = c .args .m in
     let d = c .args .d in
     let f = c .fits .m in
@@ -52,4 +52,4 @@ returns-2 c =
     simp (toZ-ofZ w64 m f, divisor d (c .before .pre .1), toZ-ofZ w64 (quotZ m (pos d)) (quot64 m d f)) (level m d (c .before .pre .0) e, level-size m d)
 
 pub ceil-signed-spec : {M : Type 1} → statement M
-ceil-signed-spec = tie.close (tie.spec cast-e div-q rem-if1 add-result returns returns-2)
+ceil-signed-spec = tie.close (tie.spec cast-e div-t rem-if1 add-result returns returns-2)

@@ -1,0 +1,15 @@
+pub mod Bools
+pub mod Rows
+pub mod Arrays
+pub mod Items
+pub mod Routes
+pub mod Clear
+pub mod Limits
+pub mod Taken
+pub mod Levels
+pub mod Refusal
+pub mod FirstBytes
+pub mod ReadBack
+pub mod RoundTrip
+pub mod WrittenBytes
+pub mod Examples
