@@ -13,7 +13,7 @@ use mir.ValLaws.{sfits-le, toZ-ofZ}
 use Rattle.arith.specs.Rounding.{roundedUpZ}
 use Rattle.arith.specs.Sizes.{Small}
 use Rattle.arith.proofs.Quotients.{up-step, up-level, step-le}
-use Rattle.arith.proofs.Sizes.{abs-quot}
+use Rattle.arith.proofs.Sizes.{natAbs-quot}
 
 -- a divisor of 63 bits, as a signed number
 pub divisor : (d : ℕ) → d < 2 ^ 63 → toZ w64 d ≡ pos d
@@ -44,7 +44,7 @@ level (pos n) d h e = ap pos (up-level n d h (ltb-false 0 (n % d) e))
 level (negsuc n) d h e = refl
 
 pub level-size : (z : ℤ) (d : ℕ) → Small (natAbs z / d + 1) (quotZ z (pos d))
-level-size z d = record { size = omega (arith, abs-quot z d) }
+level-size z d = record { size = omega (arith, natAbs-quot z d) }
 
 -- with one, the next number is
 pub step : (z : ℤ) (d : ℕ) → 0 < d → ltZ (pos 0) (remZ z (pos d)) ≡ true → quotZ z (pos d) +ℤ pos 1 ≡ roundedUpZ z d

@@ -8,7 +8,8 @@ use Rattle.arith.specs.Rounding.{scaledDown, roundedUp, roundedUpZ}
 use Rattle.arith.proofs.Rationals as Q
 use Rattle.arith.proofs.Rationals.{to-⊑, _+ℚ_, _/ℚ_, int-plus}
 use Rattle.arith.proofs.FractionsInRationals.{to-⊏, toℚ}
-use Rattle.arith.proofs.RationalRounding.{above-0, div-le, lt-div, down-le, down-lt, up-le, up-lt, div-down, ceil-up, ceil-upZ, scaled-down, scaled-low, scaled-lt}
+use Rattle.arith.proofs.RationalOrder.{above-0, div-le, lt-div}
+use Rattle.arith.proofs.RationalRounding.{down-le, down-lt, up-le, up-lt, div-down, ceil-up, ceil-upZ, scaled-down, scaled-low, scaled-lt}
 
 next : (n : ℕ) → Q.int (pos (n + 1)) ≡ Q.int (pos n) +ℚ Q.int (pos 1)
 next n = int-plus (pos n) (pos 1)

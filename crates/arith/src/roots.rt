@@ -1,6 +1,6 @@
 // The length of a line from its three sides, in whole numbers.
 
-ghost use Prim.Native.Nat.{ℕ, _+_, _*_, _<_, _≤_};
+ghost use Prim.Native.Nat.{_+_, _*_, _<_, _≤_};
 ghost use mathlib.Core.Path.{_≡_};
 ghost use Rattle.arith.specs.Roots.{Least};
 

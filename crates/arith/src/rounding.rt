@@ -1,8 +1,8 @@
 // Quotients rounded down and up, without a step that leaves 64 bits.
 
 ghost use mathlib.Core.Path.{_≡_};
-ghost use Prim.Native.Nat.{ℕ, _+_, _*_, _/_, _<_, _≤_, _^_};
-ghost use lib.IntN.{ℤ, natAbs};
+ghost use Prim.Native.Nat.{_+_, _*_, _/_, _<_, _≤_, _^_};
+ghost use lib.IntN.{natAbs};
 ghost use Rattle.arith.specs.Rounding.{scaledDown, roundedUp, roundedUpZ};
 ghost use Rattle.arith.specs.Sizes.{Small};
 

@@ -12,7 +12,7 @@ use Rattle.arith.specs.Fractions.{Frac, nat, _+q_, _-q_, _*q_, sumq}
 use Rattle.arith.proofs.Rings.{∀₁, ∀₂, ∀₃, ∀₄, ∀₅, by-cert, to, num, _⊞_, _⊠_}
 use Rattle.arith.proofs.Rationals.{ℚR, ℚ, mk, _+ℚ_, _-ℚ_, _*ℚ_, _/ℚ_, recipℚ, _≤ℚ_, <→≤, nn-int, nn-plus, nn-times, recip-nn}
 use Rattle.arith.proofs.RationalTerms.{qq}
-use Rattle.arith.proofs.RationalRounding.{nat-q}
+use Rattle.arith.proofs.RationalOrder.{nat-q}
 use Rattle.arith.proofs.FractionsInRationals.{mk-int, mk-add, mk-sub, mk-mul, of-⊏}
 use Rattle.springs.specs.Equations as S
 use Rattle.springs.specs.Equations.{given}
@@ -29,7 +29,7 @@ use Rattle.forces.specs.Reported.{noLash}
 use Rattle.forces.proofs.Facts.{LashFacts}
 use Rattle.forces.proofs.LashLength.{length-above, length-ratio, vertical-ratio}
 use Rattle.forces.proofs.LashForces.{stiffness, athwart-is, pull-is, vertical-is}
-use Rattle.forces.proofs.Newtons.{share-most}
+use Rattle.forces.proofs.Scales.{share-most}
 use Rattle.forces.proofs.RoundedDown.{nat-times}
 use Rattle.forces.proofs.LashStiffness.{stiffness-above}
 use Rattle.forces.proofs.LevelStiffness.{Each, each-head, each-tail}
@@ -165,7 +165,7 @@ module _ (n : ℕ) (Ds : List Frac) (lee : (i : ℕ) → natℚ 0 ≤ℚ mk (S.s
   turned-part k l f N h x e =
       record {
         least = rw is (nn-times A q (part-least l f) q-least);
-        most = rw is (go A q (natℚ k) (part-least l f) (share-most 0 N (l .ly) (omega (arith, f .ly)) k h));
+        most = rw is (go A q (natℚ k) (part-least l f) (share-most N (l .ly) (omega (arith, f .ly)) k h));
       }
     where
       A : ℚ

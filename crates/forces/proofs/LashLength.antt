@@ -4,7 +4,6 @@ use mathlib.Core.Bool.{Bool, true, false, not, cond}
 use Prim.Native.Nat.{ℕ, zero, suc, _+_, _*_, _≤_, _<_}
 use native.Mathlib.Omega.{arith}
 use native.Mathlib.Nat.{mul-le-mul}
-use native.Mathlib.Decide.{decLe}
 use lib.Dec.{T, leb, leb→le, nleb→lt}
 use Rattle.arith.specs.Roots.{Least}
 use Rattle.sheet.specs.declared.Lash.{Lash}
@@ -46,20 +45,23 @@ pub length-least : (l : Lash) → Least (squares l) (lashLength l)
 unfolding lashLength
 length-least l = least-from (squares l) 0 (squares l) (λ j h. omega arith) (omega (arith, square-up (squares l)))
 
-module _ {n : ℕ} {l : Lash} (f : LashFacts n l) where
-  -- a root that the least one does not pass
-  pub length-le : (k : ℕ) → squares l ≤ k * k → lashLength l ≤ k
-  length-le k h = length-least l .least k h
+-- a least root is the length
+pub length-is : (l : Lash) (r : ℕ) → Least (squares l) r → r ≡ lashLength l
+length-is l r h =
+    omega (arith, h .least (lashLength l) (length-least l .enough), length-least l .least r (h .enough))
 
-  pub length-above : 1 ≤ lashLength l
+module _ {n : ℕ} {l : Lash} (f : LashFacts n l) where
+  pub length-above : 0 < lashLength l
   length-above = go (lashLength l) (length-least l .enough) (f .ly)
     where
-      go : (k : ℕ) → squares l ≤ k * k → 500 ≤ l .ly → 1 ≤ k
+      go : (k : ℕ) → squares l ≤ k * k → 500 ≤ l .ly → 0 < k
       go zero h y = omega (arith, mul-le-mul y y)
       go (suc k) h y = omega arith
 
   pub length-ratio : lashLength l ≤ 42 * l .ly
-  length-ratio = length-le (42 * l .ly) (omega (arith, mul-le-mul (f .lx) (f .lx), mul-le-mul (f .lz-most) (f .lz-most), mul-le-mul (f .ly) (f .ly)))
+  length-ratio =
+      length-least l .least (42 * l .ly)
+      (omega (arith, mul-le-mul (f .lx) (f .lx), mul-le-mul (f .lz-most) (f .lz-most), mul-le-mul (f .ly) (f .ly)))
 
   pub vertical-ratio : l .lz ≤ 40 * l .ly
   vertical-ratio = omega (arith, f .ly, f .lz-most)

@@ -11,7 +11,7 @@ use Rattle.arith.proofs.IntegerTerms.{zq}
 use Rattle.arith.proofs.IntegerOmega.{nat-le, le-nat}
 use Rattle.arith.proofs.Rationals.{ℚR, ℚ, _*ℚ_, _≤ℚ_, nn-int}
 use Rattle.arith.proofs.RationalTerms.{qq}
-use Rattle.arith.proofs.RationalRounding.{nat-q, lt-of}
+use Rattle.arith.proofs.RationalOrder.{nat-q, lt-of}
 use Rattle.arith.proofs.FractionsInRationals.{mk-int, to-⊏}
 use Rattle.springs.proofs.Chain.{natℚ}
 use Rattle.sheet.specs.declared.Lash.{Lash}

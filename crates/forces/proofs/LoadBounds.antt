@@ -11,7 +11,7 @@ use Rattle.arith.specs.Fractions.{Frac, nat, _+q_, _*q_, _≈_, sumq}
 use Rattle.arith.proofs.Rings.{∀₁, ∀₂, ∀₃, ∀₇, ∀₉, by-cert, to, num, _⊞_, _⊠_}
 use Rattle.arith.proofs.Rationals.{ℚR, ℚ, mk, int, _+ℚ_, _*ℚ_, _≤ℚ_, nn-int, nn-plus}
 use Rattle.arith.proofs.RationalTerms.{qq}
-use Rattle.arith.proofs.RationalRounding.{nat-q}
+use Rattle.arith.proofs.RationalOrder.{nat-q}
 use Rattle.arith.proofs.FractionsInRationals.{mk-int, mk-add}
 use Rattle.springs.specs.Equations as S
 use Rattle.springs.proofs.Chain.{natℚ}

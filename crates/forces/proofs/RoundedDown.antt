@@ -7,7 +7,8 @@ use Rattle.arith.proofs.Polynomials.{v, ⊖_}
 use Rattle.arith.proofs.Rings.{∀₁, ∀₄, ∀₅, ∀₇, by-cert, to, times, num, over, _⊞_}
 use Rattle.arith.proofs.Rationals.{ℚR, ℚ, mk, int, _+ℚ_, _*ℚ_, _≤ℚ_, of-⊑, to-⊑, int-plus, int-times}
 use Rattle.arith.proofs.RationalTerms.{qq}
-use Rattle.arith.proofs.RationalRounding.{nat-q, lt-not, above-0, scaled-down, down-low, down-high}
+use Rattle.arith.proofs.RationalOrder.{nat-q, lt-not, above-0}
+use Rattle.arith.proofs.RationalRounding.{scaled-down, down-low, down-high}
 use Rattle.arith.proofs.FractionsInRationals.{mk-add, of-≈}
 use Rattle.springs.specs.Promise.{Rounded}
 use Rattle.springs.proofs.Chain.{natℚ}

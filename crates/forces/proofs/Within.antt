@@ -9,7 +9,7 @@ use Rattle.arith.proofs.Polynomials.{v, kp, kn}
 use Rattle.arith.proofs.Rings.{∀₂, ∀₃, ∀₄, by-cert, to, times, over, _⊞_, _⊠_}
 use Rattle.arith.proofs.Rationals.{ℚR, ℚ, mk, int, _+ℚ_, _-ℚ_, _*ℚ_, negℚ, absℚ, _≤ℚ_, nn-int, nn-plus, nn-times}
 use Rattle.arith.proofs.RationalTerms.{qq}
-use Rattle.arith.proofs.RationalRounding.{nat-q, above-0, lt-not, div-le, le-div}
+use Rattle.arith.proofs.RationalOrder.{nat-q, above-0, lt-not, div-le, le-div}
 use Rattle.arith.proofs.FractionsInRationals.{mk-int, mk-add, mk-sub, mk-neg, mk-mul, mk-div, mk-abs, of-⊏}
 use Rattle.springs.proofs.Chain.{natℚ, ≤-trans, abs-le}
 use Rattle.forces.specs.Reported.{Reported}

@@ -1,7 +1,7 @@
 -- `arith::rounding::scaled_twice` scales by m, then by n from the remainder.
 use Prim.Native.Nat.{_*_, _%_}
 use native.Mathlib.Omega.{arith}
-use Rattle.arith.proofs.Quotients.{rest-le, rest-div-le, split-twice, twice-le, once-le}
+use Rattle.arith.proofs.Quotients.{rest-le, split-twice, twice-le, once-le}
 use borrow.Author.Needs.{needs}
 use Rattle.arith.proofs.rounding.scaled_twice.Statement.{statement}
 use Rattle.arith.proofs.rounding.scaled_twice.Tie as tie
