@@ -123,10 +123,7 @@ share-is = record { cross = refl }
 
 pub factor-is : (t : Sheet) → nat 1000 *q routeFactor t ≈ nat (10 * routePercent (t .head .route))
 unfolding recip
-factor-is t = record { cross = ap pos (go (routePercent (t .head .route))) }
-  where
-    go : (p : ℕ) → 1000 * (p * 1) * 1 ≡ 10 * p * 100
-    go p = omega arith
+factor-is t = record { cross = ap pos (omega arith) }
 
 -- the load on a level of an end
 module _ (e : End) (t : Sheet) where
