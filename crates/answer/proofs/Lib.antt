@@ -3,3 +3,4 @@ pub mod Sizes
 pub mod Stores
 pub mod FindingLaws
 pub mod AnswerLaws
+pub mod Accepted

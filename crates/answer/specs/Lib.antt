@@ -3,3 +3,4 @@ pub mod Findings
 pub mod Answers
 pub mod Checked
 pub mod Steps
+pub mod Consequences
