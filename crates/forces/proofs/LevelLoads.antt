@@ -13,16 +13,17 @@ use Rattle.arith.proofs.Polynomials.{v, kp, kn, _⊖_, _⊗_, ⊖_}
 use Rattle.arith.proofs.Rings.{∀₂, ∀₄, ∀₅, ∀₁₂, by-ring, by-eqs, times, mul-eq, part, both, _⊹_}
 use Rattle.arith.proofs.Rationals.{ℚR, ℚ, mk, int, _+ℚ_, _-ℚ_, _*ℚ_}
 use Rattle.arith.proofs.RationalTerms.{qq}
-use Rattle.arith.proofs.FractionsInRationals.{to-≈, mk-int, mk-sub}
+use Rattle.arith.proofs.FractionsInRationals.{mk-int, mk-sub}
 use Rattle.springs.specs.Equations.{given}
 use Rattle.springs.specs.Promise.{Rounded, loadAt}
 use Rattle.springs.proofs.Chain.{natℚ}
+use Rattle.springs.proofs.Inputs.{rounded-quotient, rounded-same}
 use Rattle.sheet.specs.declared.Tier.{Tier}
 use Rattle.forces.specs.Loads.{half, thousandths, weight, transverse, boxLength, wind, load}
 use Rattle.forces.specs.Ends.{End, chainTiers}
 use Rattle.forces.specs.Fixed.{noTier, push, gust, levelLoad}
 use Rattle.forces.proofs.Facts.{TierFacts}
-use Rattle.forces.proofs.RoundedDown.{nat-times, nat-plus, times-q, rounded-quotient}
+use Rattle.forces.proofs.WholeNumbers.{nat-times, nat-plus, times-q, quotient-is}
 
 -- F of a tier is the factor × 981 × mass × A_T / 200,000, and P 27 × length × height / 50,000
 push-frac : (t : Tier) (a : ℕ) → nat 200000 *q (half *q weight t *q thousandths a) ≈ nat (981 * (t .mass * a))
@@ -186,13 +187,13 @@ module _ (share factor : Frac) (s f : ℕ) (s20 : s ≤ 20) (share-is : nat 20 *
   -- rounded down
   pub load-rounded : (e : End) (ts : List Tier) (i : ℕ) →
       Rounded (2 ^ 28) 1 (levelLoad s f (getD ts i noTier) (getD ts (suc i) noTier)) (loadAt (chainTiers e share factor ts) i)
-  unfolding levelLoad int _*ℚ_
+  unfolding levelLoad
   load-rounded e ts i =
       let t = getD ts i noTier in
       let u = getD ts (suc i) noTier in
       let Q = loadAt (chainTiers e share factor ts) i in
-      rounded-quotient (2 ^ 28) _ 4000000000 Q (omega arith)
-      (to-≈ (nat 4000000000 *q Q) (nat _) (ap (λ z. natℚ 4000000000 *ℚ z) (load-between share factor e ts i) ∙ between-times t u ∙ ap natℚ (omega arith)))
+      let exact = ap (λ z. natℚ 4000000000 *ℚ z) (load-between share factor e ts i) ∙ between-times t u in
+      rounded-same (2 ^ 28) 1 (levelLoad s f t u) _ Q (quotient-is 4000000000 _ Q (omega arith) (exact ∙ ap natℚ (omega arith))) (rounded-quotient _ (2 ^ 28) 4000000000 (omega arith))
 
 -- pushes and gusts of a tier within its limits
 pub push-most : {t : Tier} → TierFacts t → push t ≤ 45720000
