@@ -4,3 +4,5 @@ pub mod Stores
 pub mod FindingLaws
 pub mod AnswerLaws
 pub mod Accepted
+pub mod ReadBack
+pub mod Longest

@@ -4,3 +4,4 @@ pub mod Answers
 pub mod Checked
 pub mod Steps
 pub mod Consequences
+pub mod Places
