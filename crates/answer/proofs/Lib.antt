@@ -6,3 +6,4 @@ pub mod AnswerLaws
 pub mod Accepted
 pub mod ReadBack
 pub mod Longest
+pub mod Table

@@ -5,3 +5,4 @@ pub mod Checked
 pub mod Steps
 pub mod Consequences
 pub mod Places
+pub mod Table
