@@ -10,6 +10,9 @@ use lib.Dec.{eqb}
 use lib.ListN.{length}
 use lib.Seq.{sets}
 use Rattle.sheet.specs.declared.Sheet.{Sheet}
+use Rattle.sheet.specs.Layout.{blankLash}
+use Rattle.sheet.specs.Fits.{Fits, Padded}
+use Rattle.sheet.proofs.Arrays.{full}
 use Rattle.forces.specs.declared.EndFigures.{EndFigures}
 use Rattle.forces.specs.declared.Figures.{Figures}
 use Rattle.forces.specs.Ends.{End, door, closed, lashesOf}
@@ -17,7 +20,7 @@ use Rattle.answer.specs.Findings.{Finding, findings, verdict}
 use Rattle.answer.specs.Answers.{endBytes, answerBytes, findingBytes}
 use Rattle.answer.specs.Steps.{Wrote, Sized, endBytesOf, findingsBytes}
 use Rattle.answer.proofs.Stores.{then, in-front}
-use Rattle.answer.proofs.FindingLaws.{door-few, closed-few, bytes-length}
+use Rattle.answer.proofs.FindingLaws.{bytes-length}
 
 -- an end's bytes, by its counts
 pub end-is : (t : Sheet) (e : End) (f : EndFigures) (m : ℕ) → length (lashesOf e t) ≡ m → endBytes t e f ≡ endBytesOf (t .ntiers) m f
@@ -41,5 +44,16 @@ module _ (t : Sheet) (f : Figures) (s : Sized t) where
   whole {l} {m} {k} {j} {z} {p} {q} {end} {v} a b d e g =
       let h : end ≡ q + 1 + length (flatMap findingBytes (findings t f)) = omega (arith, d .place) in
       let u = g ∙ verdict-is (findings t f) (q + 1) end h in
-      rw (end-is t door (f .door) (t .ndoor) (door-few t s), end-is t closed (f .closed) (t .nclosed) (closed-few t s), ← u)
+      rw (end-is t door (f .door) (t .ndoor) (s .door-lashes), end-is t closed (f .closed) (t .nclosed) (s .closed-lashes), ← u)
       (in-front v (then (then a b) d) e)
+
+-- a sheet within document 01's limits, with its arrays blank behind the counts
+pub sized : (t : Sheet) → Fits t → Padded t → Sized t
+sized t f p =
+    record {
+      tiers = f .few;
+      door-few = f .door .few;
+      closed-few = f .closed .few;
+      door-lashes = full 8 blankLash (t .door) (t .ndoor) (p .door) (f .door .few);
+      closed-lashes = full 8 blankLash (t .closed) (t .nclosed) (p .closed) (f .closed .few);
+    }

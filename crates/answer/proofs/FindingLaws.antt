@@ -8,7 +8,7 @@ use native.Mathlib.Omega.{arith}
 use lib.Dec.{ltb}
 use lib.IntN.{pos, natAbs}
 use lib.ListN.{length, getD}
-use lib.Seq.{sets, length-take-le, getD-take}
+use lib.Seq.{sets, getD-take}
 use Rattle.sheet.specs.declared.Lash.{Lash}
 use Rattle.sheet.specs.declared.Sheet.{Sheet}
 use Rattle.forces.specs.declared.EndFigures.{EndFigures}
@@ -101,13 +101,6 @@ module _ (t : Sheet) (f : Figures) (e : End) (ls : List Lash) (m : ℕ) (few : l
       back : (j : ℕ) → 1 + j - 1 ≡ j
       back j = omega arith
 
--- the lashes of an end are those of its array
-pub door-few : (t : Sheet) → Sized t → length (lashesOf door t) ≡ t .ndoor
-door-few t s = length-take-le (t .ndoor) (t .door) (omega arith)
-
-pub closed-few : (t : Sheet) → Sized t → length (lashesOf closed t) ≡ t .nclosed
-closed-few t s = length-take-le (t .nclosed) (t .closed) (omega arith)
-
 -- both ends, behind the count that the place behind them gives
 module _ (t : Sheet) (f : Figures) (s : Sized t) (lock : ℕ) (safe : lock ≡ safeLoad (t .head .lock) (t .head .breaking)) where
   abbrev both : List ℕ
@@ -121,8 +114,8 @@ module _ (t : Sheet) (f : Figures) (s : Sized t) (lock : ℕ) (safe : lock ≡ s
       rw (safe, bytes-append)
       (ap₂
       (λ (a b : List ℕ). a ++ b)
-      (end-bytes t f door (t .door) (t .ndoor) (door-few t s) (λ j h. getD-take (t .ndoor) (t .door) j noLash h))
-      (end-bytes t f closed (t .closed) (t .nclosed) (closed-few t s) (λ j h. getD-take (t .nclosed) (t .closed) j noLash h)))
+      (end-bytes t f door (t .door) (t .ndoor) (s .door-lashes) (λ j h. getD-take (t .ndoor) (t .door) j noLash h))
+      (end-bytes t f closed (t .closed) (t .nclosed) (s .closed-lashes) (λ j h. getD-take (t .nclosed) (t .closed) j noLash h)))
 
   pub behind-count : {l m n : List ℕ} {at q : ℕ} → Wrote l (at + 1) both m q → n ≡ sets m at ((q - at - 1) / 3 ∷ []) → Wrote l at (findingsBytes t f) n q
   unfolding findingsBytes

@@ -12,6 +12,7 @@ use Rattle.sheet.specs.declared.Lash.{Lash}
 use Rattle.sheet.specs.declared.Sheet.{Sheet}
 use Rattle.forces.specs.declared.EndFigures.{EndFigures}
 use Rattle.forces.specs.declared.Figures.{Figures}
+use Rattle.forces.specs.Ends.{door, closed, lashesOf}
 use Rattle.forces.specs.Reported.{noLash}
 use Rattle.answer.specs.Limits.{rackingLimit, compressionLimit, cornerTensionLimit, lashVerticalLimit, lashAthwartLimit, safeLoad}
 use Rattle.answer.specs.Findings.{findings}
@@ -26,10 +27,10 @@ pub record Wrote (before : List ℕ) (at : ℕ) (bytes after : List ℕ) (next :
 -- the counts of a sheet fit its arrays
 pub record Sized (t : Sheet) : Type 0 where
   pub tiers : t .ntiers ≤ 10
-  pub door : t .ndoor ≤ 8
-  pub closed : t .nclosed ≤ 8
-  pub door-array : length (t .door) ≡ 8
-  pub closed-array : length (t .closed) ≡ 8
+  pub door-few : t .ndoor ≤ 8
+  pub closed-few : t .nclosed ≤ 8
+  pub door-lashes : length (lashesOf door t) ≡ t .ndoor
+  pub closed-lashes : length (lashesOf closed t) ≡ t .nclosed
 
 -- the safe load of lash j
 abbrev pub lashLimit : List Lash → ℕ → ℕ

@@ -39,7 +39,7 @@ returns c =
     let s = a .before .before .before in
     let w = whole (s .args .t) (s .args .f) (s .pre .0) (a .write-end .ensures .0) (b .write-end2 .ensures .0) (d .write-findings .ensures .0) (v .write1 .ensures) (v .before .verdict-of .ensures .0) in
     let z = s .pre .0 in
-    let h : d .write-findings .result ≤ 834 = omega (arith, d .write-findings .ensures .1, b .write-end2 .ensures .1, a .write-end .ensures .1, z .tiers, z .door, z .closed) in
+    let h : d .write-findings .result ≤ 834 = omega (arith, d .write-findings .ensures .1, b .write-end2 .ensures .1, a .write-end .ensures .1, z .tiers, z .door-few, z .closed-few) in
     (w .place ∙ zero-add _, from-start w (le-trans h (s .pre .3)))
 
 pub write-answer-spec : {M : Type 1} → statement M
