@@ -7,3 +7,4 @@ pub mod Accepted
 pub mod ReadBack
 pub mod Longest
 pub mod Table
+pub mod CheckLaws

@@ -143,7 +143,7 @@ module _ (t : Sheet) (e : End) (f : EndFigures) where
   end-length at =
       omega (arith, length-append three (counted m lashed), three-length, section-length lashed 12 (λ j. refl) m)
 
-  module _ {l : List ℕ} (at : ℕ) (fits : Fitting f) (two32 : Signed f) (s : Stands l at (endBytes t e f)) where
+  module _ {l : List ℕ} (at : ℕ) (fits : Fitting f) (two32 : Signed t f) (s : Stands l at (endBytes t e f)) where
     rackings-there : Stands l at (counted n racked)
     unfolding endBytes
     rackings-there = first-part (counted n racked) (counted (suc n) pressed) (first-part two (counted n drawn) (first-part three (counted m lashed) s))
@@ -171,7 +171,7 @@ module _ (t : Sheet) (e : End) (f : EndFigures) where
         let lash = the-entry lashed 12 (λ j. refl) (lashesFrom t e at) m lashes-there in
         record {
           rackings = the-count racked 4 (λ i. refl) at n rackings-there;
-          racking = λ i h. signed (getD (f .racking) i (pos 0)) (fits-signed _ (two32 .racking i)) (the-entry racked 4 (λ i. refl) at n rackings-there i h);
+          racking = λ i h. signed (getD (f .racking) i (pos 0)) (fits-signed _ (two32 .racking i h)) (the-entry racked 4 (λ i. refl) at n rackings-there i h);
           compressions = the-count pressed 4 (λ i. refl) (compressionsFrom t e at) (suc n) compressions-there;
           compression = λ i h. number (getD (f .compression) i 0) (fits .compression i) (the-entry pressed 4 (λ i. refl) (compressionsFrom t e at) (suc n) compressions-there i (omega arith));
           tensions = the-count drawn 4 (λ i. refl) (tensionsFrom t e at) n tensions-there;
@@ -205,7 +205,7 @@ one-finding {l} at (suc k) (x ∷ xs) h s =
     rw e (one-finding (at + 3) k xs (omega arith) (second-part (findingBytes x) (flatMap findingBytes xs) s))
 
 -- the whole answer, whatever stands behind it
-module _ (t : Sheet) (f : Figures) (fits : (e : End) → Fitting (figuresOf e f)) (two32 : (e : End) → Signed (figuresOf e f)) (rest : List ℕ) where
+module _ (t : Sheet) (f : Figures) (fits : (e : End) → Fitting (figuresOf e f)) (two32 : (e : End) → Signed t (figuresOf e f)) (rest : List ℕ) where
   abbrev s : List ℕ
   s = answerBytes t f ++ rest
 

@@ -1,6 +1,6 @@
 -- Document 01, "The answer sheet": where each number of an answer lies, and what is read back from there. Entries are counted from 0.
 use mathlib.Core.Path.{_≡_}
-use mathlib.Core.List.{List}
+use mathlib.Core.List.{List, map}
 use Prim.Native.Nat.{ℕ, suc, _+_, _*_, _<_, _≤_, _^_}
 use lib.IntN.{pos, natAbs}
 use lib.ListN.{getD, length}
@@ -10,6 +10,7 @@ use Rattle.forces.specs.declared.EndFigures.{EndFigures}
 use Rattle.forces.specs.declared.Figures.{Figures}
 use Rattle.forces.specs.Ends.{End, door, closed, lashesOf}
 use Rattle.answer.specs.Findings.{Finding, figuresOf, findings, verdict}
+use Rattle.answer.specs.Answers.{below}
 
 abbrev pub byteAt : List ℕ → ℕ → ℕ
 byteAt s at = getD s at 0
@@ -80,6 +81,27 @@ pub record ReadBack (t : Sheet) (f : Figures) (s : List ℕ) : Type 0 where
       k < length (findings t f) →
       FindingAt s (entryPlace (findingsPlace t) 3 k) (getD (findings t f) k noFinding)
 
--- rackings fit 32 bits in two's complement, as every i32 does
-pub record Signed (f : EndFigures) : Type 0 where
-  pub racking : (i : ℕ) → natAbs (getD (f .racking) i (pos 0)) < 2 ^ 31
+-- the rackings fit 32 bits in two's complement, as every i32 does
+pub record Signed (t : Sheet) (f : EndFigures) : Type 0 where
+  pub racking : (i : ℕ) → i < t .ntiers → natAbs (getD (f .racking) i (pos 0)) < 2 ^ 31
+
+-- the forces reported at an end: the numbers that are read back from the bytes s
+abbrev pub reportedIn : Sheet → End → List ℕ → EndFigures
+reportedIn t e s =
+    record {
+      racking = map (λ i. signed4 s (entryPlace (endPlace t e) 4 i)) (below (t .ntiers));
+      compression = map (λ i. le4 s (entryPlace (compressionsFrom t e (endPlace t e)) 4 i)) (below (suc (t .ntiers)));
+      tension = map (λ i. le4 s (entryPlace (tensionsFrom t e (endPlace t e)) 4 i)) (below (t .ntiers));
+      pull = map (λ j. le4 s (entryPlace (lashesFrom t e (endPlace t e)) 12 j)) (below (length (lashesOf e t)));
+      athwart = map (λ j. le4 s (entryPlace (lashesFrom t e (endPlace t e)) 12 j + 4)) (below (length (lashesOf e t)));
+      vertical = map (λ j. le4 s (entryPlace (lashesFrom t e (endPlace t e)) 12 j + 8)) (below (length (lashesOf e t)));
+    }
+
+-- finding k, as it is read back
+abbrev pub findingIn : Sheet → List ℕ → ℕ → Finding
+findingIn t s k =
+    record {
+      end = byteAt s (entryPlace (findingsPlace t) 3 k);
+      kind = byteAt s (entryPlace (findingsPlace t) 3 k + 1);
+      index = byteAt s (entryPlace (findingsPlace t) 3 k + 2);
+    }

@@ -19,6 +19,9 @@ use forces::EndFigures;
 use forces::Figures;
 use sheet::Sheet;
 
+// The longest answer, in bytes.
+pub const LONGEST: usize = 834;
+
 // A count n and n rackings; the place behind them.
 fn write_rackings(answer: &mut [u8], at: usize, racking: [i32; 10], n: usize) -> usize
     requires { ⌜ (n ≤ 10) × (at + 1 + 4 * n ≤ length (now answer)) ⌝ }
