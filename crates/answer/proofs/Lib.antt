@@ -8,3 +8,4 @@ pub mod ReadBack
 pub mod Longest
 pub mod Table
 pub mod CheckLaws
+pub mod Consequences

@@ -2,7 +2,7 @@ pub mod Limits
 pub mod Findings
 pub mod Answers
 pub mod Checked
-pub mod Steps
-pub mod Consequences
 pub mod Places
+pub mod Consequences
 pub mod Table
+pub mod Steps

@@ -97,6 +97,9 @@ reportedIn t e s =
       vertical = map (λ j. le4 s (entryPlace (lashesFrom t e (endPlace t e)) 12 j + 8)) (below (length (lashesOf e t)));
     }
 
+abbrev pub figuresIn : Sheet → List ℕ → Figures
+figuresIn t s = record { door = reportedIn t door s; closed = reportedIn t closed s }
+
 -- finding k, as it is read back
 abbrev pub findingIn : Sheet → List ℕ → ℕ → Finding
 findingIn t s k =
