@@ -34,3 +34,13 @@ pub mod PostSums
 pub mod PostFigures
 pub mod EndReported
 pub mod Margins
+-- From the promise to the figures.
+pub mod Figured
+-- The code: arrays and loops, loads, lashes, levels.
+pub mod Arrays
+pub mod LoadLaws
+pub mod LashLaws
+pub mod Tallies
+pub mod LashLoops
+pub mod LevelLaws
+pub mod Descent

@@ -4,3 +4,5 @@ pub mod Ends
 pub mod Posts
 pub mod Reported
 pub mod Fixed
+pub mod Facts
+pub mod Steps
