@@ -27,7 +27,7 @@ use Rattle.forces.specs.Ends.{End, Settled, tiersOf, lashesOf, routeFact
 use Rattle.forces.specs.Posts.{athwartOf, moment, weightAbove, verticals, inCompression, inTension, onLee, onWindward, lee, windward, compression, tension, greater, lower, atMost}
 use Rattle.forces.specs.Reported.{noLash, forceOf, EndReported, Fitting, EndFigured}
 use Rattle.forces.proofs.Facts.{TierFacts, Facts}
-use Rattle.forces.proofs.EndChain.{percent-most, tier-facts, endTiers, endLashes, end-length, end-stiff, share-is, factor-is}
+use Rattle.forces.proofs.EndChain.{percent-most, tier-facts, end-each, endTiers, endLashes, end-length, end-stiff, share-is, factor-is}
 use Rattle.forces.proofs.OneSolution.{solutionOf, exists, leeward}
 use Rattle.forces.proofs.Within.{UpTo, Within, up-none, up-more, within-up, within-less, within-neg, within-sum, within-more, within-same, within-over, within-choice, reported-below}
 use Rattle.forces.proofs.LoadBounds.{each-drop, weight-up, tier-up, turning-up}
@@ -67,8 +67,8 @@ module _ (e : End) {t : Sheet} (f : Facts t) where
     pub parts-up : UpTo 2440000 parts
     parts-up =
         record {
-          least = all-least (t .ntiers) Ds lee-q (lashesOf e t) (f .ends e .each);
-          most = rw (all-from (t .ntiers) Ds lee-q (lashesOf e t) (f .ends e .each)) (go (springs (endTiers e t) 0) (shifts Ds 1) (shifts Ds 0) (mk (S.tierAt (endTiers e t) 0 .Q)) (mk (S.athwartFrom (endLashes e t) Ds 1)) (sym (mk-racking (endTiers e t) Ds 0) ∙ balance 0 (f .some) ∙ mk-sub (S.tierAt (endTiers e t) 0 .Q) (S.athwartFrom (endLashes e t) Ds 1)) (spring-nn (endTiers e t) (endLashes e t) (end-stiff e t f) 0) (lee-q 1) (deck Ds) (load-up 0 .most));
+          least = all-least (t .ntiers) Ds lee-q (lashesOf e t) (end-each e f);
+          most = rw (all-from (t .ntiers) Ds lee-q (lashesOf e t) (end-each e f)) (go (springs (endTiers e t) 0) (shifts Ds 1) (shifts Ds 0) (mk (S.tierAt (endTiers e t) 0 .Q)) (mk (S.athwartFrom (endLashes e t) Ds 1)) (sym (mk-racking (endTiers e t) Ds 0) ∙ balance 0 (f .some) ∙ mk-sub (S.tierAt (endTiers e t) 0 .Q) (S.athwartFrom (endLashes e t) Ds 1)) (spring-nn (endTiers e t) (endLashes e t) (end-stiff e t f) 0) (lee-q 1) (deck Ds) (load-up 0 .most));
         }
       where
         go : (K d p Q A : ℚ) →
@@ -83,11 +83,11 @@ module _ (e : End) {t : Sheet} (f : Facts t) where
     pub racking-within : (i : ℕ) → i < t .ntiers → Within 2440000 (S.racking (endTiers e t) Ds i)
     racking-within i h =
         within-same (balance i h)
-        (within-less (load-up i) (part-up parts-up (from-part (t .ntiers) Ds lee-q (lashesOf e t) (f .ends e .each) (suc i))))
+        (within-less (load-up i) (part-up parts-up (from-part (t .ntiers) Ds lee-q (lashesOf e t) (end-each e f) (suc i))))
 
     module _ (j : ℕ) (h : j < length (lashesOf e t)) where
       pub athwart-up : UpTo 2440000 (forceOf athwartPart (lashesOf e t) Ds j)
-      athwart-up = part-up parts-up (one-part (t .ntiers) Ds lee-q (lashesOf e t) (f .ends e .each) j h)
+      athwart-up = part-up parts-up (one-part (t .ntiers) Ds lee-q (lashesOf e t) (end-each e f) j h)
 
       pub pull-up : UpTo (42 * 2440000) (forceOf pull (lashesOf e t) Ds j)
       pull-up = part-up athwart-up (pull-part (t .ntiers) Ds lee-q (getD (lashesOf e t) j noLash) (f .ends e .each j h))
@@ -100,7 +100,7 @@ module _ (e : End) {t : Sheet} (f : Facts t) where
     moment-within i =
         within-less
         (turning-up classShare (routeFactor t) 9 (10 * routePercent (t .head .route)) (omega arith) factor-small share-is (factor-is t) (drop i (tiersOf t)) (each-drop (tiersOf t) (tier-facts f) i) (omega (arith, few, length-drop i (tiersOf t))))
-        (part-up parts-up (arms-part (t .ntiers) Ds lee-q (tiersOf t) (tier-facts f) few i (lashesOf e t) (f .ends e .each)))
+        (part-up parts-up (arms-part (t .ntiers) Ds lee-q (tiersOf t) (tier-facts f) few i (lashesOf e t) (end-each e f)))
 
     -- the two sums at a level, and the greater or lower of them
     module _ (acceleration : Tier → ℕ) (limit : (u : Tier) → TierFacts u → acceleration u ≤ 3000) (counts : ℕ → Lash → Bool) (i : ℕ) where
@@ -113,12 +113,12 @@ module _ (e : End) {t : Sheet} (f : Facts t) where
       lee-within : Within 200000000 (lee classShare (routeFactor t) (tiersOf t) (lashesOf e t) Ds i acceleration counts)
       lee-within =
           within-more (omega arith)
-          (within-sum (within-sum weight-within turned-within) (within-up (part-up parts-up (verticals-part (t .ntiers) Ds lee-q onLee keeps-lee (counts i) (lashesOf e t) (f .ends e .each)))))
+          (within-sum (within-sum weight-within turned-within) (within-up (part-up parts-up (verticals-part (t .ntiers) Ds lee-q onLee keeps-lee (counts i) (lashesOf e t) (end-each e f)))))
 
       windward-within : Within 200000000 (windward classShare (routeFactor t) (tiersOf t) (lashesOf e t) Ds i acceleration counts)
       windward-within =
           within-more (omega arith)
-          (within-sum (within-sum weight-within (within-neg turned-within)) (within-up (part-up parts-up (verticals-part (t .ntiers) Ds lee-q onWindward keeps-windward (counts i) (lashesOf e t) (f .ends e .each)))))
+          (within-sum (within-sum weight-within (within-neg turned-within)) (within-up (part-up parts-up (verticals-part (t .ntiers) Ds lee-q onWindward keeps-windward (counts i) (lashesOf e t) (end-each e f)))))
 
     nothing : Within 200000000 (nat 0)
     nothing = within-up (up-more (omega arith) up-none)

@@ -14,6 +14,7 @@ use Rattle.arith.proofs.FractionsInRationals.{mk-int}
 use Rattle.springs.specs.Equations as S
 use Rattle.springs.specs.Promise.{Rounded, loadAt}
 use Rattle.springs.proofs.Chain.{natℚ}
+use Rattle.springs.proofs.Inputs.{rounded-low}
 use Rattle.sheet.specs.declared.Tier.{Tier}
 use Rattle.sheet.specs.declared.Lash.{Lash}
 use Rattle.sheet.specs.declared.Sheet.{Sheet}
@@ -23,9 +24,8 @@ use Rattle.forces.specs.Loads.{classShare}
 use Rattle.forces.specs.Ends.{End, door, closed, springOf, tiersOf, lashesOf, chainTiers, chainLash, chainLashes, routeFactor}
 use Rattle.forces.specs.Fixed.{noTier, levelLoad}
 use Rattle.forces.proofs.Facts.{TierFacts, Facts}
-use Rattle.forces.proofs.RoundedDown.{rounded-low}
 use Rattle.forces.proofs.LashStiffness.{stiffness-above}
-use Rattle.forces.proofs.LevelStiffness.{Each, each-head, each-tail}
+use Rattle.forces.proofs.EachLash.{Each, each-first, each-rest}
 use Rattle.forces.proofs.LevelLoads.{load-rounded}
 
 -- the route factor's percent is at most 100
@@ -61,7 +61,7 @@ module _ (e : End) (share factor : Frac) where
   chain-spring (t ∷ ts) zero h = refl
   chain-spring (t ∷ ts) (suc i) h = chain-spring ts i (omega arith)
 
-abbrev pub noLink : S.Lash
+abbrev noLink : S.Lash
 noLink = record { level = 0; stiffness = nat 0 }
 
 chain-stiff : {n : ℕ} (ls : List Lash) →
@@ -74,25 +74,15 @@ chain-stiff [] f j h = absurd (off h)
   where
     off : j < 0 → ⊥
     off x = omega arith
-chain-stiff (l ∷ ls) f zero h = stiffness-above l (each-head l ls f)
-chain-stiff (l ∷ ls) f (suc j) h = chain-stiff ls (each-tail l ls f) j (omega arith)
-
-pub chain-hooked : {n : ℕ} (ls : List Lash) →
-    Each n ls →
-    (j : ℕ) →
-    j < length (chainLashes ls) →
-    getD (chainLashes ls) j noLink .level ≤ n
-unfolding chainLash
-chain-hooked [] f j h = absurd (off h)
-  where
-    off : j < 0 → ⊥
-    off x = omega arith
-chain-hooked (l ∷ ls) f zero h = each-head l ls f .inside
-chain-hooked (l ∷ ls) f (suc j) h = chain-hooked ls (each-tail l ls f) j (omega arith)
+chain-stiff (l ∷ ls) f zero h = stiffness-above l (each-first f)
+chain-stiff (l ∷ ls) f (suc j) h = chain-stiff ls (each-rest f) j (omega arith)
 
 spring-above : (e : End) → nat 0 ⊏ nat (springOf e)
 spring-above door = record { cross = record { lt = tt } }
 spring-above closed = record { cross = record { lt = tt } }
+
+pub end-each : (e : End) {t : Sheet} → Facts t → Each (t .ntiers) (lashesOf e t)
+end-each e f = record { at = f .ends e .each }
 
 -- the exact chain of an end
 module _ (e : End) (t : Sheet) where
@@ -113,7 +103,7 @@ module _ (e : End) (t : Sheet) where
     end-stiff =
         record {
           springs = λ i h. subst (λ z. nat 0 ⊏ z) (sym (end-spring i (omega (arith, h, end-length)))) (spring-above e);
-          lashes = chain-stiff (lashesOf e t) (f .ends e .each);
+          lashes = chain-stiff (lashesOf e t) (end-each e f);
         }
 
 -- the share is 9 twentieths, and the factor ten times as many thousandths as percents
@@ -123,10 +113,7 @@ share-is = record { cross = refl }
 
 pub factor-is : (t : Sheet) → nat 1000 *q routeFactor t ≈ nat (10 * routePercent (t .head .route))
 unfolding recip
-factor-is t = record { cross = ap pos (go (routePercent (t .head .route))) }
-  where
-    go : (p : ℕ) → 1000 * (p * 1) * 1 ≡ 10 * p * 100
-    go p = omega arith
+factor-is t = record { cross = ap pos (omega arith) }
 
 -- the load on a level of an end
 module _ (e : End) (t : Sheet) where
@@ -141,7 +128,7 @@ module _ (e : End) (t : Sheet) where
   pub end-pushed : (i : ℕ) → nat 0 ⊑ loadAt (endTiers e t) i
   end-pushed i =
       to-⊑ (nat 0) (loadAt (endTiers e t) i)
-      (rw (mk-int (pos 0)) (go (natℚ (wholeLoad i)) (mk (loadAt (endTiers e t) i)) (nn-int (wholeLoad i)) (rounded-low (end-loaded i))))
+      (rw (mk-int (pos 0)) (go (natℚ (wholeLoad i)) (mk (loadAt (endTiers e t) i)) (nn-int (wholeLoad i)) (rounded-low (2 ^ 28) 1 (wholeLoad i) (loadAt (endTiers e t) i) (end-loaded i))))
     where
       go : (x y : ℚ) → natℚ 0 ≤ℚ x → x ≤ℚ natℚ (2 ^ 28) *ℚ y → natℚ 0 ≤ℚ y
       go = ∀₂ ℚR _ λ ρ. simp qq λ h l. part (2 ^ 28 - 1) (to h ⊞ to l) tt

@@ -32,7 +32,8 @@ use Rattle.forces.proofs.Errors.{natℚ, Off}
 use Rattle.forces.proofs.Scales.{newtons}
 use Rattle.forces.proofs.Pads.{slipBound, forceBound, roundedRackingError, tierError, postError}
 use Rattle.forces.proofs.LashFigures.{athwart-reported, pull-reported, vertical-reported}
-use Rattle.forces.proofs.Slips.{Each, slipq, slipAt, slips, slips-q, slip-le}
+use Rattle.forces.proofs.EachLash.{Each}
+use Rattle.forces.proofs.Slips.{slipq, slipAt, slips, slips-q, slip-le}
 use Rattle.forces.proofs.Verticals.{verticals-off, lee-post, windward-post}
 use Rattle.forces.proofs.Weights.{weight-off}
 use Rattle.forces.proofs.Moment.{rackingMoment, moment-is}

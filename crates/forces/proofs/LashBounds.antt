@@ -30,9 +30,9 @@ use Rattle.forces.proofs.Facts.{LashFacts}
 use Rattle.forces.proofs.LashLength.{length-above, length-ratio, vertical-ratio}
 use Rattle.forces.proofs.LashForces.{stiffness, athwart-is, pull-is, vertical-is}
 use Rattle.forces.proofs.Scales.{share-most}
-use Rattle.forces.proofs.RoundedDown.{nat-times}
+use Rattle.forces.proofs.WholeNumbers.{nat-times}
 use Rattle.forces.proofs.LashStiffness.{stiffness-above}
-use Rattle.forces.proofs.LevelStiffness.{Each, each-head, each-tail}
+use Rattle.forces.proofs.EachLash.{Each, each-first, each-rest}
 use Rattle.forces.proofs.LoadBounds.{EachTier, height-most, height-rises}
 use Rattle.forces.proofs.Within.{UpTo}
 
@@ -95,7 +95,7 @@ module _ (n : ℕ) (Ds : List Frac) (lee : (i : ℕ) → natℚ 0 ≤ℚ mk (S.s
       PartOf k (allParts ls) (sumq g ls)
   unfolding sumq
   sum-part g h [] f = part-none (rw (mk-int (pos 0)) (nn-int 0))
-  sum-part g h (l ∷ ls) f = part-sum (h l (each-head l ls f)) (sum-part g h ls (each-tail l ls f))
+  sum-part g h (l ∷ ls) f = part-sum (h l (each-first f)) (sum-part g h ls (each-rest f))
 
   -- an athwart part of its own
   part-same : {A x : Frac} → natℚ 0 ≤ℚ mk A → mk x ≡ mk A → PartOf 1 A x
@@ -119,17 +119,17 @@ module _ (n : ℕ) (Ds : List Frac) (lee : (i : ℕ) → natℚ 0 ≤ℚ mk (S.s
       off x = omega arith
   one-part (l ∷ ls) f zero h =
       record {
-        least = part-least l (each-head l ls f);
-        most = rw (mk-add (athwartOf Ds l) (allParts ls)) (go (mk (athwartOf Ds l)) (mk (allParts ls)) (all-least ls (each-tail l ls f)));
+        least = part-least l (each-first f);
+        most = rw (mk-add (athwartOf Ds l) (allParts ls)) (go (mk (athwartOf Ds l)) (mk (allParts ls)) (all-least ls (each-rest f)));
       }
     where
       go : (x y : ℚ) → natℚ 0 ≤ℚ y → x ≤ℚ natℚ 1 *ℚ (x +ℚ y)
       go = ∀₂ ℚR _ λ ρ. simp qq λ h. by-cert (to h) tt
   one-part (l ∷ ls) f (suc j) h =
-      let rest = one-part ls (each-tail l ls f) j (omega arith) in
+      let rest = one-part ls (each-rest f) j (omega arith) in
       record {
         least = rest .least;
-        most = rw (mk-add (athwartOf Ds l) (allParts ls)) (go (mk (athwartOf Ds l)) (mk (allParts ls)) (mk (athwartOf Ds (getD ls j noLash))) (part-least l (each-head l ls f)) (rest .most));
+        most = rw (mk-add (athwartOf Ds l) (allParts ls)) (go (mk (athwartOf Ds l)) (mk (allParts ls)) (mk (athwartOf Ds (getD ls j noLash))) (part-least l (each-first f)) (rest .most));
       }
     where
       go : (x y z : ℚ) → natℚ 0 ≤ℚ x → z ≤ℚ natℚ 1 *ℚ y → z ≤ℚ natℚ 1 *ℚ (x +ℚ y)
@@ -143,15 +143,15 @@ module _ (n : ℕ) (Ds : List Frac) (lee : (i : ℕ) → natℚ 0 ≤ℚ mk (S.s
   unfolding sumq chainLash
   from-part [] f i = part-none (rw (mk-int (pos 0)) (nn-int 0))
   from-part (l ∷ ls) f i =
-      let own = part-least l (each-head l ls f) in
-      part-sum (part-given (leb i (hookLevel l)) own (λ e. part-same own (chain-part l))) (from-part ls (each-tail l ls f) i)
+      let own = part-least l (each-first f) in
+      part-sum (part-given (leb i (hookLevel l)) own (λ e. part-same own (chain-part l))) (from-part ls (each-rest f) i)
 
   pub all-from : (ls : List Lash) → Each n ls → mk (allParts ls) ≡ mk (S.athwartFrom (chainLashes ls) Ds 1)
   unfolding sumq chainLash
   all-from [] f = refl
   all-from (l ∷ ls) f =
       mk-add (athwartOf Ds l) (allParts ls)
-      ∙ ap₂ _+ℚ_ (sym (chain-part l) ∙ ap (λ c. mk (given c (athwartPart l (nat 1) *q at l))) (sym (le-leb 1 (hookLevel l) (each-head l ls f .raised)))) (all-from ls (each-tail l ls f))
+      ∙ ap₂ _+ℚ_ (sym (chain-part l) ∙ ap (λ c. mk (given c (athwartPart l (nat 1) *q at l))) (sym (le-leb 1 (hookLevel l) (each-first f .raised)))) (all-from ls (each-rest f))
       ∙ sym (mk-add (given (leb 1 (hookLevel l)) (athwartPart l (nat 1) *q at l)) (S.athwartFrom (chainLashes ls) Ds 1))
 
   -- tension and vertical part of a lash: its athwart part times N / LY

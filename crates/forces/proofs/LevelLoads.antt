@@ -13,34 +13,29 @@ use Rattle.arith.proofs.Polynomials.{v, kp, kn, _⊖_, _⊗_, ⊖_}
 use Rattle.arith.proofs.Rings.{∀₂, ∀₄, ∀₅, ∀₁₂, by-ring, by-eqs, times, mul-eq, part, both, _⊹_}
 use Rattle.arith.proofs.Rationals.{ℚR, ℚ, mk, int, _+ℚ_, _-ℚ_, _*ℚ_}
 use Rattle.arith.proofs.RationalTerms.{qq}
-use Rattle.arith.proofs.FractionsInRationals.{to-≈, mk-int, mk-sub}
+use Rattle.arith.proofs.FractionsInRationals.{mk-int, mk-sub}
 use Rattle.springs.specs.Equations.{given}
 use Rattle.springs.specs.Promise.{Rounded, loadAt}
 use Rattle.springs.proofs.Chain.{natℚ}
+use Rattle.springs.proofs.Inputs.{rounded-quotient, rounded-same}
 use Rattle.sheet.specs.declared.Tier.{Tier}
 use Rattle.forces.specs.Loads.{half, thousandths, weight, transverse, boxLength, wind, load}
 use Rattle.forces.specs.Ends.{End, chainTiers}
 use Rattle.forces.specs.Fixed.{noTier, push, gust, levelLoad}
 use Rattle.forces.proofs.Facts.{TierFacts}
-use Rattle.forces.proofs.RoundedDown.{nat-times, nat-plus, times-q, rounded-quotient}
+use Rattle.forces.proofs.WholeNumbers.{nat-times, nat-plus, times-q, quotient-is}
 
 -- F of a tier is the factor × 981 × mass × A_T / 200,000, and P 27 × length × height / 50,000
 push-frac : (t : Tier) (a : ℕ) → nat 200000 *q (half *q weight t *q thousandths a) ≈ nat (981 * (t .mass * a))
 unfolding weight recip
-push-frac t a = record { cross = ap pos (go (t .mass) a) }
-  where
-    go : (m a : ℕ) → 200000 * (1 * (m * 981) * (a * 1)) * 1 ≡ 981 * (m * a) * 200000
-    go m a = omega arith
+push-frac t a = record { cross = ap pos (omega arith) }
 
 gust-frac : (t : Tier) → nat 50000 *q wind t ≈ nat (gust t)
 unfolding wind gust recip
 gust-frac t = go (eqb (t .wind) 1)
   where
-    times : (l h : ℕ) → 50000 * (1080 * (l * 1) * (h * 1)) * 1 ≡ 27 * l * h * 2000000
-    times l h = omega arith
-
     go : (c : Bool) → nat 50000 *q given c (half *q nat 1080 *q thousandths (boxLength t) *q thousandths (t .height)) ≈ nat (cond c (27 * boxLength t * t .height) 0)
-    go true = record { cross = ap pos (times (boxLength t) (t .height)) }
+    go true = record { cross = ap pos (omega arith) }
     go false = record { cross = refl }
 
 pub wind-times : (t : Tier) → natℚ 50000 *ℚ mk (wind t) ≡ natℚ (gust t)
@@ -133,10 +128,6 @@ pub half-times : natℚ 2 *ℚ mk half ≡ natℚ 1
 unfolding recip
 half-times = times-q 2 1 half (record { cross = refl })
 
--- the numbers of the fixed form: share in twentieths, factor in thousandths, all over 4,000,000,000
-abbrev number : ℕ → ℕ → Tier → Tier → ℕ
-number s f t u = 981 * f * (s * push t + (20 - s) * push u) + 40000 * (gust t + gust u)
-
 pub transverse-number : (factor : Frac) (f : ℕ) →
     nat 1000 *q factor ≈ nat f →
     (t : Tier) →
@@ -151,22 +142,21 @@ transverse-number factor f factor-is t =
         natℚ 200000000 *ℚ F ≡ natℚ 981 *ℚ f *ℚ p
     law = ∀₄ ℚR _ λ ρ. simp qq λ a b. by-eqs (mul-eq (kp 1000) a ⊹ mul-eq (kp 981 ⊗ v 1) b) tt
 
+-- the load on a level, in whole numbers: share in twentieths, factor in thousandths, all over 4,000,000,000
 module _ (share factor : Frac) (s f : ℕ) (s20 : s ≤ 20) (share-is : nat 20 *q share ≈ nat s) (factor-is : nat 1000 *q factor ≈ nat f) where
-  between-number : (t u : Tier) → natℚ 4000000000 *ℚ between share factor t u ≡ natℚ (number s f t u)
+  between-times : (t u : Tier) →
+      natℚ 4000000000 *ℚ between share factor t u
+      ≡ natℚ (s * (981 * f * push t) + (20 - s) * (981 * f * push u) + 40000 * (gust t + gust u))
   unfolding between
-  between-number t u =
+  between-times t u =
       law (mk share) (mk (transverse factor t)) (mk (wind t)) (mk (transverse factor u)) (mk (wind u)) (mk half) (natℚ s) (natℚ (20 - s)) (natℚ (981 * f * push t)) (natℚ (981 * f * push u)) (natℚ (gust t)) (natℚ (gust u)) (times-q 20 s share share-is) (transverse-number factor f factor-is t) (transverse-number factor f factor-is u) (wind-times t) (wind-times u) half-times rest
       ∙ sym (spread s (20 - s) (981 * f * push t) (981 * f * push u) (gust t) (gust u))
-      ∙ ap natℚ (numbers f s (20 - s) (push t) (push u) (gust t) (gust u))
     where
       rest : natℚ s +ℚ natℚ (20 - s) ≡ natℚ 20
       rest = sym (nat-plus s (20 - s)) ∙ ap natℚ (all s s20)
         where
           all : (s : ℕ) → s ≤ 20 → s + (20 - s) ≡ 20
           all s h = omega arith
-
-      numbers : (f s w p q W X : ℕ) → s * (981 * f * p) + w * (981 * f * q) + 40000 * (W + X) ≡ 981 * f * (s * p + w * q) + 40000 * (W + X)
-      numbers f s w p q W X = omega arith
 
       spread : (s w A B W X : ℕ) →
           natℚ (s * A + w * B + 40000 * (W + X))
@@ -186,25 +176,24 @@ module _ (share factor : Frac) (s f : ℕ) (s20 : s ≤ 20) (share-is : nat 20 *
       law =
           ∀₁₂ ℚR _ λ ρ. simp qq λ a b c d e g r.
           by-eqs
-          (
-          mul-eq (kp 200000000 ⊗ (v 1 ⊖ v 3)) a
+          (mul-eq (kp 200000000 ⊗ (v 1 ⊖ v 3)) a
           ⊹ mul-eq (v 6) b
           ⊹ mul-eq (kp 20 ⊖ v 6) c
           ⊹ mul-eq (kp 40000) d
           ⊹ mul-eq (kp 40000) e
           ⊹ mul-eq (kp 2000000000 ⊗ (v 2 ⊖ v 4)) g
-          ⊹ mul-eq (⊖ v 9) r
-          )
-          tt
+          ⊹ mul-eq (⊖ v 9) r) tt
 
-  -- the load on a level, rounded down
+  -- rounded down
   pub load-rounded : (e : End) (ts : List Tier) (i : ℕ) →
       Rounded (2 ^ 28) 1 (levelLoad s f (getD ts i noTier) (getD ts (suc i) noTier)) (loadAt (chainTiers e share factor ts) i)
-  unfolding levelLoad int _*ℚ_
+  unfolding levelLoad
   load-rounded e ts i =
-      rounded-quotient (2 ^ 28) (number s f (getD ts i noTier) (getD ts (suc i) noTier)) 4000000000 (loadAt (chainTiers e share factor ts) i) (omega arith)
-      (to-≈ (nat 4000000000 *q loadAt (chainTiers e share factor ts) i) (nat (number s f (getD ts i noTier) (getD ts (suc i) noTier)))
-      (ap (λ z. natℚ 4000000000 *ℚ z) (load-between share factor e ts i) ∙ between-number (getD ts i noTier) (getD ts (suc i) noTier)))
+      let t = getD ts i noTier in
+      let u = getD ts (suc i) noTier in
+      let Q = loadAt (chainTiers e share factor ts) i in
+      let exact = ap (λ z. natℚ 4000000000 *ℚ z) (load-between share factor e ts i) ∙ between-times t u in
+      rounded-same (2 ^ 28) 1 (levelLoad s f t u) _ Q (quotient-is 4000000000 _ Q (omega arith) (exact ∙ ap natℚ (omega arith))) (rounded-quotient _ (2 ^ 28) 4000000000 (omega arith))
 
 -- pushes and gusts of a tier within its limits
 pub push-most : {t : Tier} → TierFacts t → push t ≤ 45720000
@@ -223,17 +212,5 @@ gust-most {t} tf = exposed (eqb (t .wind) 1) (eqb (t .size) 20) (t .height) (tf 
 pub load-most : (s f : ℕ) (t u : Tier) → s ≤ 20 → f ≤ 1000 → TierFacts t → TierFacts u → levelLoad s f t u ≤ 2 ^ 46
 unfolding levelLoad
 load-most s f t u s20 f1 tf uf =
-    div-le-of-le-mul 4000000000 (scaled (number s f t u) (most (push t) (push u) (gust t) (gust u) (push-most tf) (push-most uf) (gust-most tf) (gust-most uf)))
-  where
-    scaled : (x : ℕ) → x ≤ 4000000000 * 2 ^ 18 → x * 2 ^ 28 ≤ 4000000000 * 2 ^ 46
-    scaled x h = omega arith
-
-    most : (p q W X : ℕ) →
-        p ≤ 45720000 →
-        q ≤ 45720000 →
-        W ≤ 953316864 →
-        X ≤ 953316864 →
-        981 * f * (s * p + (20 - s) * q) + 40000 * (W + X) ≤ 4000000000 * 2 ^ 18
-    most p q W X hp hq hW hX =
-        let shares : s * p + (20 - s) * q ≤ 914400000 = omega (arith, mul-le-mul-left s hp, mul-le-mul-left (20 - s) hq) in
-        omega (arith, mul-le-mul f1 shares)
+    let shares : s * push t + (20 - s) * push u ≤ 914400000 = omega (arith, mul-le-mul-left s (push-most tf), mul-le-mul-left (20 - s) (push-most uf)) in
+    div-le-of-le-mul 4000000000 (omega (arith, mul-le-mul f1 shares, gust-most tf, gust-most uf))

@@ -2,11 +2,12 @@
 pub mod Facts
 pub mod Taken
 -- Lashes: length, stiffness, forces.
+pub mod EachLash
 pub mod LashLength
 pub mod LashForces
 pub mod LashStiffness
 -- The solver's inputs and what they stand for.
-pub mod RoundedDown
+pub mod WholeNumbers
 pub mod LevelStiffness
 pub mod LevelLoads
 pub mod EndChain
@@ -33,3 +34,5 @@ pub mod PostSums
 pub mod PostFigures
 pub mod EndReported
 pub mod Margins
+-- From the promise to the figures.
+pub mod Figured

@@ -21,7 +21,7 @@ use Rattle.forces.specs.Ends.{End, chainTiers}
 use Rattle.forces.specs.Posts.{levelHeight, turning, weightAbove}
 use Rattle.forces.specs.Fixed.{noTier, push, gust}
 use Rattle.forces.proofs.Facts.{TierFacts}
-use Rattle.forces.proofs.RoundedDown.{nat-plus, times-q}
+use Rattle.forces.proofs.WholeNumbers.{nat-plus, times-q}
 use Rattle.forces.proofs.LevelLoads.{above, above-none, above-mk, half-times, half-weight-times, wind-times, transverse-number, push-most, gust-most}
 use Rattle.forces.proofs.Within.{UpTo, up-none, up-more, up-sum, up-quotient, up-share}
 

@@ -17,19 +17,10 @@ use Rattle.forces.specs.Lashes.{hookLevel, athwartPart}
 use Rattle.forces.specs.Ends.{chainLash, chainLashes}
 use Rattle.forces.specs.Reported.{noLash}
 use Rattle.forces.proofs.Facts.{LashFacts}
+use Rattle.forces.proofs.EachLash.{Each, each-first, each-rest}
 use Rattle.forces.proofs.LashLength.{length-above}
 use Rattle.forces.proofs.Errors.{natℚ}
 use Rattle.forces.proofs.LashFigures.{slip, slip-nn}
-
--- the limits hold of each lash
-pub record Each (n : ℕ) (ls : List Lash) : Type 0 where
-  pub at : (j : ℕ) → j < length ls → LashFacts n (getD ls j noLash)
-
-pub each-first : {n : ℕ} {l : Lash} {ls : List Lash} → Each n (l ∷ ls) → LashFacts n l
-each-first f = f .at 0 (omega arith)
-
-pub each-rest : {n : ℕ} {l : Lash} {ls : List Lash} → Each n (l ∷ ls) → Each n ls
-each-rest f = record { at = λ j h. f .at (suc j) (omega arith) }
 
 module _ (d : List ℕ) (Ds : List Frac) where
   -- a lash's slip at the exact shifts Ds, in fractions and in ℚ

@@ -3,7 +3,7 @@ use mathlib.Core.Path.{_≡_, refl, sym, ap, ap₂, _∙_}
 use mathlib.Core.Bool.{Bool, true, false, cond}
 use mathlib.Core.List.{List, [], _∷_}
 use mathlib.Core.Logic.{_⊎_, inl, inr}
-use Prim.Native.Nat.{ℕ, zero, suc, _+_, _-_, _≤_, _<_}
+use Prim.Native.Nat.{ℕ, zero, suc, _+_, _≤_, _<_}
 use native.Mathlib.Nat.{lt-of-not-le}
 use native.Mathlib.Omega.{arith}
 use lib.Dec.{eqb}
@@ -29,7 +29,7 @@ level-is : (l : Lash) → l .hook ≤ 1 → levelOf l ≡ hookLevel l
 unfolding hookLevel
 level-is l h = go (code (l .hook) h)
   where
-    go : (l .hook ≡ 0) ⊎ (l .hook ≡ 1) → levelOf l ≡ l .tier - l .hook
+    go : (l .hook ≡ 0) ⊎ (l .hook ≡ 1) → levelOf l ≡ hookLevel l
     go (inl e) = level-top l e ∙ omega arith
     go (inr e) = level-bottom l e ∙ omega arith
 

@@ -25,7 +25,8 @@ use Rattle.forces.proofs.Errors.{natℚ, Off, off-nn, off-add, off-more
 use Rattle.forces.proofs.Scales.{newtons, newtons-add, newtons-nn, nothing-off}
 use Rattle.forces.proofs.Pads.{slipBound, verticalError, verticalsError, verticals-room}
 use Rattle.forces.proofs.LashFigures.{upward-off}
-use Rattle.forces.proofs.Slips.{Each, each-first, each-rest, slipAt, slips}
+use Rattle.forces.proofs.EachLash.{Each, each-first, each-rest}
+use Rattle.forces.proofs.Slips.{slipAt, slips}
 
 -- a post takes the same lashes found and exact
 abbrev Takes : (Lashing → ℕ → ℕ) → (Lashing → Frac → Frac) → Type 0

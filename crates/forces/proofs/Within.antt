@@ -9,11 +9,12 @@ use Rattle.arith.proofs.Polynomials.{v, kp, kn}
 use Rattle.arith.proofs.Rings.{∀₂, ∀₃, ∀₄, by-cert, to, times, over, _⊞_, _⊠_}
 use Rattle.arith.proofs.Rationals.{ℚR, ℚ, mk, int, _+ℚ_, _-ℚ_, _*ℚ_, negℚ, absℚ, _≤ℚ_, nn-int, nn-plus, nn-times}
 use Rattle.arith.proofs.RationalTerms.{qq}
-use Rattle.arith.proofs.RationalOrder.{nat-q, above-0, lt-not, div-le, le-div}
+use Rattle.arith.proofs.RationalOrder.{≤ℚ-trans, nat-q, above-0, lt-not, div-le, le-div}
+use Rattle.arith.proofs.Signs.{absℚ-le}
 use Rattle.arith.proofs.FractionsInRationals.{mk-int, mk-add, mk-sub, mk-neg, mk-mul, mk-div, mk-abs, of-⊏}
-use Rattle.springs.proofs.Chain.{natℚ, ≤-trans, abs-le}
+use Rattle.springs.proofs.Chain.{natℚ}
 use Rattle.forces.specs.Reported.{Reported}
-use Rattle.forces.proofs.RoundedDown.{nat-plus, nat-times}
+use Rattle.forces.proofs.WholeNumbers.{nat-plus, nat-times}
 
 -- not below 0 and at most b
 pub record UpTo (b : ℕ) (x : Frac) : Type 0 where
@@ -37,7 +38,7 @@ up-none = record { least = nn-int 0; most = nn-int 0 }
 
 pub up-more : {a b : ℕ} {x : Frac} → a ≤ b → UpTo a x → UpTo b x
 up-more {a} {b} {x} h u =
-    record { least = u .least; most = ≤-trans (mk x) (natℚ a) (natℚ b) (u .most) (nat-q a b h) }
+    record { least = u .least; most = ≤ℚ-trans (mk x) (natℚ a) (natℚ b) (u .most) (nat-q a b h) }
 
 pub up-sum : {a b : ℕ} {x y : Frac} → UpTo a x → UpTo b y → UpTo (a + b) (x +q y)
 up-sum {a} {b} {x} {y} u w =
@@ -116,7 +117,7 @@ pub within-more : {a b : ℕ} {x : Frac} → a ≤ b → Within a x → Within b
 within-more {a} {b} {x} h w =
     record {
       least = low (mk x) (natℚ a) (natℚ b) (w .least) (nat-q a b h);
-      most = ≤-trans (mk x) (natℚ a) (natℚ b) (w .most) (nat-q a b h);
+      most = ≤ℚ-trans (mk x) (natℚ a) (natℚ b) (w .most) (nat-q a b h);
     }
   where
     low : (x a b : ℚ) → negℚ a ≤ℚ x → a ≤ℚ b → negℚ b ≤ℚ x
@@ -147,7 +148,7 @@ within-choice false u w = w
 pub reported-below : {m b n : ℕ} {x : Frac} → Within b x → Reported m x n → n < b + m
 reported-below {m} {b} {n} {x} w r =
     let close = rw (mk-int (pos n), mk-add (absq x) (nat m), mk-abs x, mk-int (pos m)) at (of-⊏ (nat n) (absq x +q nat m) (r .close)) in
-    let size = abs-le (mk x) (natℚ b) (w .most) (back (mk x) (natℚ b) (w .least)) in
+    let size = absℚ-le (mk x) (natℚ b) (w .most) (back (mk x) (natℚ b) (w .least)) in
     lt-of-not-le (λ h. lt-not close (go (absℚ (mk x)) (natℚ b) (natℚ m) (natℚ n) size (rw nat-plus at (nat-q (b + m) n h))))
   where
     go : (a b m n : ℚ) → a ≤ℚ b → b +ℚ m ≤ℚ n → a +ℚ m ≤ℚ n

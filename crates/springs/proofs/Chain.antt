@@ -1,20 +1,22 @@
 -- A chain of springs over ℚ: under any shifts of its levels, what its lashes hold and the force of each spring are at most the sum of the loads' sizes.
 use mathlib.Core.Path.{_≡_, refl, sym, ap, ap₂, subst, _∙_}
 use mathlib.Core.Logic.{_⊎_, inl, inr}
-use mathlib.Core.Bool.{Bool, true, false, not, cond}
+use mathlib.Core.Bool.{Bool, true, false, not}
 use mathlib.Core.List.{List, [], _∷_}
 use Prim.Native.Nat.{ℕ, zero, suc, _+_, _<_, _≤_}
 use native.Mathlib.Nat.{zero-add, add-suc, suc-add}
 use native.Mathlib.Omega.{arith}
 use native.Mathlib.Decide.{decLe}
 use lib.Dec.{T}
-use lib.IntN.{ℤ, pos, negsuc}
-use Rattle.arith.proofs.Polynomials.{v, kp, kn, _⊕_, _⊖_, _⊗_, ⊖_}
-use Rattle.arith.proofs.Rings.{∀₁, ∀₂, ∀₃, ∀₄, ∀₅, ∀₆, ∀₇, ∀₈, ∀₉, ∀₁₁, by-ring, by-cert, by-eqs, to, times, mul-eq, num, _⊞_, _⊠_, _⊹_}
+use lib.IntN.{pos}
+use Rattle.arith.proofs.Polynomials.{v, kp}
+use Rattle.arith.proofs.Rings.{∀₁, ∀₂, ∀₃, ∀₆, ∀₇, ∀₈, ∀₉, ∀₁₁, by-ring, by-cert, to, times, num, _⊞_, _⊠_}
 use Rattle.arith.proofs.Rationals.{ℚR, ℚ, int, _+ℚ_, _-ℚ_, _*ℚ_, negℚ, _≤ℚ_, leℚ, flip, absℚ, plus-zero, plus-assoc, nn-int, nn-plus}
 use Rattle.arith.proofs.RationalTerms.{qq}
-use Rattle.arith.proofs.Signs.{on, sgq, nn-q, ge-q, ge-neg-q, hit-q, low-q}
+use Rattle.arith.proofs.Signs.{absℚ-le, sgq, nn-q, ge-q, ge-neg-q, hit-q, low-q}
+use Rattle.arith.proofs.RationalOrder.{≤ℚ-trans}
 use Rattle.arith.proofs.FractionsInRationals.{sumℚ}
+use Rattle.arith.proofs.Sums.{sumℚ-nn}
 
 -- a whole number
 abbrev pub natℚ : ℕ → ℚ
@@ -32,13 +34,6 @@ total p q = go (leℚ p q) refl
     go true e = inl (record { le = subst T (sym e) tt })
     go false e = inr (flip p q (subst (λ b. T (not b)) (sym e) tt))
 
-pub ≤-trans : (p q r : ℚ) → p ≤ℚ q → q ≤ℚ r → p ≤ℚ r
-≤-trans = ∀₃ ℚR _ λ ρ. simp qq λ h l. by-cert (to h ⊞ to l) tt
-
-pub abs-le : (x b : ℚ) → x ≤ℚ b → negℚ x ≤ℚ b → absℚ x ≤ℚ b
-unfolding absℚ
-abs-le x b h l = on x (λ c. cond c x (negℚ x) ≤ℚ b) (λ p. h) (λ p. l)
-
 -- the springs K, of the tier between levels i and i + 1; the stiffness k of the lashes at level i + 1; the shift e of level i
 abbrev pub force : (K e : ℕ → ℚ) → ℕ → ℚ
 force K e i = K i *ℚ (e (suc i) -ℚ e i)
@@ -53,11 +48,6 @@ load-minus K k e f i = go (K i) (K (suc i)) (k i) (e i) (e (suc i)) (e (suc (suc
   where
     go : (K L k a b c x y z : ℚ) → K *ℚ ((b -ℚ y) -ℚ (a -ℚ x)) -ℚ L *ℚ ((c -ℚ z) -ℚ (b -ℚ y)) +ℚ k *ℚ (b -ℚ y) ≡ (K *ℚ (b -ℚ a) -ℚ L *ℚ (c -ℚ b) +ℚ k *ℚ b) -ℚ (K *ℚ (y -ℚ x) -ℚ L *ℚ (z -ℚ y) +ℚ k *ℚ y)
     go = ∀₉ ℚR _ λ ρ. simp qq (by-ring tt)
-
-sum-nn : (f : ℕ → ℚ) → ((i : ℕ) → natℚ 0 ≤ℚ f i) → (is : List ℕ) → natℚ 0 ≤ℚ sumℚ f is
-unfolding sumℚ
-sum-nn f h [] = nn-int 0
-sum-nn f h (i ∷ is) = nn-plus (f i) (sumℚ f is) (h i) (sum-nn f h is)
 
 -- the sum of f below i
 abbrev below : (ℕ → ℚ) → ℕ → ℚ
@@ -145,7 +135,7 @@ module _ (K k e : ℕ → ℚ) (n : ℕ) (stiff : (i : ℕ) → natℚ 0 ≤ℚ 
   -- s is 1 or -1
   module _ (s : ℚ) (low : (x : ℚ) → s *ℚ x ≤ℚ absℚ x) where
     sizes-nn : (i m : ℕ) → natℚ 0 ≤ℚ sizes i m
-    sizes-nn i m = sum-nn size size-nn (numbers i m)
+    sizes-nn i m = sumℚ-nn size size-nn (numbers i m)
 
     abbrev under : ℕ → ℚ
     under i = below size i
@@ -171,7 +161,7 @@ module _ (K k e : ℕ → ℚ) (n : ℕ) (stiff : (i : ℕ) → natℚ 0 ≤ℚ 
         go : (natℚ 0 ≤ℚ s *ℚ e (suc i) → s *ℚ force K e (suc i) ≤ℚ sizes (suc i) m) → (s *ℚ e (suc i) ≤ℚ s *ℚ e i) ⊎ (s *ℚ e i ≤ℚ s *ℚ e (suc i)) → s *ℚ force K e i ≤ℚ sizes i (suc m)
         go ih (inl b) = back s (K i) (e (suc i)) (e i) (size i) (sizes (suc i) m) (stiff i) b (size-nn i) (sizes-nn (suc i) m)
         go ih (inr b) =
-            let over = ≤-trans (natℚ 0) (s *ℚ e i) (s *ℚ e (suc i)) l b in
+            let over = ≤ℚ-trans (natℚ 0) (s *ℚ e i) (s *ℚ e (suc i)) l b in
             onward s (force K e i) (force K e (suc i)) (k i) (e (suc i)) (size i) (sizes (suc i) m) (low (load K k e i)) (ih over) (held i) over
 
     -- and pulls to windward by no more than the loads under it
@@ -188,11 +178,11 @@ module _ (K k e : ℕ → ℚ) (n : ℕ) (stiff : (i : ℕ) → natℚ 0 ≤ℚ 
         go : (natℚ 0 ≤ℚ s *ℚ e (suc i) → negℚ (s *ℚ force K e (suc i)) ≤ℚ under (suc i)) → (s *ℚ e (suc i) ≤ℚ s *ℚ e (suc (suc i))) ⊎ (s *ℚ e (suc (suc i)) ≤ℚ s *ℚ e (suc i)) → negℚ (s *ℚ force K e (suc (suc i))) ≤ℚ under (suc (suc i))
         go ih (inl b) = from-below (suc i) l b
         go ih (inr b) =
-            onward s (force K e (suc i)) (force K e (suc (suc i))) (k (suc i)) (e (suc (suc i))) (size (suc i)) (under (suc i)) (low (load K k e (suc i))) (ih (≤-trans (natℚ 0) (s *ℚ e (suc (suc i))) (s *ℚ e (suc i)) l b)) (held (suc i)) l
+            onward s (force K e (suc i)) (force K e (suc (suc i))) (k (suc i)) (e (suc (suc i))) (size (suc i)) (under (suc i)) (low (load K k e (suc i))) (ih (≤ℚ-trans (natℚ 0) (s *ℚ e (suc (suc i))) (s *ℚ e (suc i)) l b)) (held (suc i)) l
 
   -- what is at most the loads under a level, or those over it, is at most all of them
   all-under : (i m : ℕ) → i + m ≡ n → (x : ℚ) → x ≤ℚ below size i → x ≤ℚ sizes 0 n
-  all-under i m h x l = subst (λ z. x ≤ℚ z) (below-from size i m ∙ ap (λ (j : ℕ). sizes 0 j) h) (go x (below size i) (sizes i m) l (sum-nn size size-nn (numbers i m)))
+  all-under i m h x l = subst (λ z. x ≤ℚ z) (below-from size i m ∙ ap (λ (j : ℕ). sizes 0 j) h) (go x (below size i) (sizes i m) l (sumℚ-nn size size-nn (numbers i m)))
     where
       go : (x a b : ℚ) → x ≤ℚ a → natℚ 0 ≤ℚ b → x ≤ℚ a +ℚ b
       go = ∀₃ ℚR _ λ ρ. simp qq λ h l. by-cert (to h ⊞ to l) tt
@@ -226,7 +216,7 @@ module _ (K k e : ℕ → ℚ) (n : ℕ) (stiff : (i : ℕ) → natℚ 0 ≤ℚ 
   -- nor is any spring's force more
   pub forced-by-loads : e 0 ≡ natℚ 0 → (i m : ℕ) → i + m ≡ n → absℚ (force K e i) ≤ℚ sizes 0 n
   forced-by-loads z i m h =
-      abs-le (force K e i) (sizes 0 n)
+      absℚ-le (force K e i) (sizes 0 n)
       (one (force K e i) (sizes 0 n) (pull z (natℚ 1) (λ x. plain x (absℚ x) (ge-q x)) (λ x. minus x (absℚ x) (ge-neg-q x)) i m h))
       (minus-one (force K e i) (sizes 0 n) (pull z (negℚ (natℚ 1)) (λ x. minus x (absℚ x) (ge-neg-q x)) (λ x. twice x (absℚ x) (ge-q x)) i m h))
     where

@@ -1,20 +1,18 @@
--- The chain's equations over ℚ solved by elimination from the top down: a solution exists, under loads not below 0 no level of one is below 0, and one
--- under loads no smaller is no smaller.
+-- The chain's equations over ℚ, solved by elimination from the top down: there is a solution; under loads not below 0 no shift is below 0; under loads
+-- no smaller no shift is smaller.
 use mathlib.Core.Path.{_≡_, refl, sym, ap, ap₂, subst, _∙_}
-use mathlib.Core.Bool.{Bool, true, false, not}
-use Prim.Native.Nat.{ℕ, zero, suc, _+_, _-_, _<_, _≤_}
+use Prim.Native.Nat.{ℕ, zero, suc, _+_, _-_, _<_}
 use native.Mathlib.Omega.{arith}
-use lib.Dec.{T, T-not, not-T}
-use lib.IntN.{ℤ, pos, negsuc}
-use Rattle.arith.proofs.Polynomials.{v, kp, kn, _⊕_, _⊖_, _⊗_, ⊖_}
-use Rattle.arith.proofs.Rings.{∀₁, ∀₂, ∀₃, ∀₄, ∀₅, ∀₆, ∀₇, ∀₈, by-ring, by-cert, by-eqs, to, times, mul-eq, num, _⊞_, _⊠_, _⊹_}
-use Rattle.arith.proofs.Rationals.{ℚR, ℚ, int, _+ℚ_, _-ℚ_, _*ℚ_, negℚ, recipℚ, _≤ℚ_, _<ℚ_, <→≤, leℚ, recip-times, recip-nn, nn-int, nn-plus, nn-times, to-nn, of-nn}
+use Rattle.arith.proofs.Polynomials.{v, _⊕_, _⊖_, _⊗_, ⊖_}
+use Rattle.arith.proofs.Rings.{∀₂, ∀₅, ∀₇, ∀₈, by-ring, by-cert, by-eqs, to, mul-eq, _⊞_, _⊹_}
+use Rattle.arith.proofs.Rationals.{ℚR, ℚ, _+ℚ_, _-ℚ_, _*ℚ_, recipℚ, _≤ℚ_, _<ℚ_, recip-times, recip-nn, nn-int, nn-plus, nn-times, to-nn, of-nn}
 use Rattle.arith.proofs.RationalTerms.{qq}
+use Rattle.arith.proofs.RationalOrder.{lt-of, lt-not}
 use Rattle.springs.proofs.Chain.{natℚ, force, load, load-minus}
 
 -- p above 0, b not below it
 above : (p b : ℚ) → natℚ 0 <ℚ p → natℚ 0 ≤ℚ b → natℚ 0 <ℚ p +ℚ b
-above p b h l = record { lt = not-T (leℚ (p +ℚ b) (natℚ 0)) (λ t. T-not (leℚ p (natℚ 0)) (h .lt) ((less p b l (record { le = t })) .le)) }
+above p b h l = lt-of (natℚ 0) (p +ℚ b) (λ m. lt-not h (less p b l m))
   where
     less : (p b : ℚ) → natℚ 0 ≤ℚ b → p +ℚ b ≤ℚ natℚ 0 → p ≤ℚ natℚ 0
     less = ∀₂ ℚR _ λ ρ. simp qq λ h l. by-cert (to h ⊞ to l) tt
@@ -63,7 +61,7 @@ module _ (K k q : ℕ → ℚ) where
         go : (K b a p r : ℚ) → (K +ℚ b) *ℚ r ≡ natℚ 1 → K *ℚ ((a +ℚ K *ℚ p) *ℚ r -ℚ p) ≡ K *ℚ a *ℚ r -ℚ K *ℚ b *ℚ r *ℚ p
         go = ∀₅ ℚR _ λ ρ. simp qq λ e. by-eqs (mul-eq (v 0 ⊗ v 3) e) tt
 
-    -- ---- a solution exists
+    -- a solution exists
     solved-is : (i m : ℕ) → i + suc m ≡ n → solved n (suc i) ≡ lifted i m (solved n i)
     solved-is i m h = ap (λ (z : ℕ). lifted i z (solved n i)) {x = n - suc i} {y = m} (omega arith)
 
@@ -79,7 +77,7 @@ module _ (K k q : ℕ → ℚ) where
         go : (K k x q y p r : ℚ) → (K +ℚ (k +ℚ x)) *ℚ r ≡ natℚ 1 → K *ℚ ((q +ℚ y +ℚ K *ℚ p) *ℚ r -ℚ p) -ℚ (y -ℚ x *ℚ ((q +ℚ y +ℚ K *ℚ p) *ℚ r)) +ℚ k *ℚ ((q +ℚ y +ℚ K *ℚ p) *ℚ r) ≡ q
         go = ∀₇ ℚR _ λ ρ. simp qq λ e. by-eqs (mul-eq (v 3 ⊕ v 4 ⊕ v 0 ⊗ v 5) e) tt
 
-    -- ---- a solution is the one that elimination gives
+    -- a solution is the one that elimination gives
     module _ (D : ℕ → ℚ) (balance : (i : ℕ) → i < n → load K k D i ≡ q i) where
       lifts : (i m : ℕ) → i + suc m ≡ n → force K D (suc i) ≡ handed-load (suc i) m -ℚ handed-stiffness (suc i) m *ℚ D (suc i) → D (suc i) ≡ lifted i m (D i)
       lifts i m h f =
@@ -93,7 +91,7 @@ module _ (K k q : ℕ → ℚ) where
       handed i zero h = top-force D i h
       handed i (suc m) h = ap (λ z. K i *ℚ (z -ℚ D i)) (lifts i m h (handed (suc i) m (omega arith))) ∙ lifted-force i m h (D i)
 
-      -- ---- loads not below 0
+      -- loads not below 0
       module _ (pushed : (i : ℕ) → i < n → natℚ 0 ≤ℚ q i) (deck : D 0 ≡ natℚ 0) where
         handed-load-nn : (i m : ℕ) → i + m ≡ n → natℚ 0 ≤ℚ handed-load i m
         handed-load-nn i zero h = nn-int 0

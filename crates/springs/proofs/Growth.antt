@@ -1,14 +1,13 @@
--- No shift to windward: where Q does not fall short from a tier to the one over it, no level moves to windward. Growth: under level loads no smaller
--- no level moves less.
-use mathlib.Core.Path.{_≡_, refl, sym, ap, ap₂, subst, fun-ext, _∙_}
+-- No shift to windward: where no level's load is below zero, no level moves to windward. Growth: under level loads no smaller no level moves less.
+use mathlib.Core.Path.{_≡_, sym, subst, fun-ext, _∙_}
 use mathlib.Core.List.{List}
-use Prim.Native.Nat.{ℕ, suc, _+_, _-_, _<_, _≤_}
+use Prim.Native.Nat.{ℕ, suc, _-_, _<_, _≤_}
 use native.Mathlib.Omega.{arith}
 use native.Mathlib.Decide.{decLe}
-use lib.IntN.{ℤ, pos}
+use lib.IntN.{pos}
 use lib.ListN.{length}
 use Rattle.arith.specs.Fractions.{Frac, nat, _≈_, _⊑_}
-use Rattle.arith.proofs.Rationals.{ℚ, mk, _≤ℚ_, of-⊑, to-⊑}
+use Rattle.arith.proofs.Rationals.{mk, _≤ℚ_, of-⊑, to-⊑}
 use Rattle.arith.proofs.Signs.{same-le}
 use Rattle.arith.proofs.FractionsInRationals.{mk-int, of-≈}
 use Rattle.springs.specs.Equations.{Tier, Lash, tierAt, shift, Solves, Stiff}

@@ -1,18 +1,16 @@
 -- A sum over the lashes, in any order, taken level by level: the lashes at a level act as one of their stiffness together.
 use mathlib.Core.Path.{_≡_, refl, sym, ap, ap₂, subst, _∙_}
-use mathlib.Core.Bool.{Bool, true, false, not}
+use mathlib.Core.Bool.{Bool, true, false}
 use mathlib.Core.List.{List, [], _∷_}
-use Prim.Native.Nat.{ℕ, zero, suc, _+_, _<_, _≤_}
+use Prim.Native.Nat.{ℕ, zero, suc, _+_, _<_}
 use native.Mathlib.Omega.{arith}
 use lib.Dec.{T, leb, eqb, leb·zero, leb·suc-zero, leb·suc-suc, eqb·zero-suc, eqb·suc-zero, eqb·suc-suc, leb→le, eqb→eq}
-use lib.IntN.{ℤ, pos}
-use lib.ListN.{length, getD}
-use Rattle.arith.specs.Fractions.{nat}
+use lib.ListN.{length}
 use Rattle.arith.proofs.Rings.{∀₁, ∀₂, ∀₅, by-ring}
-use Rattle.arith.proofs.Rationals.{ℚR, ℚ, mk, int, _+ℚ_, _*ℚ_, _≤ℚ_, plus-zero, nn-int, nn-plus}
+use Rattle.arith.proofs.Rationals.{ℚR, ℚ, mk, _+ℚ_, _*ℚ_, _≤ℚ_, plus-zero, nn-int, nn-plus}
 use Rattle.arith.proofs.RationalTerms.{qq}
 use Rattle.arith.proofs.FractionsInRationals.{sumℚ}
-use Rattle.springs.specs.Equations.{Lash}
+use Rattle.springs.specs.Equations.{Lash, lashAt}
 use Rattle.springs.proofs.Chain.{natℚ, numbers}
 
 -- x where the test holds, else 0
@@ -95,7 +93,7 @@ module _ (g : ℕ → ℚ) where
         go = ∀₂ ℚR _ λ ρ. simp qq (by-ring tt)
 
 -- lashes stiffer than 0 hold
-pub own-nn : (ls : List Lash) → ((j : ℕ) → j < length ls → natℚ 0 ≤ℚ mk (getD ls j (record { level = 0; stiffness = nat 0 }) .stiffness)) → (i : ℕ) → natℚ 0 ≤ℚ own ls i
+pub own-nn : (ls : List Lash) → ((j : ℕ) → j < length ls → natℚ 0 ≤ℚ mk (lashAt ls j .stiffness)) → (i : ℕ) → natℚ 0 ≤ℚ own ls i
 unfolding sumℚ
 own-nn [] h i = nn-int 0
 own-nn (l ∷ ls) h i = nn-plus (givenℚ (eqb i (l .level)) (mk (l .stiffness))) (own ls i) (given-nn (eqb i (l .level)) (mk (l .stiffness)) (h 0 (omega arith))) (own-nn ls (λ j b. h (suc j) (omega arith)) i)

@@ -1,22 +1,22 @@
 -- Document 01's equations of an end, in fractions and per tier and lash, are the balance of a chain over ℚ, level by level.
 use mathlib.Core.Path.{_≡_, refl, sym, ap, ap₂, subst, fun-ext, _∙_}
 use mathlib.Core.Bool.{Bool, true, false}
-use mathlib.Core.List.{List, [], _∷_}
+use mathlib.Core.List.{List}
 use Prim.Native.Nat.{ℕ, zero, suc, _+_, _-_, _<_, _≤_}
 use native.Mathlib.Omega.{arith}
 use native.Mathlib.Decide.{decLe}
 use lib.Dec.{leb, eqb}
-use lib.IntN.{ℤ, pos}
-use lib.ListN.{length, getD, List·getD-eq-default}
-use Rattle.arith.specs.Fractions.{Frac, nat, _+q_, _-q_, _*q_, _≈_, _⊑_, _⊏_, sumq}
-use Rattle.arith.proofs.Rings.{∀₁, ∀₂, ∀₃, ∀₈, by-ring, by-eqs, mul-eq, _⊹_}
-use Rattle.arith.proofs.Polynomials.{v, kp, kn, _⊕_, _⊖_, _⊗_, ⊖_}
-use Rattle.arith.proofs.Rationals.{ℚR, ℚ, mk, int, _+ℚ_, _-ℚ_, _*ℚ_, _≤ℚ_, _<ℚ_, <→≤, nn-int, nn-plus}
+use lib.IntN.{pos}
+use lib.ListN.{length, List·getD-eq-default}
+use Rattle.arith.specs.Fractions.{Frac, nat, _-q_}
+use Rattle.arith.proofs.Rings.{∀₁, ∀₈, by-ring, by-eqs, mul-eq, _⊹_}
+use Rattle.arith.proofs.Polynomials.{kp, kn}
+use Rattle.arith.proofs.Rationals.{ℚR, ℚ, mk, _+ℚ_, _-ℚ_, _*ℚ_, _≤ℚ_, _<ℚ_, <→≤, nn-int}
 use Rattle.arith.proofs.RationalTerms.{qq}
-use Rattle.arith.proofs.FractionsInRationals.{sumℚ, mk-int, mk-add, mk-sub, mk-mul, mk-sum, of-≈, to-≈, of-⊏, toℚ}
-use Rattle.springs.specs.Equations.{Tier, Lash, noTier, tierAt, shift, given, athwart, athwartFrom, racking, Solves, Stiff}
+use Rattle.arith.proofs.FractionsInRationals.{sumℚ, mk-int, mk-sub, mk-mul, mk-sum, of-≈, to-≈, of-⊏, toℚ}
+use Rattle.springs.specs.Equations.{Tier, Lash, noTier, tierAt, lashAt, shift, given, athwart, athwartFrom, racking, Solves, Stiff}
 use Rattle.springs.specs.Promise.{stiffnessAt, loadAt}
-use Rattle.springs.proofs.Chain.{natℚ, numbers, force, load}
+use Rattle.springs.proofs.Chain.{natℚ, force, load}
 use Rattle.springs.proofs.Lashes.{givenℚ, from, own, from-step, from-top, own-nn}
 
 -- the chain: the spring of each tier, the stiffness of each level's lashes, the load on each level, its shift
@@ -48,7 +48,7 @@ mk-load ts i = mk-sub (tierAt ts i .Q) (tierAt ts (suc i) .Q)
 pub mk-racking : (ts : List Tier) (Ds : List Frac) (i : ℕ) → mk (racking ts Ds i) ≡ force (springs ts) (shifts Ds) i
 mk-racking ts Ds i = simp toℚ
 
--- ---- past the uppermost tier
+-- past the uppermost tier
 pub no-spring : (ts : List Tier) (i : ℕ) → length ts ≤ i → springs ts i ≡ natℚ 0
 no-spring ts i h = ap (λ t. mk (t .K)) (List·getD-eq-default ts noTier h) ∙ mk-int (pos 0)
 
@@ -64,7 +64,7 @@ unfolding shift
 no-shift Ds zero h = mk-int (pos 0)
 no-shift Ds (suc i) h = ap mk (List·getD-eq-default Ds (nat 0) (omega arith)) ∙ mk-int (pos 0)
 
--- ---- what Stiff says of the chain
+-- what Stiff says of the chain
 pub spring-pos : (ts : List Tier) (ls : List Lash) → Stiff ts ls → (i : ℕ) → i < length ts → natℚ 0 <ℚ springs ts i
 spring-pos ts ls s i h = subst (λ z. z <ℚ springs ts i) (mk-int (pos 0)) (of-⊏ (nat 0) (tierAt ts i .K) (s .springs i h))
 
@@ -76,9 +76,9 @@ spring-nn ts ls s i = go (decLe (suc i) (length ts))
     go (no h) = subst (λ z. natℚ 0 ≤ℚ z) (sym (no-spring ts i (omega arith))) (nn-int 0)
 
 pub lashes-nn : (ts : List Tier) (ls : List Lash) → Stiff ts ls → (i : ℕ) → natℚ 0 ≤ℚ lashes ls i
-lashes-nn ts ls s i = own-nn ls (λ j h. <→≤ (subst (λ z. z <ℚ mk (getD ls j (record { level = 0; stiffness = nat 0 }) .stiffness)) (mk-int (pos 0)) (of-⊏ (nat 0) (getD ls j (record { level = 0; stiffness = nat 0 }) .stiffness) (s .lashes j h)))) (suc i)
+lashes-nn ts ls s i = own-nn ls (λ j h. <→≤ (subst (λ z. z <ℚ mk (lashAt ls j .stiffness)) (mk-int (pos 0)) (of-⊏ (nat 0) (lashAt ls j .stiffness) (s .lashes j h)))) (suc i)
 
--- ---- the equations
+-- the equations
 module _ (ts : List Tier) (ls : List Lash) (Ds : List Frac) where
   abbrev K : ℕ → ℚ
   K = springs ts

@@ -6,4 +6,8 @@ pub mod Growth
 pub mod OneSolution
 pub mod Stability
 pub mod Ranges
+pub mod Inputs
 pub mod Residuals
+pub mod Kept
+pub mod Loops
+pub mod Examples

@@ -1,20 +1,20 @@
 -- One solution: for any tiers and lashes stiffer than zero the equations of an end have a solution, and any two agree at every level.
-use mathlib.Core.Path.{_≡_, refl, sym, ap, ap₂, subst, _∙_}
-use mathlib.Core.List.{List, [], _∷_, map}
+use mathlib.Core.Path.{_≡_, refl, sym, ap, ap₂, _∙_}
+use mathlib.Core.List.{List, map}
 use Prim.Native.Nat.{ℕ, zero, suc, _+_, _-_, _<_, _≤_}
 use native.Mathlib.Nat.{add-zero, add-suc, suc-add, zero-add, not-suc-le-zero}
 use native.Mathlib.Omega.{arith}
-use lib.IntN.{ℤ, pos}
+use lib.IntN.{pos}
 use lib.ListN.{length, getD}
-use Rattle.arith.specs.Fractions.{Frac, nat, _+q_, _-q_, _*q_, _/q_, _≈_, recip}
-use Rattle.arith.proofs.Rationals.{ℚ, mk, int, _+ℚ_, _-ℚ_, _*ℚ_, _/ℚ_, recipℚ}
-use Rattle.arith.proofs.FractionLaws.{≈-refl, ⊑-refl, ⊑-antisym}
-use Rattle.arith.proofs.FractionsInRationals.{mk-int, mk-add, mk-mul, mk-div}
-use Rattle.springs.specs.Equations.{Tier, Lash, tierAt, shift, Solves, Stiff, Agree}
+use Rattle.arith.specs.Fractions.{Frac, nat, _+q_, _*q_, _/q_, _≈_}
+use Rattle.arith.proofs.Rationals.{ℚ, mk, _+ℚ_, _-ℚ_, _*ℚ_, _/ℚ_}
+use Rattle.arith.proofs.FractionLaws.{≈-refl, ⊑-refl, ⊑-antisym, *q-cong-r}
+use Rattle.arith.proofs.FractionsInRationals.{mk-int, mk-add, mk-mul, mk-div, of-≈, to-≈}
+use Rattle.springs.specs.Equations.{Tier, Lash, tierAt, shift, athwart, racking, Solves, Stiff, Agree}
 use Rattle.springs.specs.Promise.{stiffnessAt, loadAt}
 use Rattle.springs.proofs.Chain.{numbers, load-same}
 use Rattle.springs.proofs.Elimination as E
-use Rattle.springs.proofs.Levels.{springs, lashes, loads, shifts, mk-stiffness, mk-load, no-spring, spring-pos, spring-nn, lashes-nn, solves}
+use Rattle.springs.proofs.Levels.{springs, lashes, loads, shifts, mk-stiffness, mk-load, mk-racking, no-spring, spring-pos, spring-nn, lashes-nn, solves}
 use Rattle.springs.proofs.Growth.{Heavier, growth}
 
 -- elimination from the top down: what m tiers from tier i + 1 on, with the lashes over them, hand down to level i, stiffness and load
@@ -38,7 +38,7 @@ shiftOf ts ls n (suc i) =
 unfoldable pub solution : List Tier → List Lash → List Frac
 solution ts ls = map (λ i. shiftOf ts ls (length ts) (suc i)) (numbers 0 (length ts))
 
--- ---- the same over ℚ
+-- the same over ℚ
 module _ (ts : List Tier) (ls : List Lash) where
   abbrev stiffnessℚ : ℕ → ℕ → ℚ
   stiffnessℚ i m = E.handed-stiffness (springs ts) (lashes ls) (loads ts) i m
@@ -78,7 +78,7 @@ module _ (ts : List Tier) (ls : List Lash) where
       let c = tierAt ts i .K +q (stiffnessAt ls (suc i) +q handedStiffness ts ls (suc i) m) in
       mk-div (a +q tierAt ts i .K *q shiftOf ts ls n i) c ∙ ap₂ _/ℚ_ (mk-add a (tierAt ts i .K *q shiftOf ts ls n i) ∙ ap₂ _+ℚ_ (mk-add (loadAt ts i) (handedLoad ts ls (suc i) m) ∙ ap₂ _+ℚ_ (mk-load ts i) (mk-loaded (suc i) m)) (mk-mul (tierAt ts i .K) (shiftOf ts ls n i) ∙ ap (λ z. springs ts i *ℚ z) (mk-shift n i))) (mk-divisor i m)
 
-  -- ---- the list
+  -- the list
   length-numbers : (f : ℕ → Frac) (i m : ℕ) → length (map f (numbers i m)) ≡ m
   length-numbers f i zero = refl
   length-numbers f i (suc m) = ap suc (length-numbers f (suc i) m)
@@ -112,3 +112,12 @@ unique ts ls Ds Es s d e = record {
   where
     self : Heavier ts ts
     self = record { tiers = refl; springs = λ i h. ≈-refl (tierAt ts i .K); loads = λ i h. ⊑-refl (loadAt ts i) }
+
+-- where two lists of shifts agree, so do the rackings and the athwart parts
+pub same-racking : (ts : List Tier) (Ds Es : List Frac) → Agree Ds Es → (i : ℕ) → racking ts Ds i ≈ racking ts Es i
+same-racking ts Ds Es a i =
+    to-≈ (racking ts Ds i) (racking ts Es i)
+    (mk-racking ts Ds i ∙ ap₂ (λ x y. springs ts i *ℚ (x -ℚ y)) (of-≈ (shift Ds (suc i)) (shift Es (suc i)) (a .same (suc i))) (of-≈ (shift Ds i) (shift Es i) (a .same i)) ∙ sym (mk-racking ts Es i))
+
+pub same-athwart : (Ds Es : List Frac) → Agree Ds Es → (l : Lash) → athwart Ds l ≈ athwart Es l
+same-athwart Ds Es a l = *q-cong-r (shift Ds (l .level)) (shift Es (l .level)) (l .stiffness) (a .same (l .level))

@@ -1,25 +1,17 @@
 -- How far the solver's rounded shifts leave each level out of balance, from the remainders of its divisions.
-use mathlib.Core.Path.{_≡_, refl, sym, ap, ap₂, subst, _∙_}
-use mathlib.Core.Bool.{Bool, true, false, cond}
-use mathlib.Core.List.{List}
-use Prim.Native.Nat.{ℕ, zero, suc, _+_, _*_, _/_, _%_, _-_, _≤_, _<_, _^_}
+use mathlib.Core.Path.{_≡_, sym, ap, subst, _∙_}
+use Prim.Native.Nat.{ℕ, _+_, _*_, _/_, _%_, _<_}
 use native.Mathlib.Nat.{div-add-mod', mod-lt}
 use native.Mathlib.Omega.{arith}
-use native.Mathlib.Decide.{decLe}
-use lib.Dec.{le→leb}
-use lib.IntN.{ℤ, pos, negsuc}
-use lib.ListN.{getD}
+use lib.IntN.{pos}
 use Rattle.arith.proofs.Polynomials.{v, kp, kn, _⊕_, _⊖_, _⊗_, ⊖_}
-use Rattle.arith.proofs.Rings.{∀₁, ∀₂, ∀₃, ∀₉, ∀₁₀, ∀₁₁, ∀₁₂, by-ring, by-cert, over, part, to, times, num, _⊞_, _⊠_}
-use Rattle.arith.proofs.Rationals.{ℚR, ℚ, int, _+ℚ_, _-ℚ_, _*ℚ_, negℚ, _≤ℚ_, nn-int, int-plus, int-times, one-pos}
+use Rattle.arith.proofs.Rings.{∀₂, ∀₁₀, by-cert, over, to, times, num, _⊞_, _⊠_}
+use Rattle.arith.proofs.Rationals.{ℚR, ℚ, _+ℚ_, _-ℚ_, _*ℚ_, negℚ, _≤ℚ_, nn-int, int-plus, int-times}
 use Rattle.arith.proofs.RationalTerms.{qq, q-int-add, q-int-mul}
-use Rattle.arith.proofs.Signs.{le-int}
+use Rattle.arith.proofs.RationalOrder.{lt-not, nat-q, above-0}
 use Rattle.springs.specs.Promise.{stiffnessScale}
 use Rattle.springs.specs.Steps.{divisor, stiffnessDown, loadDown, shiftUp}
-use Rattle.springs.proofs.Chain.{natℚ, ≤-trans}
-
-pub nat-le : (a b : ℕ) → a ≤ b → natℚ a ≤ℚ natℚ b
-nat-le a b h = le-int (pos a) (pos b) (record { le = le→leb a b h })
+use Rattle.springs.proofs.Chain.{natℚ}
 
 abbrev S : ℚ
 S = natℚ stiffnessScale
@@ -36,7 +28,7 @@ divided x k b p = record {
   rest = natℚ (x * stiffnessScale % (k * stiffnessScale + b));
   whole = simp (q-int-mul, q-int-add) (ap natℚ (div-add-mod' (x * stiffnessScale) (k * stiffnessScale + b)));
   low = nn-int (x * stiffnessScale % (k * stiffnessScale + b));
-  high = simp (q-int-mul, q-int-add) (nat-le (x * stiffnessScale % (k * stiffnessScale + b)) (k * stiffnessScale + b) (omega (arith, mod-lt (x * stiffnessScale) {m = k * stiffnessScale + b} (omega arith))));
+  high = simp (q-int-mul, q-int-add) (nat-q (x * stiffnessScale % (k * stiffnessScale + b)) (k * stiffnessScale + b) (omega (arith, mod-lt (x * stiffnessScale) {m = k * stiffnessScale + b} (omega arith))));
 }
 
 -- the force F of a spring K over a level of shift p, against the stiffness x and the load y that were handed down to that level
@@ -51,8 +43,8 @@ hand-low = ∀₁₀ ℚR _ λ ρ. simp qq λ c hK hp hu hr hw ex ey ed. over (v
 hand-high : (K b a p d x y u w r : ℚ) → ¬ (K *ℚ S +ℚ b ≤ℚ natℚ 0) → natℚ 0 ≤ℚ K → natℚ 0 ≤ℚ p → natℚ 0 ≤ℚ u → natℚ 0 ≤ℚ r → w ≤ℚ K *ℚ S +ℚ b → x *ℚ (K *ℚ S +ℚ b) +ℚ u ≡ K *ℚ b *ℚ S → y *ℚ (K *ℚ S +ℚ b) +ℚ w ≡ K *ℚ a *ℚ S → d *ℚ (K *ℚ S +ℚ b) +ℚ r ≡ (a +ℚ K *ℚ p) *ℚ S → S *ℚ (K *ℚ (d -ℚ p)) -ℚ S *ℚ y +ℚ x *ℚ p ≤ℚ S
 hand-high = ∀₁₀ ℚR _ λ ρ. simp qq λ c hK hp hu hr hw ex ey ed. over (v 0 ⊗ kp stiffnessScale ⊕ v 1) c (num stiffnessScale ⊠ to hw ⊞ to hu ⊠ to hp ⊞ num stiffnessScale ⊠ to hK ⊠ to hr ⊞ times (⊖ v 3) ex ⊞ times (kp stiffnessScale) ey ⊞ times (⊖ (v 0 ⊗ kp stiffnessScale)) ed) tt
 
-above-0 : (k b : ℕ) → 0 < k → ¬ (natℚ k *ℚ S +ℚ natℚ b ≤ℚ natℚ 0)
-above-0 k b p l = one-pos (≤-trans (natℚ 1) (natℚ k *ℚ S +ℚ natℚ b) (natℚ 0) (simp (q-int-mul, q-int-add) (nat-le 1 (k * stiffnessScale + b) (omega arith))) l)
+divisor-pos : (k b : ℕ) → 0 < k → ¬ (natℚ k *ℚ S +ℚ natℚ b ≤ℚ natℚ 0)
+divisor-pos k b p = lt-not (simp (q-int-mul, q-int-add) (above-0 (k * stiffnessScale + b) (omega arith)))
 
 -- one tier of spring k, over it a level of lashes κ and load ω, under it a level of shift p
 module _ (k κ ω x y p : ℕ) (stiff : 0 < k) where
@@ -76,8 +68,8 @@ module _ (k κ ω x y p : ℕ) (stiff : 0 < k) where
 
   pub handed : Handed (natℚ k *ℚ (natℚ d -ℚ natℚ p)) (natℚ k) (natℚ p) (natℚ (stiffnessDown k κ x)) (natℚ (loadDown k κ ω x y))
   handed = record {
-    low = hand-low (natℚ k) (natℚ (κ + x)) (natℚ (ω + y)) (natℚ p) (natℚ d) (natℚ (stiffnessDown k κ x)) (natℚ (loadDown k κ ω x y)) (by-x .rest) (by-y .rest) (by-d .rest) (above-0 k (κ + x) stiff) (nn-int k) (nn-int p) (by-x .high) (by-d .high) (by-y .low) (by-x .whole) (by-y .whole) (by-d .whole);
-    high = hand-high (natℚ k) (natℚ (κ + x)) (natℚ (ω + y)) (natℚ p) (natℚ d) (natℚ (stiffnessDown k κ x)) (natℚ (loadDown k κ ω x y)) (by-x .rest) (by-y .rest) (by-d .rest) (above-0 k (κ + x) stiff) (nn-int k) (nn-int p) (by-x .low) (by-d .low) (by-y .high) (by-x .whole) (by-y .whole) (by-d .whole);
+    low = hand-low (natℚ k) (natℚ (κ + x)) (natℚ (ω + y)) (natℚ p) (natℚ d) (natℚ (stiffnessDown k κ x)) (natℚ (loadDown k κ ω x y)) (by-x .rest) (by-y .rest) (by-d .rest) (divisor-pos k (κ + x) stiff) (nn-int k) (nn-int p) (by-x .high) (by-d .high) (by-y .low) (by-x .whole) (by-y .whole) (by-d .whole);
+    high = hand-high (natℚ k) (natℚ (κ + x)) (natℚ (ω + y)) (natℚ p) (natℚ d) (natℚ (stiffnessDown k κ x)) (natℚ (loadDown k κ ω x y)) (by-x .rest) (by-y .rest) (by-d .rest) (divisor-pos k (κ + x) stiff) (nn-int k) (nn-int p) (by-x .low) (by-d .low) (by-y .high) (by-x .whole) (by-y .whole) (by-d .whole);
   }
 
   -- F the force of the tier above, of spring L: the level's balance in 2^-50 N
@@ -88,7 +80,7 @@ module _ (k κ ω x y p : ℕ) (stiff : 0 < k) where
     whole : natℚ d *ℚ (natℚ k *ℚ S +ℚ (natℚ κ +ℚ natℚ x)) +ℚ by-d .rest ≡ (natℚ ω +ℚ natℚ y +ℚ natℚ k *ℚ natℚ p) *ℚ S
     whole = ap (λ z. natℚ d *ℚ (natℚ k *ℚ S +ℚ z) +ℚ by-d .rest) (sym (int-plus (pos κ) (pos x))) ∙ by-d .whole ∙ ap (λ z. (z +ℚ natℚ k *ℚ natℚ p) *ℚ S) (int-plus (pos ω) (pos y))
 
-    balance-low : negℚ (natℚ (divisor k κ x) +ℚ S) ≤ℚ G
+    pub balance-low : negℚ (natℚ (divisor k κ x) +ℚ S) ≤ℚ G
     balance-low = go (natℚ k) (natℚ κ) (natℚ x) (natℚ ω) (natℚ y) (natℚ p) (natℚ d) (by-d .rest) F (natℚ (divisor k κ x)) whole (subst (λ z. by-d .rest ≤ℚ z) (sym is-c) (by-d .high)) (h .high)
       where
         is-c : natℚ (divisor k κ x) ≡ c
@@ -97,7 +89,7 @@ module _ (k κ ω x y p : ℕ) (stiff : 0 < k) where
         go : (K κ x ω y p d r F c : ℚ) → d *ℚ (K *ℚ S +ℚ (κ +ℚ x)) +ℚ r ≡ (ω +ℚ y +ℚ K *ℚ p) *ℚ S → r ≤ℚ c → S *ℚ F -ℚ S *ℚ y +ℚ x *ℚ d ≤ℚ S → negℚ (c +ℚ S) ≤ℚ S *ℚ (K *ℚ (d -ℚ p)) -ℚ S *ℚ F +ℚ κ *ℚ d -ℚ S *ℚ ω
         go = ∀₁₀ ℚR _ λ ρ. simp qq λ e hr hh. by-cert (to hr ⊞ to hh ⊞ times (kp 1) e) tt
 
-    balance-high : G ≤ℚ natℚ d +ℚ S *ℚ L
+    pub balance-high : G ≤ℚ natℚ d +ℚ S *ℚ L
     balance-high = go (natℚ k) (natℚ κ) (natℚ x) (natℚ ω) (natℚ y) (natℚ p) (natℚ d) (by-d .rest) F L whole (by-d .low) (h .low)
       where
         go : (K κ x ω y p d r F L : ℚ) → d *ℚ (K *ℚ S +ℚ (κ +ℚ x)) +ℚ r ≡ (ω +ℚ y +ℚ K *ℚ p) *ℚ S → natℚ 0 ≤ℚ r → negℚ (d +ℚ S *ℚ L) ≤ℚ S *ℚ F -ℚ S *ℚ y +ℚ x *ℚ d → S *ℚ (K *ℚ (d -ℚ p)) -ℚ S *ℚ F +ℚ κ *ℚ d -ℚ S *ℚ ω ≤ℚ d +ℚ S *ℚ L

@@ -1,28 +1,24 @@
 -- Stability: whatever shifts are put into the equations of an end, the lashes' errors together, and each racking's error, are at most the sum of
 -- what the levels are out of balance by. Any tier count, any spring and lash stiffer than zero.
 use mathlib.Core.Path.{_≡_, refl, sym, ap, ap₂, subst, fun-ext, _∙_}
-use mathlib.Core.List.{List, [], _∷_}
-use Prim.Native.Nat.{ℕ, zero, suc, _+_, _-_, _<_, _≤_}
+use mathlib.Core.List.{List}
+use Prim.Native.Nat.{ℕ, zero, suc, _+_, _-_, _<_}
 use native.Mathlib.Omega.{arith}
-use lib.IntN.{ℤ, pos}
 use lib.ListN.{length}
-use Rattle.arith.specs.Fractions.{Frac, nat, _+q_, _-q_, _*q_, absq, sumq, _⊑_}
-use Rattle.arith.proofs.Rings.{∀₁, ∀₅, by-ring}
-use Rattle.arith.proofs.Rationals.{ℚR, ℚ, mk, int, _+ℚ_, _-ℚ_, _*ℚ_, absℚ, _≤ℚ_, to-⊑}
+use Rattle.arith.specs.Fractions.{Frac, _+q_, _-q_, _*q_, absq, sumq, _⊑_}
+use Rattle.arith.proofs.Rings.{∀₅, by-ring}
+use Rattle.arith.proofs.Rationals.{ℚR, ℚ, mk, _+ℚ_, _-ℚ_, _*ℚ_, absℚ, _≤ℚ_, to-⊑}
 use Rattle.arith.proofs.RationalTerms.{qq}
-use Rattle.arith.proofs.Signs.{sgq, hit-q}
-use Rattle.arith.proofs.FractionsInRationals.{sumℚ, mk-sum, mk-abs, mk-sub, mk-add, mk-mul, toℚ}
-use Rattle.springs.specs.Equations.{Tier, Lash, tierAt, shift, racking, Solves, Stiff}
+use Rattle.arith.proofs.Signs.{same-le, absℚ-nn}
+use Rattle.arith.proofs.FractionsInRationals.{sumℚ, mk-sum, mk-abs, mk-sub, toℚ}
+use Rattle.springs.specs.Equations.{Tier, Lash, shift, racking, Solves, Stiff}
 use Rattle.springs.specs.Promise.{stiffnessAt, loadAt}
 use Rattle.springs.proofs.Chain.{natℚ, numbers, force, load, load-minus, held-by-loads, forced-by-loads}
 use Rattle.springs.proofs.Lashes.{by-level}
 use Rattle.springs.proofs.Levels.{springs, lashes, loads, shifts, mk-load, mk-racking, mk-stiffness, no-spring, deck, no-shift, spring-nn, lashes-nn, balance}
 
 abs-zero : absℚ (natℚ 0) ≡ natℚ 0
-abs-zero = sym (hit-q (natℚ 0)) ∙ go (sgq (natℚ 0))
-  where
-    go : (s : ℚ) → s *ℚ natℚ 0 ≡ natℚ 0
-    go = ∀₁ ℚR _ λ ρ. simp qq (by-ring tt)
+abs-zero = absℚ-nn (natℚ 0) (same-le (natℚ 0))
 
 -- two zeros
 no-error : (x y : ℚ) → x ≡ natℚ 0 → y ≡ natℚ 0 → x -ℚ y ≡ natℚ 0

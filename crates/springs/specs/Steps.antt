@@ -1,9 +1,10 @@
 -- Contracts of the solver's inner functions, cited by no other crate: elimination from the top down, then the shifts from the deck up, in whole numbers.
 use mathlib.Core.List.{List}
 use mathlib.Core.Path.{_≡_}
-use Prim.Native.Nat.{ℕ, suc, _+_, _*_, _/_, _<_, _≤_, _^_}
+use Prim.Native.Nat.{ℕ, suc, _+_, _*_, _<_, _≤_}
 use lib.ListN.{getD}
-use Rattle.springs.specs.Promise.{stiffnessScale}
+use Rattle.arith.specs.Rounding.{scaledDown}
+use Rattle.springs.specs.Promise.{stiffnessScale, softest, stiffest, mostHeld, mostLoaded}
 
 -- a tier of spring k, over it a level of lashes κ and load ω, to which the tiers above hand down the stiffness x and the load y
 abbrev pub divisor : ℕ → ℕ → ℕ → ℕ
@@ -11,23 +12,26 @@ divisor k κ x = k * stiffnessScale + (κ + x)
 
 -- what the level under the tier gets: stiffness ..
 unfoldable pub stiffnessDown : ℕ → ℕ → ℕ → ℕ
-stiffnessDown k κ x = k * (κ + x) * stiffnessScale / divisor k κ x
+stiffnessDown k κ x = scaledDown (k * (κ + x)) stiffnessScale (divisor k κ x)
 
 -- .. and load
 unfoldable pub loadDown : ℕ → ℕ → ℕ → ℕ → ℕ → ℕ
-loadDown k κ ω x y = k * (ω + y) * stiffnessScale / divisor k κ x
+loadDown k κ ω x y = scaledDown (k * (ω + y)) stiffnessScale (divisor k κ x)
 
 -- the shift of the level over the tier, where the one under it has the shift p
 unfoldable pub shiftUp : ℕ → ℕ → ℕ → ℕ → ℕ → ℕ → ℕ
-shiftUp k κ ω x y p = (ω + y + k * p) * stiffnessScale / divisor k κ x
+shiftUp k κ ω x y p = scaledDown (ω + y + k * p) stiffnessScale (divisor k κ x)
 
--- the ranges of one step
-pub record Step (k κ ω x y : ℕ) : Type 0 where
-  pub low : 3730 ≤ k
-  pub high : k ≤ 15690
-  pub held : κ ≤ 620000 * stiffnessScale
-  pub above : x ≤ 15690 * stiffnessScale
-  pub load : ω + y ≤ 10 * 2 ^ 46
+-- the ranges of a step
+pub record InRange (k κ x : ℕ) : Type 0 where
+  pub low : softest ≤ k
+  pub high : k ≤ stiffest
+  pub held : κ ≤ mostHeld
+  pub above : x ≤ stiffest * stiffnessScale
+
+-- the most load of a level with what is handed down to it: that of ten levels
+abbrev pub mostLoad : ℕ
+mostLoad = 10 * mostLoaded
 
 -- x and y hold at each level from i up what is handed down to it, and 0 at level n
 pub record HandedDown (i n : ℕ) (k κ ω x y : List ℕ) : Type 0 where
