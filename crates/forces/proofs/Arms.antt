@@ -10,16 +10,12 @@ use Rattle.arith.proofs.Rings.{∀₁, ∀₂, ∀₃, ∀₄, ∀₆, ∀₈, 
 use Rattle.arith.proofs.Rationals.{ℚR, ℚ, _+ℚ_, _-ℚ_, _*ℚ_, int-plus, plus-zero}
 use Rattle.arith.proofs.RationalTerms.{qq}
 use Rattle.arith.proofs.FractionsInRationals.{sumℚ}
+use Rattle.springs.proofs.Chain.{natℚ}
+use Rattle.springs.proofs.Lashes.{givenℚ}
 use Rattle.sheet.specs.declared.Tier.{Tier}
 use Rattle.sheet.specs.declared.Lash.{Lash}
 use Rattle.forces.specs.Lashes.{hookLevel}
 use Rattle.forces.specs.Posts.{levelHeight}
-use Rattle.forces.proofs.Errors.{natℚ}
-
--- x where the test holds, else 0
-abbrev pub givenℚ : Bool → ℚ → ℚ
-givenℚ true x = x
-givenℚ false x = natℚ 0
 
 -- the height of the tiers, from number i on, that stand below level l
 climb : ℕ → ℕ → List Tier → ℚ

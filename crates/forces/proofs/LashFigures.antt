@@ -15,6 +15,7 @@ use Rattle.arith.proofs.Signs.{ge-q, ge-neg-q, nn-q}
 use Rattle.arith.proofs.RationalOrder.{nat-q}
 use Rattle.arith.proofs.RationalRounding.{div-down, down-low, down-high}
 use Rattle.springs.specs.Promise.{found}
+use Rattle.springs.proofs.Chain.{natℚ}
 use Rattle.sheet.specs.declared.Lash.{Lash}
 use Rattle.forces.specs.Lashes.{hookLevel, lashLength, pull, athwartPart, verticalPart}
 use Rattle.forces.specs.Fixed as F
@@ -22,7 +23,7 @@ use Rattle.forces.specs.Fixed.{stiffnessOf, upward, lashPad, athwartFigu
 use Rattle.forces.specs.Reported.{Reported}
 use Rattle.forces.proofs.Facts.{LashFacts}
 use Rattle.forces.proofs.LashLength.{length-above, length-ratio, vertical-ratio}
-use Rattle.forces.proofs.Errors.{natℚ, Off, off-more, off-share}
+use Rattle.forces.proofs.Errors.{Off, off-more, off-share}
 use Rattle.forces.proofs.Scales.{found-times, newtons, newtons-times, newtons-nn, share-nn, share-most, share-off}
 use Rattle.forces.proofs.Pads.{slipBound, partError, verticalError, lash-pad, lash-lift, turned-lift}
 use Rattle.forces.proofs.Covers.{covers-reported, padded-covers, turned-covers}

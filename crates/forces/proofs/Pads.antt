@@ -2,9 +2,9 @@
 use lib.IntN.{pos}
 use Rattle.arith.specs.Fractions.{recip}
 use Rattle.arith.proofs.Rationals.{ℚ, int, _+ℚ_, _*ℚ_, recipℚ, _≤ℚ_, leℚ}
+use Rattle.springs.proofs.Chain.{natℚ}
 use Rattle.forces.specs.Posts.{postSpacing}
 use Rattle.forces.specs.Fixed.{lashPad, rackingPad, postPad}
-use Rattle.forces.proofs.Errors.{natℚ}
 use Rattle.forces.proofs.Scales.{cent, newtons}
 
 -- the bounds on the shifts found: stiffness × shift error, summed over the lashes; and the error of a racking

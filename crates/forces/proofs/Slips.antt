@@ -12,6 +12,7 @@ use Rattle.arith.proofs.FractionsInRationals.{sumℚ, mk-add, mk-sub, mk-mul, m
 use Rattle.springs.specs.Equations as S
 use Rattle.springs.specs.Equations.{shift}
 use Rattle.springs.specs.Promise.{found}
+use Rattle.springs.proofs.Chain.{natℚ}
 use Rattle.sheet.specs.declared.Lash.{Lash}
 use Rattle.forces.specs.Lashes.{hookLevel, athwartPart}
 use Rattle.forces.specs.Ends.{chainLash, chainLashes}
@@ -19,7 +20,6 @@ use Rattle.forces.specs.Reported.{noLash}
 use Rattle.forces.proofs.Facts.{LashFacts}
 use Rattle.forces.proofs.EachLash.{Each, each-first, each-rest}
 use Rattle.forces.proofs.LashLength.{length-above}
-use Rattle.forces.proofs.Errors.{natℚ}
 use Rattle.forces.proofs.LashFigures.{slip, slip-nn}
 
 module _ (d : List ℕ) (Ds : List Frac) where

@@ -13,6 +13,7 @@ use Rattle.arith.proofs.RationalTerms.{qq}
 use Rattle.arith.proofs.RationalOrder.{nat-q}
 use Rattle.arith.proofs.FractionsInRationals.{sumℚ, mk-add}
 use Rattle.springs.specs.Equations.{given, shift}
+use Rattle.springs.proofs.Chain.{natℚ}
 use Rattle.sheet.specs.declared.Lash.{Lash}
 use Rattle.sheet.specs.declared.Lashing.{Lashing}
 use Rattle.sheet.specs.declared.Lashing.the-variants.{Cross, Side}
@@ -21,7 +22,7 @@ use Rattle.forces.specs.Lashes.{hookLevel, verticalPart}
 use Rattle.forces.specs.Posts.{onLee, onWindward, verticals}
 use Rattle.forces.specs.Fixed.{upward, upwards, leePart, windwardPart}
 use Rattle.forces.proofs.Facts.{LashFacts}
-use Rattle.forces.proofs.Errors.{natℚ, Off, off-nn, off-add, off-more}
+use Rattle.forces.proofs.Errors.{Off, off-nn, off-add, off-more}
 use Rattle.forces.proofs.Scales.{newtons, newtons-add, newtons-nn, nothing-off}
 use Rattle.forces.proofs.Pads.{slipBound, verticalError, verticalsError, verticals-room}
 use Rattle.forces.proofs.LashFigures.{upward-off}
