@@ -32,10 +32,10 @@ use Rattle.forces.proofs.Facts.{Facts}
 use Rattle.forces.proofs.Errors.{Off}
 use Rattle.forces.proofs.EndChain.{end-each, endTiers, endLashes, end-spring}
 use Rattle.forces.proofs.Scales.{newtons}
-use Rattle.forces.proofs.Pads.{slipBound, forceBound, roundedRackingError, tierError, postError}
+use Rattle.forces.proofs.Pads.{shiftErrorBound, forceBound, roundedRackingError, tierError, postError}
 use Rattle.forces.proofs.LashFigures.{athwart-reported, pull-reported, vertical-reported}
 use Rattle.forces.proofs.EachLash.{Each}
-use Rattle.forces.proofs.Slips.{slipq, slipAt, slips, slips-q, slip-le}
+use Rattle.forces.proofs.ShiftErrors.{shiftErrorq, shiftErrorAt, shiftErrors, shift-errors-q, shift-error-le}
 use Rattle.forces.proofs.Verticals.{verticals-off, lee-post, windward-post}
 use Rattle.forces.proofs.Weights.{weight-off}
 use Rattle.forces.proofs.Moment.{rackingMoment, moment-is}
@@ -46,7 +46,7 @@ use Rattle.forces.proofs.PostFigures.{compression-reported, tension-rep
 -- the shifts d, found for an end, are close to the solution Ds of its equations
 pub record Close (e : End) (t : Sheet) (d : List ℕ) (Ds : List Frac) : Type 0 where
   pub far : (i : ℕ) → getD d i 0 ≤ 2 ^ 40
-  pub lashes : sumq (slipq d Ds) (endLashes e t) ⊑ nat 13 /q nat 100
+  pub lashes : sumq (shiftErrorq d Ds) (endLashes e t) ⊑ nat 13 /q nat 100
   pub rackings :
       (i : ℕ) →
       i < t .ntiers →
@@ -66,7 +66,7 @@ promised-close e t k κ ω d Ds a b p n s =
     record {
       far = p .far;
       lashes =
-          ⊑-trans (sumq (slipq d Ds) (endLashes e t)) P.lashError (nat 13 /q nat 100)
+          ⊑-trans (sumq (shiftErrorq d Ds) (endLashes e t)) P.lashError (nat 13 /q nat 100)
           (p .lashes (endTiers e t) (endLashes e t) Ds n (s .solves)) a;
       rackings =
           λ i h.
@@ -78,9 +78,9 @@ promised-close e t k κ ω d Ds a b p n s =
           b;
     }
 
-slip-bound : mk (nat 13 /q nat 100) ≡ slipBound
+shift-error-bound : mk (nat 13 /q nat 100) ≡ shiftErrorBound
 unfolding _*ℚ_ recipℚ int
-slip-bound = refl
+shift-error-bound = refl
 
 force-bound : mk (nat 25 /q nat 100) ≡ forceBound
 unfolding _*ℚ_ recipℚ int
@@ -106,9 +106,9 @@ module _
   each : Each (t .ntiers) ls
   each = end-each e facts
 
-  slips-small : slips d Ds ls ≤ℚ slipBound
-  slips-small =
-      rw (slips-q d Ds ls, slip-bound) at (of-⊑ (sumq (slipq d Ds) (endLashes e t)) (nat 13 /q nat 100) (near .lashes))
+  shift-errors-small : shiftErrors d Ds ls ≤ℚ shiftErrorBound
+  shift-errors-small =
+      rw (shift-errors-q d Ds ls, shift-error-bound) at (of-⊑ (sumq (shiftErrorq d Ds) (endLashes e t)) (nat 13 /q nat 100) (near .lashes))
 
   racking-near : (i : ℕ) → i < t .ntiers → Off roundedRackingError (newtons (rackingPart (springOf e) d i)) (mk (R i))
   racking-near i h =
@@ -149,7 +149,7 @@ module _
           lee-off (length (drop i ts)) half (upwards leePart (counts i) d ls) (momentFound i)
           (weightAbove acceleration ts i) (M i) (verticals onLee (counts i) ls Ds)
           few-above (weight-off acceleration ts i) turned
-          (verticals-off d Ds (near .far) lee-post (counts i) ls each (facts .ends e .few) slips-small)
+          (verticals-off d Ds (near .far) lee-post (counts i) ls each (facts .ends e .few) shift-errors-small)
 
       windward-near :
           Off postError
@@ -159,7 +159,7 @@ module _
           windward-off (length (drop i ts)) half (upwards windwardPart (counts i) d ls) (momentFound i)
           (weightAbove acceleration ts i) (M i) (verticals onWindward (counts i) ls Ds)
           few-above (weight-off acceleration ts i) turned
-          (verticals-off d Ds (near .far) windward-post (counts i) ls each (facts .ends e .few) slips-small)
+          (verticals-off d Ds (near .far) windward-post (counts i) ls each (facts .ends e .few) shift-errors-small)
 
     compressed : Reported 20 (compression classShare (routeFactor t) ts ls Ds i) (compressionFigure (springOf e) ts ls d i)
     unfolding compression compressionFigure
@@ -178,17 +178,17 @@ module _
     abbrev D : Frac
     D = shift Ds (hookLevel lash)
 
-    slip-small : slipAt d Ds lash ≤ℚ slipBound
-    slip-small = ≤ℚ-trans (slipAt d Ds lash) (slips d Ds ls) slipBound (slip-le d Ds ls each j h) slips-small
+    shift-error-small : shiftErrorAt d Ds lash ≤ℚ shiftErrorBound
+    shift-error-small = ≤ℚ-trans (shiftErrorAt d Ds lash) (shiftErrors d Ds ls) shiftErrorBound (shift-error-le d Ds ls each j h) shift-errors-small
 
     pulled : Reported 20 (pull lash D) (pullFigure d lash)
-    pulled = pull-reported d lash D (each .at j h) (near .far (hookLevel lash)) slip-small 20 (lit≤ tt)
+    pulled = pull-reported d lash D (each .at j h) (near .far (hookLevel lash)) shift-error-small 20 (lit≤ tt)
 
     athwart : Reported 20 (athwartPart lash D) (athwartFigure d lash)
-    athwart = athwart-reported d lash D (each .at j h) (near .far (hookLevel lash)) slip-small 20 (lit≤ tt)
+    athwart = athwart-reported d lash D (each .at j h) (near .far (hookLevel lash)) shift-error-small 20 (lit≤ tt)
 
     upright : Reported 20 (verticalPart lash D) (verticalFigure d lash)
-    upright = vertical-reported d lash D (each .at j h) (near .far (hookLevel lash)) slip-small 20 (lit≤ tt)
+    upright = vertical-reported d lash D (each .at j h) (near .far (hookLevel lash)) shift-error-small 20 (lit≤ tt)
 
   pub reported : (f : EndFigures) → Computed e t d f → EndReported 20 e t Ds f
   reported f c =
