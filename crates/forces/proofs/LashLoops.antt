@@ -214,4 +214,6 @@ module _ (m : ℕ) (lashes : List Lash) where
             windward = λ i. y i ∙ sym (tally-upwards windwardPart (at-level i) d ls);
             lee-small = λ i. omega (arith, x i, post-le leePart lee-kept i);
             windward-small = λ i. omega (arith, y i, post-le windwardPart windward-kept i);
+            lee-long = s .lees .long;
+            windward-long = s .windwards .long;
           }

@@ -44,3 +44,4 @@ pub mod Tallies
 pub mod LashLoops
 pub mod LevelLaws
 pub mod Descent
+pub mod EndLaws

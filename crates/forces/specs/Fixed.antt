@@ -57,15 +57,15 @@ unfoldable pub levelStiffness : List Lash → ℕ → ℕ
 levelStiffness [] i = 0
 levelStiffness (l ∷ ls) i = cond (eqb i (hookLevel l)) (stiffnessOf l) 0 + levelStiffness ls i
 
--- the solver's inputs
-pub record Inputs (e : End) (t : Sheet) (k κ ω : List ℕ) : Type 0 where
+-- the solver's inputs, by a share of F in twentieths and a factor on A_T in thousandths; and by the class rule and the route
+pub record InputsBy (share factor : ℕ) (e : End) (t : Sheet) (k κ ω : List ℕ) : Type 0 where
   pub springs : (i : ℕ) → i < t .ntiers → getD k i 0 ≡ springOf e
   pub held : (i : ℕ) → i < t .ntiers → getD κ i 0 ≡ levelStiffness (lashesOf e t) (suc i)
   pub loaded :
-      (i : ℕ) →
-      i < t .ntiers →
-      getD ω i 0
-      ≡ levelLoad 9 (10 * routePercent (t .head .route)) (getD (tiersOf t) i noTier) (getD (tiersOf t) (suc i) noTier)
+      (i : ℕ) → i < t .ntiers → getD ω i 0 ≡ levelLoad share factor (getD (tiersOf t) i noTier) (getD (tiersOf t) (suc i) noTier)
+
+abbrev pub Inputs : End → Sheet → List ℕ → List ℕ → List ℕ → Type 0
+Inputs e t k κ ω = InputsBy 9 (10 * routePercent (t .head .route)) e t k κ ω
 
 -- the athwart part of a lash at the shifts d, and its vertical part
 unfoldable pub part : List ℕ → Lash → ℕ

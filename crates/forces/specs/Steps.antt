@@ -8,13 +8,19 @@ use lib.ListN.{drop, take, getD, length}
 use lib.IntN.{ℤ, pos, negℤ, _+ℤ_, _-ℤ_, _*ℤ_}
 use Rattle.sheet.specs.declared.Tier.{Tier}
 use Rattle.sheet.specs.declared.Lash.{Lash}
+use Rattle.sheet.specs.declared.Sheet.{Sheet}
+use Rattle.springs.specs.Promise.{Promised}
+use Rattle.forces.specs.declared.EndFigures.{EndFigures}
 use Rattle.forces.specs.declared.LevelFigures.{LevelFigures}
 use Rattle.forces.specs.declared.HalfWeights.{HalfWeights}
 use Rattle.forces.specs.declared.Gear.{Gear}
 use Rattle.forces.specs.declared.Pulls.{Pulls}
 use Rattle.forces.specs.Lashes.{hookLevel, lashLength}
+use Rattle.forces.specs.Ends.{End, lashesOf}
+use Rattle.forces.specs.Posts.{inCompression, inTension}
 use Rattle.forces.specs.Reported.{noLash}
-use Rattle.forces.specs.Fixed.{noTier, levelLoad, halfWeight, stiffnessOf, levelStiffness, pullFigure, athwartFigure, verticalFigure, upwards, leePart, windwardPart, rackingPart, rackingFigure, leeFound, windwardFound, postFigure}
+use Rattle.forces.specs.Facts.{LashFacts, countAt}
+use Rattle.forces.specs.Fixed.{noTier, levelLoad, halfWeight, stiffnessOf, levelStiffness, pullFigure, athwartFigure, verticalFigure, upwards, leePart, windwardPart, rackingPart, rackingFigure, leeFound, windwardFound, postFigure, InputsBy, Computed}
 
 -- the first n entries of a list are P, and those behind them blank
 pub record Filled {A : Type 0} (blank : A) (n : ℕ) (P : ℕ → A) (r : List A) : Type 0 where
@@ -48,6 +54,8 @@ pub record Pulled (m : ℕ) (ls : List Lash) (d : List ℕ) (r : Pulls) : Type 0
   pub windward : (i : ℕ) → getD (r .windward) i 0 ≡ upwards windwardPart (λ l. eqb i (hookLevel l)) d ls
   pub lee-small : (i : ℕ) → getD (r .lee) i 0 ≤ 2 ^ 58
   pub windward-small : (i : ℕ) → getD (r .windward) i 0 ≤ 2 ^ 58
+  pub lee-long : length (r .lee) ≡ 11
+  pub windward-long : length (r .windward) ≡ 11
 
 unfoldable pub total : List ℕ → ℕ
 total [] = 0
@@ -99,3 +107,67 @@ module _ (n : ℕ) (k : List ℕ) (ts : List Tier) (d most least lee windward : 
     pub racking : Filled (pos 0) n (λ i. rackingFigure (rackingPart (getD k i 0) d i)) (r .racking)
     pub compression : Filled 0 (suc n) compressionAt (r .compression)
     pub tension : Filled 0 n tensionAt (r .tension)
+
+-- an end may be worked: n tiers ts with springs k, m lashes ls, the loads ω on the levels, and half of the weights above them
+pub record Workable (n : ℕ) (k : List ℕ) (ts : List Tier) (m : ℕ) (ls : List Lash) (ω : List ℕ) (w : HalfWeights) : Type 0 where
+  pub few : n ≤ 10
+  pub springs : (i : ℕ) → i < n → (3730 ≤ getD k i 0) × (getD k i 0 ≤ 15690)
+  pub heights : (i : ℕ) → i < n → getD ts i noTier .height ≤ 2896
+  pub few-lashes : m ≤ 8
+  pub each : (j : ℕ) → j < length ls → LashFacts n (getD ls j noLash)
+  pub at-level : (i : ℕ) → countAt ls i ≤ 4
+  pub loaded : (i : ℕ) → i < n → getD ω i 0 ≤ 2 ^ 46
+  pub weighed : Weighed ts w
+
+-- the figures of an end, at shifts d that the solver found
+pub record EndWorked (n : ℕ) (k : List ℕ) (ts : List Tier) (ls : List Lash) (ω : List ℕ) (f : EndFigures) : Type 0 where
+  pub κ : List ℕ
+  pub d : List ℕ
+  pub held : (i : ℕ) → i < n → getD κ i 0 ≡ levelStiffness ls (suc i)
+  pub promised : Promised n k κ ω d
+  pub racking : Filled (pos 0) n (λ i. rackingFigure (rackingPart (getD k i 0) d i)) (f .racking)
+  pub compression :
+      Filled
+      0
+      (suc n)
+      (λ i.
+      compressed
+      (halfWeight (λ t. t .avmax) ts i)
+      (momentOf k d (drop i ts) i)
+      (upwards leePart (inCompression i) d ls)
+      (upwards windwardPart (inCompression i) d ls))
+      (f .compression)
+  pub tension :
+      Filled
+      0
+      n
+      (λ i.
+      tensed
+      (halfWeight (λ t. t .avmin) ts i)
+      (momentOf k d (drop i ts) i)
+      (upwards leePart (inTension i) d ls)
+      (upwards windwardPart (inTension i) d ls))
+      (f .tension)
+  pub pull : Filled 0 (length ls) (λ j. pullFigure d (getD ls j noLash)) (f .pull)
+  pub athwart : Filled 0 (length ls) (λ j. athwartFigure d (getD ls j noLash)) (f .athwart)
+  pub vertical : Filled 0 (length ls) (λ j. verticalFigure d (getD ls j noLash)) (f .vertical)
+
+-- the figures behind the counts are 0
+pub record Blank (e : End) (t : Sheet) (f : EndFigures) : Type 0 where
+  pub racking : (i : ℕ) → t .ntiers ≤ i → getD (f .racking) i (pos 0) ≡ pos 0
+  pub compression : (i : ℕ) → suc (t .ntiers) ≤ i → getD (f .compression) i 0 ≡ 0
+  pub tension : (i : ℕ) → t .ntiers ≤ i → getD (f .tension) i 0 ≡ 0
+  pub pull : (j : ℕ) → length (lashesOf e t) ≤ j → getD (f .pull) j 0 ≡ 0
+  pub athwart : (j : ℕ) → length (lashesOf e t) ≤ j → getD (f .athwart) j 0 ≡ 0
+  pub vertical : (j : ℕ) → length (lashesOf e t) ≤ j → getD (f .vertical) j 0 ≡ 0
+
+-- the figures of an end of a sheet, by a share in twentieths and a factor in thousandths: computed from shifts that keep the solver's promise
+pub record Worked (share factor : ℕ) (e : End) (t : Sheet) (f : EndFigures) : Type 0 where
+  pub k : List ℕ
+  pub κ : List ℕ
+  pub ω : List ℕ
+  pub d : List ℕ
+  pub inputs : InputsBy share factor e t k κ ω
+  pub promised : Promised (t .ntiers) k κ ω d
+  pub computed : Computed e t d f
+  pub blank : Blank e t f
