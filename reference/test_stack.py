@@ -6,17 +6,14 @@ from fractions import Fraction
 from struct import pack as packed
 
 from reference.answer import BadAnswer, read_answer
-from reference.sheet import (
-    BOTTOM, CLOSED, CROSS, DOOR, SIDE, TOP, Head, Lash, Refused, Sheet, Tier, pack, parse,
-)
+from reference.cases import BOX_B as B
+from reference.cases import HEAD
+from reference.cases import ROD_S as S
+from reference.sheet import BOTTOM, CLOSED, CROSS, DOOR, SIDE, Refused, Sheet, pack, parse
 from reference.stack import (
     End, LashForces, equations, exact, findings, lash_forces, lash_length, moment, racking_load,
     safe_working_load, shifts, transverse, wind,
 )
-
-HEAD = Head(1, 0, 1, 0, 500_000)
-B = Tier(40, 0, 2591, 20_000, 500, 1_500, 800)
-S = Lash(1, TOP, CROSS, 1, 0, 1950, 2600, 500, 130_000, 490_000)
 
 
 def stack(*tiers, door=(), closed=(), head=HEAD):
