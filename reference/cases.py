@@ -26,6 +26,7 @@ from pathlib import Path
 sys.path.insert(0, str(Path(__file__).resolve().parent.parent))
 
 from reference.judge import MARGIN, figures
+from reference.script import finish
 from reference.sheet import (
     ANSWER_ROOM, BOTTOM, CROSS, SIDE, TOP, Head, Lash, Refused, Sheet, Tier, pack, parse,
 )
@@ -209,4 +210,4 @@ def main():
 
 
 if __name__ == "__main__":
-    main()
+    finish(main)
