@@ -7,7 +7,7 @@ from reference.sheet import (
     BOTTOM, CLOSED, CROSS, DOOR, HEAD, HEAD_LIMITS, HEIGHTS, LASH, LASH_LIMITS, MOST_LASHES,
     MOST_TIERS, SIDE, TIER, TIER_LIMITS, TOP, pack,
 )
-from reference.stacks import extreme, hooks, realistic
+from reference.samples import extreme, hooks, realistic
 
 BYTE_FIELDS = ("route", "lock_material", "wind", "hook", "kind", "material")
 LONG_FIELDS = ("lock_breaking", "modulus", "breaking")

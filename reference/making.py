@@ -3,7 +3,7 @@
 from dataclasses import dataclass
 from random import Random
 
-from reference import faults, stacks
+from reference import faults, samples
 from reference.sheet import pack
 
 
@@ -27,9 +27,9 @@ def legal(build):
 
 
 KINDS = {
-    "realistic": legal(lambda random, turn: stacks.realistic(random)),
-    "extreme": legal(lambda random, turn: stacks.extreme(random)),
-    "near a limit": legal(stacks.near),
+    "realistic": legal(lambda random, turn: samples.realistic(random)),
+    "extreme": legal(lambda random, turn: samples.extreme(random)),
+    "near a limit": legal(samples.near),
     "edge": faults.edge,
     "damaged": faults.damaged,
 }
