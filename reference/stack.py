@@ -2,6 +2,7 @@
 
 from dataclasses import dataclass
 from fractions import Fraction
+from functools import lru_cache
 from math import isqrt
 
 from reference.sheet import CLOSED, CROSS, DOOR, SIDE
@@ -53,16 +54,19 @@ def weight(tier):
     return tier.mass * GRAVITY
 
 
+@lru_cache(512)
 def transverse(tier, route):
     """F = 0.5 × W × A_T × route factor."""
     return HALF * weight(tier) * Fraction(tier.a_t, 1000) * Fraction(ROUTE_PERCENT[route], 100)
 
 
+@lru_cache(512)
 def vertical(tier, thousandths):
     """F_V = 0.5 × W × A_Vmax or A_Vmin."""
     return HALF * weight(tier) * Fraction(thousandths, 1000)
 
 
+@lru_cache(512)
 def wind(tier):
     """P = 0.5 × 1,080 N/m² × length × height if exposed, else 0."""
     return HALF * WIND_PRESSURE * BOX_LENGTH[tier.size] * tier.height * tier.wind
@@ -178,23 +182,23 @@ def vertical_parts(sheet, end, lash_results, kind, lowest):
     )
 
 
-def post_sums(sheet, end, lash_results, level, field, lowest):
+def post_sums(sheet, end, lash_results, level, m, field, lowest):
     """V/2 + M/2259 + vertical parts of cross lashes, V/2 − M/2259 + vertical parts of side lashes."""
     half_v = HALF * sum(vertical(tier, getattr(tier, field)) for tier in sheet.tiers[level:])
-    pair = moment(sheet, end, lash_results, level) / POST_SPACING
+    pair = m / POST_SPACING
     lee = half_v + pair + vertical_parts(sheet, end, lash_results, CROSS, lowest)
     windward = half_v - pair + vertical_parts(sheet, end, lash_results, SIDE, lowest)
     return lee, windward
 
 
-def compression(sheet, end, lash_results, level):
+def compression(sheet, end, lash_results, level, m):
     """By A_Vmax, with the lashes at this level or above."""
-    return max(Fraction(0), *post_sums(sheet, end, lash_results, level, "a_vmax", level))
+    return max(Fraction(0), *post_sums(sheet, end, lash_results, level, m, "a_vmax", level))
 
 
-def tension(sheet, end, lash_results, level):
+def tension(sheet, end, lash_results, level, m):
     """By A_Vmin, with only the lashes above this level."""
-    return max(Fraction(0), -min(post_sums(sheet, end, lash_results, level, "a_vmin", level + 1)))
+    return max(Fraction(0), -min(post_sums(sheet, end, lash_results, level, m, "a_vmin", level + 1)))
 
 
 def exact_end(sheet, end):
@@ -203,10 +207,11 @@ def exact_end(sheet, end):
     shift = shifts(sheet, end)
     lashes = tuple(lash_forces(lash, shift[lash.level]) for lash in sheet.lashes(end))
     stiffness = RACKING_STIFFNESS[end]
+    m = [moment(sheet, end, lashes, level) for level in range(count + 1)]
     return End(
         tuple(stiffness * (shift[i] - shift[i - 1]) for i in range(1, count + 1)),
-        tuple(compression(sheet, end, lashes, level) for level in range(count + 1)),
-        tuple(tension(sheet, end, lashes, level) for level in range(count)),
+        tuple(compression(sheet, end, lashes, level, m[level]) for level in range(count + 1)),
+        tuple(tension(sheet, end, lashes, level, m[level]) for level in range(count)),
         lashes,
     )
 
