@@ -272,12 +272,6 @@ static uint8_t *put_findings(uint8_t *p, const struct sheet *t, int end, const s
     return p;
 }
 
-uint64_t doubles_decode(const uint8_t *sheet, size_t sheet_len)
-{
-    struct sheet t;
-    return decode(sheet, sheet_len, &t);
-}
-
 uint64_t doubles_check(const uint8_t *sheet, size_t sheet_len, uint8_t *answer, size_t answer_len)
 {
     struct sheet t;

@@ -5,11 +5,7 @@
 #include <stddef.h>
 #include <stdint.h>
 
-
 /* The same call as lash_check: number in the low 8 bits, second number above. */
 uint64_t doubles_check(const uint8_t *sheet, size_t sheet_len, uint8_t *answer, size_t answer_len);
-
-/* The three steps apart: the sheet's refusal, the springs of both ends, the answer's bytes. */
-uint64_t doubles_decode(const uint8_t *sheet, size_t sheet_len);
 
 #endif
