@@ -33,9 +33,23 @@ enum lash_number {
     LASH_ROOM = 13        /* 834: the answer buffer is under 834 bytes */
 };
 
+/* The answer: a verdict byte, 0 accepted or 1 not. Then each end, door end first: tier count, a racking per tier; level count, a
+   compression per level from 0; level count, a tension per level from 0; lash count, tension, athwart and vertical part per lash.
+   Last a count of findings, each three bytes: end (0 door, 1 closed), kind, index. Counts take one byte, forces four, least byte
+   first, in N; racking is signed (two's complement), above zero to leeward. */
+enum lash_finding {
+    LASH_OVER_RACKING = 1,     /* index: tier, from 1 */
+    LASH_OVER_COMPRESSION = 2, /* level */
+    LASH_OVER_CORNER = 3,      /* level: tension over what a corner may bear */
+    LASH_OVER_LOCK = 4,        /* level: tension over the lock's safe working load */
+    LASH_OVER_TENSION = 5,     /* lash, from 0: tension over its safe working load */
+    LASH_OVER_VERTICAL = 6,    /* lash: vertical part */
+    LASH_OVER_ATHWART = 7      /* lash: athwart part */
+};
+
 /* Checks a sheet. The first number is in the low 8 bits of what is returned, the second above them. The caller tests nothing first.
    Taken: the answer stands at the start of the buffer and the bytes behind it are as they were. Refused: the buffer is as it was.
-   The two buffers must not overlap. */
+   The sheet is only read. Neither pointer may be null, even with a length of 0, and the two buffers must not overlap. */
 uint64_t lash_check(const uint8_t *sheet, size_t sheet_len, uint8_t *answer, size_t answer_len);
 
 static inline unsigned lash_number_of(uint64_t result) { return (unsigned)(result & 255); }

@@ -44,5 +44,5 @@ def compiled(name, *words):
     """The program of this name in target/c, compiled from these sources and libraries."""
     OUTPUT.mkdir(parents=True, exist_ok=True)
     program = OUTPUT / name
-    run(("cc", *C_WORDS, *words, "-o", program), f"to compile {name}")
+    run(("cc", *C_WORDS, *words, "-lm", "-o", program), f"to compile {name}")
     return program
