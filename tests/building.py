@@ -7,6 +7,7 @@ from pathlib import Path
 
 ROOT = Path(__file__).resolve().parent.parent
 LIBRARY = ROOT / "target" / "staticlib" / "liblash.a"
+PROGRAM = ROOT / "target" / "bin" / "lashcheck"
 OUTPUT = ROOT / "target" / "c"
 C_WORDS = ("-O2", "-Wall", "-Wextra")
 
@@ -30,14 +31,24 @@ def newest_source():
     return max(path.stat().st_mtime for path in sources)
 
 
+def proved(path, *command):
+    """A file that rt makes of the crates, made anew if it is missing or older than a file of theirs."""
+    if not path.is_file() or path.stat().st_mtime < newest_source():
+        print(f"building {path.name}: {' '.join(command)}", file=sys.stderr, flush=True)
+        run(command, f"to prove and build {path.name}")
+    if not path.is_file():
+        raise BuildFailed(f"`{' '.join(command)}` left no {path}")
+    return path
+
+
 def library():
-    """The proved static library, built if it is missing or older than a file of the crates."""
-    if not LIBRARY.is_file() or LIBRARY.stat().st_mtime < newest_source():
-        print("building the static library: rt staticlib lash", file=sys.stderr, flush=True)
-        run(("rt", "staticlib", "lash"), "to prove and build the library")
-    if not LIBRARY.is_file():
-        raise BuildFailed(f"`rt staticlib lash` left no {LIBRARY}")
-    return LIBRARY
+    """The static library."""
+    return proved(LIBRARY, "rt", "staticlib", "lash")
+
+
+def program():
+    """The program that reads a sheet from standard input."""
+    return proved(PROGRAM, "rt", "check", "lashcheck")
 
 
 def compiled(name, *words):
