@@ -46,7 +46,7 @@ def group(varies, value, count, build):
     random = Random(f"{varies} {value}")
     sheets = [pack(build(random)) for _ in range(count)]
     for data in sheets:
-        parse(data)
+        parse(data)  # raises for a sheet that would be refused
     return Group(varies, value, sheets)
 
 

@@ -1,4 +1,5 @@
-/* The lashing check in plain doubles: document 01's rules, the springs by the Thomas algorithm, forces rounded up. No bound is kept. */
+/* The lashing check in plain doubles: document 01's rules, the springs by the Thomas algorithm, forces rounded up. Nothing bounds the
+   rounding errors. */
 #include "doubles.h"
 
 #include <math.h>
