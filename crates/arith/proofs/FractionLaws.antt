@@ -1,20 +1,18 @@
 -- The laws of fractions (specs/Fractions): an ordered field up to the equality by cross products. From the algebra over ℤ.
 -- A law over three fractions is `F₃ _ λ ρ p q r. simp cross (simp zq (by-ring tt))`: v 0 / v 1, v 2 / v 3, v 4 / v 5, and p q r say that v 1, v 3, v 5 are at least 1.
-use mathlib.Core.Path.{_≡_, refl, sym, ap, _∙_}
+use mathlib.Core.Path.{_≡_, sym, _∙_}
 use mathlib.Core.Logic.{_↔_, _⊎_, inl, inr}
 use mathlib.Core.List.{List, [], _∷_}
 use Prim.Native.Nat.{ℕ, zero, suc}
-use native.Mathlib.Omega.{arith}
-use lib.Dec.{le→leb}
-use lib.IntN.{ℤ, pos, negsuc, negℤ, _+ℤ_, _-ℤ_, _*ℤ_, *ℤ-comm}
-use Rattle.arith.specs.Fractions.{Frac, _≈_, _⊑_, _⊏_, one-le, int, nat, _+q_, _-q_, _*q_, negq, recip-at, recip, absq}
-use Rattle.arith.proofs.Polynomials.{E, v, kp, kn, _⊕_, _⊖_, _⊗_, ⊖_}
-use Rattle.arith.proofs.Rings.{X, Eq, Le, ∀₁, ∀₂, ∀₄, by-ring, by-cert, by-eqs, over, over-eq, to, times, mul-eq, sq, num, contra, _⊞_, _⊠_, _⊹_}
+use lib.IntN.{ℤ, pos, negsuc, _+ℤ_, _*ℤ_, *ℤ-comm}
+use Rattle.arith.specs.Fractions.{Frac, _≈_, _⊑_, one-le, int, _+q_, _*q_, negq, recip-at, recip}
+use Rattle.arith.proofs.Polynomials.{E, v, kp, kn, _⊗_}
+use Rattle.arith.proofs.Rings.{X, Le, ∀₁, ∀₂, ∀₄, by-ring, by-cert, by-eqs, over, over-eq, to, times, mul-eq, sq, num, contra, _⊞_, _⊠_, _⊹_}
 use Rattle.arith.proofs.Integers.{ℤR, _≼_, nn-pos, antisym}
 use Rattle.arith.proofs.IntegerTerms.{zq}
 use Rattle.arith.proofs.IntegerOrder.{≼-refl, total}
 
--- ---- what is proved of all quotients of expressions holds of all fractions
+-- what is proved of all quotients of expressions holds of all fractions
 pub un : (ρ : List ℤ) (b : E) → Le ℤR ρ (kp 1) b → pos 1 ≼ X ℤR ρ b
 unfolding X
 un ρ b p = p .ineq
@@ -42,11 +40,7 @@ pub F₃ : (C : Frac → Frac → Frac → Type 0) → ((ρ : List ℤ) (p : Le 
 unfolding un X
 F₃ C f x y z = f (x .top ∷ x .bot ∷ y .top ∷ y .bot ∷ z .top ∷ z .bot ∷ []) (record { ineq = x .ok }) (record { ineq = y .ok }) (record { ineq = z .ok })
 
-pub F₄ : (C : Frac → Frac → Frac → Frac → Type 0) → ((ρ : List ℤ) (p : Le ℤR ρ (kp 1) (v 1)) (q : Le ℤR ρ (kp 1) (v 3)) (r : Le ℤR ρ (kp 1) (v 5)) (s : Le ℤR ρ (kp 1) (v 7)) → C (frac ρ (v 0) (v 1) p) (frac ρ (v 2) (v 3) q) (frac ρ (v 4) (v 5) r) (frac ρ (v 6) (v 7) s)) → (x y z w : Frac) → C x y z w
-unfolding un X
-F₄ C f x y z w = f (x .top ∷ x .bot ∷ y .top ∷ y .bot ∷ z .top ∷ z .bot ∷ w .top ∷ w .bot ∷ []) (record { ineq = x .ok }) (record { ineq = y .ok }) (record { ineq = z .ok }) (record { ineq = w .ok })
-
--- ---- the laws
+-- the laws
 pub ≈-refl : (x : Frac) → x ≈ x
 ≈-refl = F₁ _ λ ρ p. simp cross (simp zq (by-ring tt))
 
@@ -128,10 +122,7 @@ pub +q-cong-r : (x y z : Frac) → x ≈ y → z +q x ≈ z +q y
 pub *q-cong-r : (x y z : Frac) → x ≈ y → z *q x ≈ z *q y
 *q-cong-r = F₃ _ λ ρ p q r. simp cross (simp zq λ h. by-eqs (mul-eq (v 4 ⊗ v 5) h) tt)
 
--- with the equality: a set for `grw`
-pub ruleset ≈rw = (≈-trans, ≈-refl, +q-cong, +q-cong-r, *q-cong, *q-cong-r, negq-cong)
-
--- ---- what the order of the quotients needs
+-- what the order of the quotients needs
 pub nn-+q : (x y : Frac) → int (pos 0) ⊑ x → int (pos 0) ⊑ y → int (pos 0) ⊑ x +q y
 nn-+q = F₂ _ λ ρ p q. simp cross (simp zq λ h l. by-cert (to h ⊠ (to q ⊞ num 1) ⊞ to l ⊠ (to p ⊞ num 1)) tt)
 
@@ -206,7 +197,7 @@ recip-nnq x = go (x .top) (x .bot) (x .ok)
         up = ∀₂ ℤR _ λ ρ. simp zq λ h. by-cert (to h) tt
     go (negsuc n) b p = ⊑-refl (int (pos 0))
 
--- ---- the laws of a positive factor and of 0 < 1
+-- the laws of a positive factor and of 0 < 1
 pub one-posq : ¬ (int (pos 1) ⊑ int (pos 0))
 one-posq h = h .cross .le
 

@@ -1,18 +1,18 @@
--- Fractions and ℚ: `mk` takes each operation and order of specs/Fractions to that of ℚ and back, so that a statement in fractions is proved in ℚ.
-use mathlib.Core.Path.{_≡_, refl, sym, ap, ap₂, subst, _∙_}
+-- Fractions in ℚ: `mk` takes each operation and order of specs/Fractions to that of ℚ and back, so that a statement in fractions is proved in ℚ.
+use mathlib.Core.Path.{_≡_, refl, sym, ap, subst, _∙_}
 use mathlib.Core.Bool.{Bool, true, false, not, cond}
 use mathlib.Core.List.{List, [], _∷_}
-use Prim.Native.Nat.{ℕ, zero, suc, _≤_}
+use Prim.Native.Nat.{zero, suc, _≤_}
 use native.Mathlib.Omega.{arith}
 use lib.Dec.{T, T-not, leb→le}
-use lib.IntN.{ℤ, pos, negsuc, natAbs, negℤ, _+ℤ_, _*ℤ_}
+use lib.IntN.{ℤ, pos, negsuc, _*ℤ_}
 use lib.Signed.{_≤ℤ_, _<ℤ_, leZ, ltZ, ltZ-no, clashℤ}
 use Rattle.arith.specs.Fractions as F
 use Rattle.arith.specs.Fractions.{Frac, _≈_, _⊑_, _⊏_, _+q_, _-q_, _*q_, _/q_, negq, absq, recip, sumq}
 use Rattle.arith.proofs.Rings.{∀₂, by-cert, to}
 use Rattle.arith.proofs.Integers.{ℤR, _≼_}
 use Rattle.arith.proofs.IntegerTerms.{zq}
-use Rattle.arith.proofs.Rationals.{ℚ, mk, same, int, _+ℚ_, _-ℚ_, _*ℚ_, _/ℚ_, negℚ, recipℚ, absℚ, _≤ℚ_, _<ℚ_, leℚ, of-⊑, to-⊑}
+use Rattle.arith.proofs.Rationals.{ℚ, mk, same, int, _+ℚ_, _-ℚ_, _*ℚ_, _/ℚ_, negℚ, recipℚ, absℚ, _≤ℚ_, _<ℚ_, leℚ, to-⊑}
 use Rattle.arith.proofs.Signs.{same-le, on}
 use Rattle.arith.proofs.FractionLaws.{⊑-antisym}
 
@@ -44,7 +44,7 @@ pub mk-div : (x y : Frac) → mk (x /q y) ≡ mk x /ℚ mk y
 unfolding _*ℚ_ recipℚ
 mk-div x y = refl
 
--- ---- the size
+-- the size
 -- the sign of a fraction is that of its top
 top-nn : (a b : ℤ) → (pos 0 *ℤ b) ≤ℤ (a *ℤ pos 1) → pos 0 ≼ a
 top-nn = ∀₂ ℤR _ λ ρ. simp zq λ h. by-cert (to h) tt
@@ -77,7 +77,7 @@ mk-abs x =
     (λ h. up x (top-nn (x .top) (x .bot) ((to-⊑ (F.int (pos 0)) x h) .cross)))
     (λ h. down x (top-np (x .top) (x .bot) ((to-⊑ x (F.int (pos 0)) h) .cross)))
 
--- ---- equality and order
+-- equality and order
 pub to-≈ : (x y : Frac) → mk x ≡ mk y → x ≈ y
 to-≈ x y e =
     ⊑-antisym x y (to-⊑ x y (subst (λ z. mk x ≤ℚ z) e (same-le (mk x)))) (to-⊑ y x (subst (λ z. z ≤ℚ mk x) e (same-le (mk x))))
@@ -110,7 +110,7 @@ pub to-⊏ : (x y : Frac) → mk x <ℚ mk y → x ⊏ y
 unfolding leℚ
 to-⊏ x y h = record { cross = not-ge (x .top *ℤ y .bot) (y .top *ℤ x .bot) (h .lt) }
 
--- ---- sums over lists
+-- sums over lists
 unfoldable pub sumℚ : {A : Type 0} → (A → ℚ) → List A → ℚ
 sumℚ f [] = int (pos 0)
 sumℚ f (x ∷ xs) = f x +ℚ sumℚ f xs

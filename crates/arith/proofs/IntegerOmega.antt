@@ -1,18 +1,17 @@
 -- ℤ for omega: each integer is a difference of two naturals, `D p n`, and the set `zs` takes an order or an equation between sums, differences
--- and products of such to one between naturals. `all₂ λ p n q m. simp zs (omega arith)` proves a statement over two integers. Assumes nothing.
-use mathlib.Core.Path.{_≡_, refl, sym, ap, ap₂, subst, _∙_}
-use mathlib.Core.Bool.{Bool, true, false}
+-- and products of such to one between naturals. `all₂ λ p n q m. simp zs (omega arith)` proves a statement over two integers.
+use mathlib.Core.Path.{_≡_, sym, ap, subst, _∙_}
 use mathlib.Core.Logic.{_↔_}
-use mathlib.Core.List.{List, [], _∷_}
-use Prim.Native.Nat.{ℕ, zero, suc, _+_, _-_, _*_, _≤_, _<_}
+use mathlib.Core.List.{[], _∷_}
+use Prim.Native.Nat.{ℕ, suc, _+_, _-_, _*_, _≤_, _<_}
 use native.Mathlib.Omega.{arith}
 use native.Mathlib.Decide.{decLe}
 use lib.IntN.{ℤ, pos, negsuc, negℤ, natAbs, _+ℤ_, _-ℤ_, _*ℤ_, +ℤ-idl, +ℤ-idr}
-use lib.Signed.{_≤ℤ_, mag}
-use Rattle.arith.proofs.Polynomials.{E, v, kp, kn, _⊕_, _⊖_, _⊗_, ⊖_}
+use lib.Signed.{mag}
+use Rattle.arith.proofs.Polynomials.{v, _⊕_, _⊖_, _⊗_, ⊖_}
 use Rattle.arith.proofs.Rings.{ring}
 use Rattle.arith.proofs.Integers.{ℤR, _≼_, to-nn, of-nn}
-use Rattle.arith.proofs.IntegerOrder.{abs, abs-neg}
+use Rattle.arith.proofs.IntegerOrder.{abs-neg}
 
 pub D : ℕ → ℕ → ℤ
 D p n = pos p -ℤ pos n
@@ -114,25 +113,3 @@ mag-lt (negsuc n) H l h = le-nat (suc n) H (turn (pos H) (pos (suc n)) l)
   where
     turn : (a b : ℤ) → negℤ a ≼ negℤ b → b ≼ a
     turn = all₂ _ λ p n q m. simp zs (omega arith)
-
--- ---- checks
-t1 : (a b c : ℤ) → a ≼ b → b ≼ c → a ≼ c
-t1 = all₃ _ λ p n q m r s. simp zs (omega arith)
-
-t2 : (a b c d : ℤ) → a ≼ b → c ≼ d → a +ℤ c ≼ b +ℤ d
-t2 = all₄ _ λ p n q m r s t u. simp zs (omega arith)
-
-t3 : (a b : ℤ) → (a +ℤ b) *ℤ (a -ℤ b) ≡ a *ℤ a -ℤ b *ℤ b
-t3 = all₂ _ λ p n q m. simp zs (omega arith)
-
-t4 : (a b : ℤ) → a +ℤ pos 1 ≼ b → negsuc 2 +ℤ a ≼ b -ℤ pos 2
-t4 = all₂ _ λ p n q m. simp zs (omega arith)
-
-t5 : (x y : ℤ) → abs (x +ℤ y) ≼ abs x +ℤ abs y
-t5 = all₂ _ λ p n q m. simp zs (omega arith)
-
-t6 : (x y z : ℤ) → abs (x -ℤ z) ≼ abs (x -ℤ y) +ℤ abs (y -ℤ z)
-t6 = all₃ _ λ p n q m r s. simp zs (omega arith)
-
-t7 : (a b c d e g : ℤ) → a +ℤ b ≼ c → c +ℤ d ≼ e → pos 2 *ℤ e ≼ g → pos 1 ≼ d → pos 2 *ℤ a +ℤ pos 2 *ℤ b +ℤ pos 2 ≼ g
-t7 = all₆ _ λ p n q m r s t u w x y z. simp zs (omega arith)

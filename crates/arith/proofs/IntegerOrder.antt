@@ -1,15 +1,15 @@
--- The order of ℤ: laws, the two cases, the absolute value. Assumes nothing.
+-- The order of ℤ: laws, the two cases, the absolute value.
 use mathlib.Core.Path.{_≡_, refl, sym, ap, subst, _∙_}
 use mathlib.Core.Logic.{_⊎_, inl, inr}
-use mathlib.Core.List.{List, [], _∷_}
 use Prim.Native.Nat.{ℕ, zero, suc, _+_, _*_}
 use native.Mathlib.Numerals.{add-one}
 use lib.IntN.{ℤ, pos, negsuc, negℤ, natAbs, _+ℤ_, _-ℤ_, _*ℤ_, negℤ-+ℤ}
-use lib.Signed.{_<ℤ_, clashℤ, ≤ℤ-refl}
-use Rattle.arith.proofs.Polynomials.{v, kp, kn, _⊕_, _⊖_, _⊗_, ⊖_}
-use Rattle.arith.proofs.Rings.{∀₁, ∀₂, ∀₃, ∀₄, by-ring, by-cert, by-eqs, to, times, sq, num, mul-eq, _⊞_, _⊠_, _⊹_, contra}
+use lib.Signed.{≤ℤ-refl}
+use Rattle.arith.proofs.Polynomials.{kn}
+use Rattle.arith.proofs.Rings.{∀₂, ∀₃, ∀₄, by-cert, to, times, _⊞_, _⊠_}
 use Rattle.arith.proofs.Integers.{ℤR, _≼_, nn-pos, of-nn}
 use Rattle.arith.proofs.IntegerTerms.{zq}
+use Rattle.arith.proofs.Sizes.{natAbs-neg, natAbs-mul}
 
 pub ≼-refl : (a : ℤ) → a ≼ a
 ≼-refl a = ≤ℤ-refl a
@@ -47,15 +47,7 @@ total a b = go (split a b)
     go (inl h) = inl (less a b h)
     go (inr h) = inr h
 
--- the strict order of lib.Signed
-pub of-< : {a b : ℤ} → a <ℤ b → a +ℤ pos 1 ≼ b
-of-< {a} {b} h = go (split a b)
-  where
-    go : (a +ℤ pos 1 ≼ b) ⊎ (b ≼ a) → a +ℤ pos 1 ≼ b
-    go (inl l) = l
-    go (inr l) = clashℤ h l
-
--- ---- the absolute value
+-- the absolute value
 abbrev pub abs : ℤ → ℤ
 abs z = pos (natAbs z)
 
@@ -63,9 +55,7 @@ pub abs-nn : (z : ℤ) → pos 0 ≼ abs z
 abs-nn z = nn-pos (natAbs z)
 
 pub abs-neg : (z : ℤ) → abs (negℤ z) ≡ abs z
-abs-neg (pos zero) = refl
-abs-neg (pos (suc n)) = refl
-abs-neg (negsuc n) = refl
+abs-neg z = ap pos (natAbs-neg z)
 
 pub abs-ge : (z : ℤ) → z ≼ abs z
 abs-ge (pos n) = ≼-refl (pos n)
@@ -84,7 +74,4 @@ pub abs-add : (x y : ℤ) → abs (x +ℤ y) ≼ abs x +ℤ abs y
 abs-add x y = abs-le (x +ℤ y) (abs x +ℤ abs y) (≼-add x (abs x) y (abs y) (abs-ge x) (abs-ge y)) (subst (λ z. z ≼ abs x +ℤ abs y) (sym (negℤ-+ℤ x y)) (≼-add (negℤ x) (abs x) (negℤ y) (abs y) (abs-ge-neg x) (abs-ge-neg y)))
 
 pub abs-mul : (x y : ℤ) → abs (x *ℤ y) ≡ abs x *ℤ abs y
-abs-mul (pos a) (pos b) = refl
-abs-mul (pos a) (negsuc b) = abs-neg (pos (a * suc b))
-abs-mul (negsuc a) (pos b) = abs-neg (pos (suc a * b))
-abs-mul (negsuc a) (negsuc b) = refl
+abs-mul x y = ap pos (natAbs-mul x y)

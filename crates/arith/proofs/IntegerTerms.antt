@@ -1,4 +1,4 @@
--- `simp zq`: statements over ℤ read as statements between expressions. `law = ∀₃ ℤR _ λ ρ. simp zq (by-ring tt)`. Assumes nothing.
+-- `simp zq`: statements over ℤ read as statements between expressions. `law = ∀₃ ℤR _ λ ρ. simp zq (by-ring tt)`.
 use mathlib.Core.Path.{_≡_}
 use mathlib.Core.Logic.{_↔_}
 use mathlib.Core.List.{List}

@@ -1,10 +1,10 @@
--- ℤ as an ordered ring: the laws that lib.IntN and lib.Signed do not have, and `ℤR`. Assumes nothing.
+-- ℤ as an ordered ring: the laws that lib.IntN and lib.Signed do not have, and `ℤR`.
 use mathlib.Core.Path.{_≡_, refl, sym, ap, ap₂, subst, _∙_}
 use mathlib.Core.Bool.{Bool, true, false, cond}
 use Prim.Native.Nat.{ℕ, zero, suc, _+_, _-_, _*_, _≤_}
 use native.Mathlib.Omega.{arith}
 use lib.Dec.{T, leb→le, le→leb, ltb}
-use lib.IntN.{ℤ, pos, negsuc, sucℤ, predℤ, negℤ, natAbs, one, _+ℤ_, _-ℤ_, _*ℤ_, +ℤ-idl, +ℤ-idr, +ℤ-assoc, +ℤ-comm, +ℤ-invr, +ℤ-invl, sucℤ-+ℤ, predℤ-+ℤ, sucℤ-*ℤ, predℤ-*ℤ, zero-*ℤ, *ℤ-comm, *ℤ-one, negℤ-+ℤ, +ℤ-negℤ-cancel, negℤ-negℤ}
+use lib.IntN.{ℤ, pos, negsuc, predℤ, negℤ, natAbs, one, _+ℤ_, _-ℤ_, _*ℤ_, +ℤ-idl, +ℤ-idr, +ℤ-assoc, +ℤ-comm, +ℤ-invr, +ℤ-invl, sucℤ-+ℤ, predℤ-+ℤ, sucℤ-*ℤ, predℤ-*ℤ, zero-*ℤ, *ℤ-comm, *ℤ-one, negℤ-+ℤ, +ℤ-negℤ-cancel, negℤ-negℤ}
 use lib.Signed.{_≤ℤ_, leZ, yes-nonNeg, pos-natAbs, ≤ℤ-refl}
 use Rattle.arith.proofs.Rings.{ORing}
 
@@ -46,9 +46,6 @@ neg-unique x y h = sym (+ℤ-idl y) ∙ ap (λ z. z +ℤ y) (sym (+ℤ-invl x)) 
 pub neg-mulℤ : (m c : ℤ) → negℤ m *ℤ c ≡ negℤ (m *ℤ c)
 neg-mulℤ m c = neg-unique (m *ℤ c) (negℤ m *ℤ c) (sym (add-mulℤ m (negℤ m) c) ∙ ap (λ z. z *ℤ c) (+ℤ-invr m) ∙ zero-*ℤ c)
 
-pub mul-negℤ : (c m : ℤ) → c *ℤ negℤ m ≡ negℤ (c *ℤ m)
-mul-negℤ c m = *ℤ-comm c (negℤ m) ∙ neg-mulℤ m c ∙ ap negℤ (*ℤ-comm m c)
-
 mul-assoc-pos : (n : ℕ) (k c : ℤ) → (pos n *ℤ k) *ℤ c ≡ pos n *ℤ (k *ℤ c)
 mul-assoc-pos zero k c = rw (zero-*ℤ k, zero-*ℤ c, zero-*ℤ (k *ℤ c))
 mul-assoc-pos (suc n) k c =
@@ -68,7 +65,7 @@ infix 4 _≼_
 abbrev pub _≼_ : ℤ → ℤ → Type 0
 a ≼ b = a ≤ℤ b
 
--- ---- a ≤ b is: b is a + n for a natural n
+-- a ≤ b is: b is a + n for a natural n
 pub record Above (a b : ℤ) : Type 0 where
   pub by : ℕ
   pub is : b ≡ a +ℤ pos by
@@ -109,7 +106,7 @@ pub ≼-plus : (a : ℤ) (n : ℕ) → a ≼ a +ℤ pos n
 pub below : {a b : ℤ} → Above a b → a ≼ b
 below {a} {b} h = subst (λ z. a ≼ z) (sym (h .is)) (≼-plus a (h .by))
 
--- ---- not negative: every law comes down to these
+-- not negative: every law comes down to these
 pub nn-pos : (n : ℕ) → pos 0 ≼ pos n
 nn-pos n = subst (λ z. pos 0 ≼ z) (+ℤ-idl (pos n)) (≼-plus (pos 0) n)
 
@@ -125,9 +122,6 @@ nn-mul {x} {y} h l = subst (λ z. pos 0 ≼ z) (ap₂ _*ℤ_ (nn-is h) (nn-is l)
 pub nn-sq : (x : ℤ) → pos 0 ≼ x *ℤ x
 nn-sq (pos n) = nn-pos (n * n)
 nn-sq (negsuc n) = nn-pos (suc n * suc n)
-
-pub nn-eq : {x : ℤ} → x ≡ pos 0 → pos 0 ≼ x
-nn-eq h = subst (λ z. pos 0 ≼ z) (sym h) (nn-pos 0)
 
 -- a ≤ b is 0 ≤ b - a
 pub to-nn : (a b : ℤ) → a ≼ b → pos 0 ≼ b -ℤ a

@@ -1,3 +1,5 @@
+-- The algebra: over any ordered ring, over ℤ, over fractions and over ℚ. Algebra says how to use it.
+pub mod Algebra
 pub mod Polynomials
 pub mod Rings
 pub mod Integers
@@ -7,5 +9,16 @@ pub mod IntegerOmega
 pub mod FractionLaws
 pub mod Rationals
 pub mod RationalTerms
+pub mod RationalOrder
 pub mod Signs
 pub mod FractionsInRationals
+pub mod OrderedField
+pub mod Sums
+-- Bytes, rounding and roots: laws of the definitions in specs/, and of what the functions compute.
+pub mod ByteLaws
+pub mod Sizes
+pub mod Quotients
+pub mod Ceilings
+pub mod RationalRounding
+pub mod RoundingLaws
+pub mod RootLaws

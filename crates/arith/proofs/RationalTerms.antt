@@ -1,4 +1,4 @@
--- `simp qq`: statements over ℚ read as statements between expressions. `law = ∀₃ ℚR _ λ ρ. simp qq (by-ring tt)`. Assumes nothing.
+-- `simp qq`: statements over ℚ read as statements between expressions. `law = ∀₃ ℚR _ λ ρ. simp qq (by-ring tt)`.
 use mathlib.Core.Path.{_≡_}
 use mathlib.Core.Logic.{_↔_}
 use mathlib.Core.List.{List}

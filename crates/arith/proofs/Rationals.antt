@@ -1,13 +1,12 @@
--- The rationals: fractions up to their equality, so that equal ones are equal by a path and `rw`, `simp`, `cc` and `ring` apply. Assumes nothing.
-use mathlib.Core.Path.{_≡_, refl, sym, ap, ap₂, subst, _∙_}
+-- The rationals: fractions up to their equality, so that equal ones are equal by a path and `rw`, `simp`, `cc` and `ring` apply.
+use mathlib.Core.Path.{_≡_, refl}
 use mathlib.Core.Logic.{_⊎_, inl, inr}
 use mathlib.Core.HLevel.{hedberg, Π-prop}
 use mathlib.Core.Bool.{Bool, true, false, not, cond, Bool-discrete}
-use mathlib.Core.List.{List, [], _∷_}
 use mathlib.Core.Quot.{Quot, Quot·mk, Quot·sound, Quot-set, Quot·lift, ind}
-use Prim.Native.Nat.{ℕ, zero, suc}
+use Prim.Native.Nat.{ℕ}
 use lib.Dec.{T, T-prop, T-not}
-use lib.IntN.{ℤ, pos, negsuc, negℤ, _+ℤ_, _*ℤ_}
+use lib.IntN.{ℤ, pos, _+ℤ_, _*ℤ_}
 use lib.Signed.{leZ}
 use Rattle.arith.proofs.Rings.{ORing, ∀₂, by-cert, to}
 use Rattle.arith.proofs.Integers.{ℤR, _≼_}
@@ -26,7 +25,7 @@ mk x = Quot·mk x
 pub same : {x y : Frac} → x ≈ y → mk x ≡ mk y
 same h = Quot·sound h
 
--- ---- from fractions to ℚ: operations, and statements that are propositions
+-- from fractions to ℚ: operations, and statements that are propositions
 pub ind₁ : (C : ℚ → Type 0) → ((p : ℚ) → IsProp (C p)) → ((x : Frac) → C (mk x)) → (p : ℚ) → C p
 ind₁ C h f p = ind {β = C} h f p
 
@@ -68,7 +67,7 @@ p /ℚ q = p *ℚ recipℚ q
 unfoldable pub int : ℤ → ℚ
 int z = mk (Fr.int z)
 
--- ---- the ring laws
+-- the ring laws
 pub plus-assoc : (p q r : ℚ) → (p +ℚ q) +ℚ r ≡ p +ℚ (q +ℚ r)
 unfolding _+ℚ_
 plus-assoc = eq₃ (λ p q r. (p +ℚ q) +ℚ r) (λ p q r. p +ℚ (q +ℚ r)) (λ x y z. same (F.+q-assoc x y z))
@@ -109,7 +108,7 @@ pub int-times : (a b : ℤ) → int (a *ℤ b) ≡ int a *ℚ int b
 unfolding _*ℚ_ int
 int-times a b = same (F.int-*q a b)
 
--- ---- the order: a test, which respects the equality
+-- the order: a test, which respects the equality
 bool-ext : (a b : Bool) → (T a → T b) → (T b → T a) → a ≡ b
 bool-ext true true f g = refl
 bool-ext true false f g = absurd (f tt)
@@ -226,7 +225,7 @@ abbrev pub ℚR : ORing
   antisym = antisym;
 }
 
--- ---- a test that fails, and what is above 0
+-- a test that fails, and what is above 0
 flip-at : (x y : Frac) → T (not (test x y)) → y ⊑ x
 flip-at x y t = go (F.⊑-total x y)
   where
@@ -263,6 +262,6 @@ pub recip-nn : (p : ℚ) → int (pos 0) ≤ℚ recipℚ p
 unfolding int recipℚ
 recip-nn = ind₁ (λ p. int (pos 0) ≤ℚ recipℚ p) (λ p. ≤-prop (int (pos 0)) (recipℚ p)) (λ x. of-⊑ (Fr.int (pos 0)) (Fr.recip x) (F.recip-nnq x))
 
--- ---- the absolute value
+-- the absolute value
 unfoldable pub absℚ : ℚ → ℚ
 absℚ p = cond (leℚ (int (pos 0)) p) p (negℚ p)

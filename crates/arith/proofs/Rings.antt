@@ -1,13 +1,12 @@
--- `ring` and certificates for any ordered commutative ring: the same expressions, polynomials and tests as for ℤ, at other numbers. Assumes nothing.
+-- Identities, inequalities and equations in any ordered commutative ring, proved by computing with polynomials. Algebra says how to use it.
 use mathlib.Core.Path.{_≡_, refl, sym, ap, ap₂, subst, _∙_}
-use mathlib.Core.Bool.{Bool, true, false}
 use mathlib.Core.Logic.{_↔_}
 use mathlib.Core.List.{List, [], _∷_}
 use Prim.Native.Nat.{ℕ, zero, suc}
 use native.Mathlib.Numerals.{add-one}
 use lib.Dec.{T}
 use lib.IntN.{ℤ, pos, negsuc, negℤ, _+ℤ_, _*ℤ_, +ℤ-invr}
-use Rattle.arith.proofs.Polynomials.{E, v, k, kp, kn, _⊕_, _⊖_, _⊗_, ⊖_, P, con, _◂_, node, addc, add, scale, scale′, under, mul, var, norm, isZ, isC, and-l, and-r, Term, terms}
+use Rattle.arith.proofs.Polynomials.{E, v, kp, kn, _⊕_, _⊖_, _⊗_, ⊖_, P, con, _◂_, node, addc, add, scale, scale′, under, mul, var, norm, isZ, isC, and-l, and-r, Term, terms}
 
 pub record ORing : Type 1 where
   pub C : Type 0
@@ -66,7 +65,7 @@ module _ (R : ORing) where
   ev (con c) ρ = int c
   ev (p ◂ q) ρ = ev p (tl ρ) + hd ρ * ev q ρ
 
-  -- ---- small laws
+  -- small laws
   zero-plus : (a : C) → a + int (pos 0) ≡ a
   zero-plus a = plus-comm a (int (pos 0)) ∙ plus-zero a
 
@@ -92,7 +91,7 @@ module _ (R : ORing) where
   minus-one : (x : C) → int (negsuc 0) * x ≡ minus x
   minus-one x = minus-unique x (int (negsuc 0) * x) (ap (λ z. z + int (negsuc 0) * x) (sym (times-one x)) ∙ sym (plus-times (int (pos 1)) (int (negsuc 0)) x) ∙ ap (λ z. z * x) (sym (int-plus (pos 1) (negsuc 0))) ∙ times-comm (int (pos 0)) x ∙ times-zero x)
 
-  -- ---- what the operations mean
+  -- what the operations mean
   ev-addc : (a : ℤ) (p : P) (ρ : List C) → ev (addc a p) ρ ≡ int a + ev p ρ
   unfolding ev
   ev-addc a (con b) ρ = int-plus a b
@@ -163,11 +162,11 @@ module _ (R : ORing) where
   cancel-minus : (x y : C) → x + minus y ≡ int (pos 0) → x ≡ y
   cancel-minus x y h = sym (zero-plus x) ∙ ap (λ z. x + z) (sym (plus-minus y) ∙ plus-comm y (minus y)) ∙ sym (plus-assoc x (minus y) y) ∙ ap (λ z. z + y) h ∙ plus-zero y
 
-  -- ---- identities
+  -- identities
   pub ring : (ρ : List C) (a b : E) → T (isZ (norm (a ⊖ b))) → den ρ a ≡ den ρ b
   ring ρ a b t = cancel-minus (den ρ a) (den ρ b) (sym (sound (a ⊖ b) ρ) ∙ isZ-ev (norm (a ⊖ b)) t ρ)
 
-  -- ---- statements between expressions as records, so that a call need not write them; `X ρ e` does not unfold
+  -- statements between expressions as records, so that a call need not write them; `X ρ e` does not unfold
   unfoldable pub X : List C → E → C
   X ρ e = den ρ e
 
@@ -204,7 +203,7 @@ module _ (R : ORing) where
   pub zero-mul : (ρ : List C) (m a b : E) → den ρ a ≡ den ρ b → den ρ (m ⊗ (a ⊖ b)) ≡ int (pos 0)
   zero-mul ρ m a b h = ap (λ z. den ρ m * (z + minus (den ρ b))) h ∙ ring (den ρ m ∷ den ρ b ∷ []) (v 0 ⊗ (v 1 ⊖ v 1)) (kp 0) tt
 
-  -- ---- quoting: sums and products of expressions are expressions, and statements between them are records
+  -- quoting: sums and products of expressions are expressions, and statements between them are records
   pub q-add : (ρ : List C) (a b : E) → X ρ a + X ρ b ≡ X ρ (a ⊕ b)
   unfolding X
   q-add ρ a b = refl
@@ -299,7 +298,7 @@ module _ (R : ORing) where
   unfolding X
   q-le-neg ρ a n = ((λ h. record { ineq = h }), (λ h. h .ineq))
 
-  -- ---- what holds at every list of numbers holds of all numbers
+  -- what holds at every list of numbers holds of all numbers
   pub ∀₁ : (P : C → Type 0) → ((ρ : List C) → P (X ρ (v 0))) → (a : C) → P a
   unfolding X
   ∀₁ P f a = f (a ∷ [])
@@ -375,7 +374,7 @@ module _ (R : ORing) where
 
 pub data Left : List Term → Type 0 where
 
--- ---- what a proof writes, with the ring read off
+-- what a proof writes, with the ring read off
 module _ {R : ORing} where
   pub by-ring : {ρ : List (R .C)} {a b : E} → T (isZ (norm (a ⊖ b))) → Eq R ρ a b
   by-ring {ρ} {a} {b} t = record { eqn = ring R ρ a b t }
@@ -438,5 +437,5 @@ module _ {R : ORing} where
   pub look-eq : {ρ : List (R .C)} {a b : E} → Left (terms (norm (a ⊖ b)) 0 []) → Eq R ρ a b
   look-eq l = elim l [ ]
 
--- `simp gq`, over a ring that is a variable (Zq and Qq have the same at ℤ and ℚ)
+-- `simp gq`: a statement over a ring that is a variable, read as one between expressions (IntegerTerms and RationalTerms have the same at ℤ and ℚ)
 pub ruleset gq = (q-add, q-mul, q-neg, q-pos-add, q-add-pos, q-neg-add, q-add-neg, q-pos-mul, q-mul-pos, q-neg-mul, q-mul-neg, q-eq, q-eq-pos, q-pos-eq, q-eq-neg, q-neg-eq, q-int-add, q-int-mul, q-int-neg, q-le, q-pos-le, q-le-pos, q-neg-le, q-le-neg)

@@ -1,16 +1,15 @@
--- Absolute values and signs of ℤ and ℚ, and the way between whole numbers and ℚ. From the algebra. Assumes nothing.
+-- Absolute values and signs of ℤ and ℚ, and the way between whole numbers and ℚ. From the algebra.
 use mathlib.Core.Path.{_≡_, refl, sym, ap, subst, _∙_}
 use mathlib.Core.Bool.{Bool, true, false, not, cond}
-use mathlib.Core.List.{List, [], _∷_}
-use Prim.Native.Nat.{ℕ, zero, suc, _+_, _*_, _≤_}
+use Prim.Native.Nat.{zero, suc, _+_, _*_, _≤_}
 use lib.Dec.{T}
-use lib.IntN.{ℤ, pos, negsuc, negℤ, _+ℤ_, _-ℤ_, _*ℤ_}
-use Rattle.arith.proofs.Polynomials.{v, kp, kn, _⊕_, _⊖_, _⊗_, ⊖_}
-use Rattle.arith.proofs.Rings.{ORing, ∀₁, ∀₂, ∀₃, ∀₄, by-ring, by-cert, by-eqs, to, times, mul-eq, sq, num, _⊞_, _⊠_, _⊹_}
+use lib.IntN.{ℤ, pos, negsuc, negℤ, _*ℤ_}
+use Rattle.arith.proofs.Polynomials.{v, _⊖_, ⊖_}
+use Rattle.arith.proofs.Rings.{ORing, ∀₁, ∀₂, ∀₃, ∀₄, by-ring, by-cert, by-eqs, to, times, mul-eq, num, _⊞_, _⊠_, _⊹_}
 use Rattle.arith.proofs.Integers.{ℤR, _≼_, antisym}
 use Rattle.arith.proofs.IntegerTerms.{zq}
 use Rattle.arith.proofs.IntegerOrder.{abs, abs-nn, abs-ge, abs-ge-neg}
-use Rattle.arith.proofs.Rationals.{ℚR, ℚ, _+ℚ_, _-ℚ_, _*ℚ_, _/ℚ_, negℚ, recipℚ, int, _≤ℚ_, _<ℚ_, leℚ, flip, recip-times, recip-nn, absℚ, to-⊑, of-⊑}
+use Rattle.arith.proofs.Rationals.{ℚR, ℚ, _+ℚ_, _-ℚ_, _*ℚ_, _/ℚ_, negℚ, recipℚ, int, _≤ℚ_, _<ℚ_, leℚ, flip, recip-times, absℚ, to-⊑, of-⊑}
 use Rattle.arith.specs.Fractions as F
 use Rattle.arith.proofs.RationalTerms.{qq}
 
@@ -23,7 +22,7 @@ pub record Signs (R : ORing) : Type 0 where
   pub back : (p : R .C) → R .times (sg p) (abs p) ≡ p
   pub low : (p x : R .C) → R .leq (R .times (sg p) x) (abs x)
 
--- ---- ℤ
+-- ℤ
 abbrev pub sg : ℤ → ℤ
 sg (pos zero) = pos 0
 sg (pos (suc n)) = pos 1
@@ -62,7 +61,7 @@ low-z (negsuc n) x = minus-le-z x (abs x) (abs-ge-neg x)
 abbrev pub ℤS : Signs ℤR
 ℤS = record { abs = abs; nn = abs-nn; sg = sg; hit = hit-z; back = back-z; low = low-z }
 
--- ---- ℚ
+-- ℚ
 up : (p : ℚ) → int (pos 0) ≤ℚ p → negℚ p ≤ℚ p
 up = ∀₁ ℚR _ λ ρ. simp qq λ h. by-cert (to h ⊞ to h) tt
 
@@ -128,7 +127,72 @@ low-q p x = on p (λ c. cond c (int (pos 1)) (int (negsuc 0)) *ℚ x ≤ℚ abs�
 abbrev pub ℚS : Signs ℚR
 ℚS = record { abs = absℚ; nn = nn-q; sg = sgq; hit = hit-q; back = back-q; low = low-q }
 
--- ---- from ℚ back to ℤ, as a statement on a program's numbers wants it
+-- the absolute value of ℚ: its two cases, negation, products, and the triangle inequality
+module _ (p b : ℚ) where
+  pub absℚ-le : p ≤ℚ b → negℚ p ≤ℚ b → absℚ p ≤ℚ b
+  unfolding absℚ
+  absℚ-le h l = on p (λ c. cond c p (negℚ p) ≤ℚ b) (λ k. h) (λ k. l)
+
+pub absℚ-nn : (p : ℚ) → int (pos 0) ≤ℚ p → absℚ p ≡ p
+absℚ-nn p h = ℚR .antisym (absℚ p) p (absℚ-le p p (same-le p) (up p h)) (ge-q p)
+
+pub absℚ-np : (p : ℚ) → p ≤ℚ int (pos 0) → absℚ p ≡ negℚ p
+absℚ-np p h = ℚR .antisym (absℚ p) (negℚ p) (absℚ-le p (negℚ p) (down p h) (same-le (negℚ p))) (ge-neg-q p)
+
+pub absℚ-neg : (p : ℚ) → absℚ (negℚ p) ≡ absℚ p
+absℚ-neg p =
+    ℚR .antisym (absℚ (negℚ p)) (absℚ p)
+    (absℚ-le (negℚ p) (absℚ p) (ge-neg-q p) (turn p (absℚ p) (ge-q p)))
+    (absℚ-le p (absℚ (negℚ p)) (back p (absℚ (negℚ p)) (ge-neg-q (negℚ p))) (ge-q (negℚ p)))
+  where
+    turn : (p a : ℚ) → p ≤ℚ a → negℚ (negℚ p) ≤ℚ a
+    turn = ∀₂ ℚR _ λ ρ. simp qq λ h. by-cert (to h) tt
+
+    back : (p a : ℚ) → negℚ (negℚ p) ≤ℚ a → p ≤ℚ a
+    back = ∀₂ ℚR _ λ ρ. simp qq λ h. by-cert (to h) tt
+
+pub absℚ-add : (p q : ℚ) → absℚ (p +ℚ q) ≤ℚ absℚ p +ℚ absℚ q
+absℚ-add p q =
+    absℚ-le (p +ℚ q) (absℚ p +ℚ absℚ q) (plus p q (absℚ p) (absℚ q) (ge-q p) (ge-q q)) (minus p q (absℚ p) (absℚ q) (ge-neg-q p) (ge-neg-q q))
+  where
+    plus : (p q a b : ℚ) → p ≤ℚ a → q ≤ℚ b → p +ℚ q ≤ℚ a +ℚ b
+    plus = ∀₄ ℚR _ λ ρ. simp qq λ h l. by-cert (to h ⊞ to l) tt
+
+    minus : (p q a b : ℚ) → negℚ p ≤ℚ a → negℚ q ≤ℚ b → negℚ (p +ℚ q) ≤ℚ a +ℚ b
+    minus = ∀₄ ℚR _ λ ρ. simp qq λ h l. by-cert (to h ⊞ to l) tt
+
+pub absℚ-sub : (p q : ℚ) → absℚ (p -ℚ q) ≤ℚ absℚ p +ℚ absℚ q
+absℚ-sub p q = subst (λ z. absℚ (p -ℚ q) ≤ℚ absℚ p +ℚ z) (absℚ-neg q) (absℚ-add p (negℚ q))
+
+pub absℚ-between : (p q r : ℚ) → absℚ (p -ℚ r) ≤ℚ absℚ (p -ℚ q) +ℚ absℚ (q -ℚ r)
+absℚ-between p q r = subst (λ z. absℚ z ≤ℚ absℚ (p -ℚ q) +ℚ absℚ (q -ℚ r)) (go p q r) (absℚ-add (p -ℚ q) (q -ℚ r))
+  where
+    go : (p q r : ℚ) → (p -ℚ q) +ℚ (q -ℚ r) ≡ p -ℚ r
+    go = ∀₃ ℚR _ λ ρ. simp qq (by-ring tt)
+
+-- a product by the signs of its factors
+down-r : (p q : ℚ) → int (pos 0) ≤ℚ p → q ≤ℚ int (pos 0) → p *ℚ q ≤ℚ int (pos 0)
+down-r = ∀₂ ℚR _ λ ρ. simp qq λ h l. by-cert (to h ⊠ to l) tt
+
+neg-r : (p q : ℚ) → negℚ (p *ℚ q) ≡ p *ℚ negℚ q
+neg-r = ∀₂ ℚR _ λ ρ. simp qq (by-ring tt)
+
+neg-both : (p q : ℚ) → p *ℚ q ≡ negℚ p *ℚ negℚ q
+neg-both = ∀₂ ℚR _ λ ρ. simp qq (by-ring tt)
+
+mul-nn : (p q : ℚ) → int (pos 0) ≤ℚ p → absℚ (p *ℚ q) ≡ p *ℚ absℚ q
+mul-nn p q h =
+    on q (λ c. absℚ (p *ℚ q) ≡ p *ℚ absℚ q)
+    (λ l. rw (absℚ-nn q l) (absℚ-nn (p *ℚ q) (ℚR .nn-times p q h l)))
+    (λ l. rw (absℚ-np q l) (absℚ-np (p *ℚ q) (down-r p q h l) ∙ neg-r p q))
+
+pub absℚ-mul : (p q : ℚ) → absℚ (p *ℚ q) ≡ absℚ p *ℚ absℚ q
+absℚ-mul p q =
+    on p (λ c. absℚ (p *ℚ q) ≡ absℚ p *ℚ absℚ q)
+    (λ h. rw (absℚ-nn p h) (mul-nn p q h))
+    (λ h. rw (absℚ-np p h) (ap absℚ (neg-both p q) ∙ mul-nn (negℚ p) (negℚ q) (neg-nn p h) ∙ ap (λ z. negℚ p *ℚ z) (absℚ-neg q)))
+
+-- from ℚ back to ℤ, as a statement on a program's numbers wants it
 units : (a b : ℤ) → a *ℤ pos 1 ≼ b *ℤ pos 1 → a ≼ b
 units = ∀₂ ℤR _ λ ρ. simp zq λ h. by-cert (to h) tt
 

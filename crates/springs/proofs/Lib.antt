@@ -1,0 +1,13 @@
+pub mod Chain
+pub mod Elimination
+pub mod Lashes
+pub mod Levels
+pub mod Growth
+pub mod OneSolution
+pub mod Stability
+pub mod Ranges
+pub mod Inputs
+pub mod Residuals
+pub mod Kept
+pub mod Loops
+pub mod Examples

@@ -1,11 +1,11 @@
 -- Document 01, "The springs": one end's equations, from stiffnesses and loads alone.
 use mathlib.Core.Bool.{Bool, true, false}
-use mathlib.Core.List.{List, [], _∷_}
+use mathlib.Core.List.{List}
 use mathlib.Core.Path.{_≡_}
 use Prim.Native.Nat.{ℕ, zero, suc, _<_}
 use lib.Dec.{leb}
 use lib.ListN.{length, getD}
-use Rattle.arith.specs.Fractions.{Frac, nat, _+q_, _-q_, _*q_, _≈_, _⊑_, _⊏_, sumq}
+use Rattle.arith.specs.Fractions.{Frac, nat, _-q_, _*q_, _≈_, _⊏_, sumq}
 
 -- a tier: its spring K, in N/mm, and its load Q, in N. Tiers stand bottom first: entry i is tier i + 1, between levels i and i + 1
 pub record Tier : Type 0 where
@@ -22,6 +22,12 @@ noTier = record { K = nat 0; Q = nat 0 }
 
 abbrev pub tierAt : List Tier → ℕ → Tier
 tierAt ts i = getD ts i noTier
+
+abbrev pub noLash : Lash
+noLash = record { level = 0; stiffness = nat 0 }
+
+abbrev pub lashAt : List Lash → ℕ → Lash
+lashAt ls j = getD ls j noLash
 
 -- D of a level, in mm to leeward: zero at the deck, level 0; entry i of the list is level i + 1
 unfoldable pub shift : List Frac → ℕ → Frac
@@ -53,4 +59,9 @@ pub record Solves (ts : List Tier) (ls : List Lash) (Ds : List Frac) : Type 0 wh
 -- every spring and every lash is stiffer than zero
 pub record Stiff (ts : List Tier) (ls : List Lash) : Type 0 where
   pub springs : (i : ℕ) → i < length ts → nat 0 ⊏ tierAt ts i .K
-  pub lashes : (j : ℕ) → j < length ls → nat 0 ⊏ getD ls j (record { level = 0; stiffness = nat 0 }) .stiffness
+  pub lashes : (j : ℕ) → j < length ls → nat 0 ⊏ lashAt ls j .stiffness
+
+-- two lists of shifts agree: at every level, by cross products
+pub record Agree (Ds Es : List Frac) : Type 0 where
+  pub levels : length Ds ≡ length Es
+  pub same : (i : ℕ) → shift Ds i ≈ shift Es i

@@ -1,10 +1,10 @@
 -- What the solver promises: how far its shifts, in whole numbers, may lie from the exact ones, for every exact chain near its inputs.
-use mathlib.Core.List.{List, [], _∷_}
+use mathlib.Core.List.{List}
 use mathlib.Core.Path.{_≡_}
-use Prim.Native.Nat.{ℕ, zero, suc, _+_, _*_, _<_, _≤_, _^_}
+use Prim.Native.Nat.{ℕ, suc, _+_, _*_, _<_, _≤_, _^_}
 use lib.Dec.{eqb}
 use lib.ListN.{length, getD}
-use Rattle.arith.specs.Fractions.{Frac, nat, _+q_, _-q_, _*q_, _/q_, absq, _≈_, _⊑_, sumq}
+use Rattle.arith.specs.Fractions.{Frac, nat, _-q_, _*q_, _/q_, absq, _≈_, _⊑_, sumq}
 use Rattle.springs.specs.Equations.{Tier, Lash, tierAt, shift, given, racking, Solves, Stiff}
 
 -- the scales: stiffnesses in 2^-22 N/mm, loads in 2^-28 N, shifts in 2^-28 mm
@@ -29,11 +29,11 @@ stiffnessAt ls i = sumq (λ l. given (eqb i (l .level)) (l .stiffness)) ls
 abbrev pub loadAt : List Tier → ℕ → Frac
 loadAt ts i = tierAt ts i .Q -q tierAt ts (suc i) .Q
 
--- an exact chain that the solver's inputs stand for: n tiers of springs k; of each level over them the lashes' stiffness κ and the load ω
+-- an exact chain that the solver's inputs stand for: n tiers of springs k; of each level over them the lashes' stiffness κ and the load ω, each a sum of
+-- at most four numbers rounded down
 pub record Near (n : ℕ) (k κ ω : List ℕ) (ts : List Tier) (ls : List Lash) : Type 0 where
   pub tiers : length ts ≡ n
   pub stiff : Stiff ts ls
-  pub hooked : (j : ℕ) → j < length ls → getD ls j (record { level = 0; stiffness = nat 0 }) .level ≤ n
   pub spring : (i : ℕ) → i < n → tierAt ts i .K ≈ nat (getD k i 0)
   pub held : (i : ℕ) → i < n → Rounded stiffnessScale 4 (getD κ i 0) (stiffnessAt ls (suc i))
   pub loaded : (i : ℕ) → i < n → Rounded loadScale 4 (getD ω i 0) (loadAt ts i)
@@ -42,24 +42,44 @@ pub record Near (n : ℕ) (k κ ω : List ℕ) (ts : List Tier) (ls : List Lash)
 abbrev pub found : List ℕ → ℕ → Frac
 found d i = nat (getD d i 0) /q nat shiftScale
 
--- when the solver may be called: at most 10 tiers, springs of 3,730 to 15,690 N/mm; a level's lashes of at most 620,000 N/mm and its load
--- below 2^18 N, as document 01's limits have them (four lashes of 153,960 N/mm; 243,323 N)
+-- document 01's two springs, in N/mm
+abbrev pub softest : ℕ
+softest = 3730
+
+abbrev pub stiffest : ℕ
+stiffest = 15690
+
+-- the most that its limits allow at a level, rounded up: lashes of 620,000 N/mm (four of 153,960) and a load of 2^18 N (243,323); and the farthest shift
+-- then, 2^12 mm (3,262)
+abbrev pub mostHeld : ℕ
+mostHeld = 620000 * stiffnessScale
+
+abbrev pub mostLoaded : ℕ
+mostLoaded = 2 ^ 18 * loadScale
+
+abbrev pub farthest : ℕ
+farthest = 2 ^ 12 * shiftScale
+
+-- when the solver may be called
 pub record Solvable (n : ℕ) (k κ ω : List ℕ) : Type 0 where
   pub few : n ≤ 10
-  pub springs : (i : ℕ) → i < n → (3730 ≤ getD k i 0) × (getD k i 0 ≤ 15690)
-  pub held : (i : ℕ) → i < n → getD κ i 0 ≤ 620000 * stiffnessScale
-  pub loaded : (i : ℕ) → i < n → getD ω i 0 ≤ 2 ^ 46
+  pub springs : (i : ℕ) → i < n → (softest ≤ getD k i 0) × (getD k i 0 ≤ stiffest)
+  pub held : (i : ℕ) → i < n → getD κ i 0 ≤ mostHeld
+  pub loaded : (i : ℕ) → i < n → getD ω i 0 ≤ mostLoaded
 
--- the two constants of the promise, in N: the sum of stiffness × shift error over the lashes, and the error of a tier's racking
+-- the constants of the promise, in N: the sum of stiffness × shift error over the lashes, and the error of a tier's racking. Both are 0.05
+abbrev pub errorHundredths : ℕ
+errorHundredths = 5
+
 abbrev pub lashError : Frac
-lashError = nat 13 /q nat 100
+lashError = nat errorHundredths /q nat 100
 
 abbrev pub rackingError : Frac
-rackingError = nat 26 /q nat 100
+rackingError = nat errorHundredths /q nat 100
 
 pub record Promised (n : ℕ) (k κ ω d : List ℕ) : Type 0 where
   pub deck : getD d 0 0 ≡ 0
-  pub far : (i : ℕ) → getD d i 0 ≤ 2 ^ 40
+  pub far : (i : ℕ) → getD d i 0 ≤ farthest
   pub lashes :
       (ts : List Tier) (ls : List Lash) (Ds : List Frac) →
       Near n k κ ω ts ls →

@@ -1,4 +1,96 @@
-// One end of a stack as a chain of springs.
-pub fn one() -> u8 {
-    1
+// One end of a stack as a chain of springs: the shifts of its levels, in whole numbers. From the top down, each level learns what stiffness and load
+// the tiers over it hand down to it; then, from the deck up, each level's shift follows from the one under it.
+ghost use mathlib.Core.Path.{_≡_};
+ghost use Prim.Native.Nat.{_+_, _≤_};
+ghost use Rattle.springs.specs.Promise.{farthest, Solvable, Promised};
+ghost use Rattle.springs.specs.Steps.{stiffnessDown, loadDown, shiftUp, InRange, mostLoad, HandedDown, Climbed};
+use arith::rounding::scaled;
+
+// Stiffnesses are in 2^-22 N/mm.
+const SCALE: u64 = 4194304;
+
+// The stiffness that a level hands down by the spring k under it, of its lashes kappa and the stiffness x handed to it.
+fn stiffness_down(k: u64, kappa: u64, x: u64) -> u64
+    requires { ⌜ InRange k kappa x ⌝ }
+    ensures { λ r. ⌜ r ≡ stiffnessDown k kappa x ⌝ }
+{
+    let held = kappa + x;
+    scaled(k * held, SCALE, k * SCALE + held)
+}
+
+// The load that it hands down, of its own, omega, and the load y handed to it.
+fn load_down(k: u64, kappa: u64, omega: u64, x: u64, y: u64) -> u64
+    requires { ⌜ InRange k kappa x × (omega + y ≤ mostLoad) ⌝ }
+    ensures { λ r. ⌜ r ≡ loadDown k kappa omega x y ⌝ }
+{
+    scaled(k * (omega + y), SCALE, k * SCALE + (kappa + x))
+}
+
+// Its shift, where the level under it has the shift p.
+fn shift_up(k: u64, kappa: u64, omega: u64, x: u64, y: u64, p: u64) -> u64
+    requires { ⌜ InRange k kappa x × (omega + y ≤ mostLoad) × (p ≤ farthest) ⌝ }
+    ensures { λ r. ⌜ r ≡ shiftUp k kappa omega x y p ⌝ }
+{
+    scaled(omega + y + k * p, SCALE, k * SCALE + (kappa + x))
+}
+
+// What is handed down to each level, 0 to n.
+struct Handed {
+    stiffness: [u64; 11],
+    load: [u64; 11],
+}
+
+fn hand_down(n: usize, k: [u64; 10], kappa: [u64; 10], omega: [u64; 10]) -> Handed
+    requires { ⌜ Solvable n k kappa omega ⌝ }
+    ensures { λ r. ⌜ HandedDown 0 n k kappa omega (r .stiffness) (r .load) ⌝ }
+{
+    let mut x = [0u64; 11];
+    let mut y = [0u64; 11];
+    let mut i = n;
+    while 0 < i {
+        let j = i - 1;
+        let stiffness = stiffness_down(k[j], kappa[j], x[i]);
+        let load = load_down(k[j], kappa[j], omega[j], x[i], y[i]);
+        x[j] = stiffness;
+        y[j] = load;
+        i = j;
+    }
+    Handed {
+        stiffness: x,
+        load: y,
+    }
+}
+
+// The shifts of levels 0 to n, where x and y are handed down.
+fn climb(
+    n: usize,
+    k: [u64; 10],
+    kappa: [u64; 10],
+    omega: [u64; 10],
+    x: [u64; 11],
+    y: [u64; 11],
+) -> [u64; 11]
+    requires { ⌜ Solvable n k kappa omega × HandedDown 0 n k kappa omega x y ⌝ }
+    ensures { λ r. ⌜ Climbed n k kappa omega x y r ⌝ }
+{
+    let mut d = [0u64; 11];
+    let mut i = 0;
+    while i < n {
+        let j = i + 1;
+        d[j] = shift_up(k[i], kappa[i], omega[i], x[j], y[j], d[i]);
+        i = j;
+    }
+    d
+}
+
+// The shifts of levels 0 to n, in 2^-28 mm, of n tiers: k their springs, in N/mm; of the level over each, kappa the stiffness of its lashes, in 2^-22 N/mm,
+// and omega its load, in 2^-28 N.
+pub fn solve(n: usize, k: [u64; 10], kappa: [u64; 10], omega: [u64; 10]) -> [u64; 11]
+    requires { ⌜ Solvable n k kappa omega ⌝ }
+    ensures { λ r. ⌜ Promised n k kappa omega r ⌝ }
+{
+    let handed = hand_down(n, k, kappa, omega);
+    let x = handed.stiffness;
+    let y = handed.load;
+    climb(n, k, kappa, omega, x, y)
 }

@@ -1,0 +1,15 @@
+-- `arith::roots::square`: the bound is the square of the bound.
+use mathlib.Core.Path.{refl}
+use native.Mathlib.Nat.{mul-le-mul}
+use native.Mathlib.Omega.{arith}
+use Rattle.arith.proofs.roots.square.Statement.{statement}
+use Rattle.arith.proofs.roots.square.Tie as tie
+
+mul-result : tie.Need-mul-result
+mul-result c = omega (arith, mul-le-mul (c .pre) (c .pre))
+
+returns : tie.Need-returns
+returns c = (refl, omega (arith, mul-le-mul (c .pre) (c .pre)))
+
+pub square-spec : {M : Type 1} → statement M
+square-spec = tie.close (tie.spec mul-result returns)
