@@ -177,18 +177,21 @@ def force_lines(ends):
             yield text + (" either" if either else "")
 
 
+def stands(check):
+    """Whether every right answer has a finding there; None where it hangs on the last 100 N."""
+    if check.size > check.limit:
+        return True
+    return None if ceil(check.size) + MARGIN - 1 > check.limit else False
+
+
 def finding_lines(sheet, ends):
     """Findings that stand whatever the last 100 N are, those that hang on them, and the verdict."""
-    certain = open_ = 0
-    for check in checks(sheet, ends):
-        where = f"{check.end} {check.kind} {check.index}"
-        if check.size > check.limit:
-            certain += 1
-            yield f"finding {where}"
-        elif ceil(check.size) + MARGIN - 1 > check.limit:
-            open_ += 1
-            yield f"open {where}"
-    yield f"verdict {1 if certain else 'open' if open_ else 0}"
+    found = [(stands(check), f"{check.end} {check.kind} {check.index}") for check in checks(sheet, ends)]
+    for standing, where in found:
+        if standing is not False:
+            yield f"{'finding' if standing else 'open'} {where}"
+    seen = {standing for standing, _ in found}
+    yield f"verdict {1 if True in seen else 'open' if None in seen else 0}"
 
 
 def case_lines(case):
