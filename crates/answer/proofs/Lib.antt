@@ -1,0 +1,11 @@
+pub mod Arrays
+pub mod Sizes
+pub mod Stores
+pub mod FindingLaws
+pub mod AnswerLaws
+pub mod Accepted
+pub mod ReadBack
+pub mod Longest
+pub mod Table
+pub mod CheckLaws
+pub mod Consequences

@@ -1,0 +1,263 @@
+-- The figures of an end, put together from the steps that compute them.
+use Prim.Native.Nat.{ℕ, zero, suc, _+_, _*_, _-_, _^_, _<_, _≤_}
+use mathlib.Core.Bool.{Bool, true, false, cond}
+use mathlib.Core.List.{List, [], _∷_}
+use mathlib.Core.Path.{_≡_, refl, sym, ap, ap₂, _∙_, subst}
+use native.Mathlib.Decide.{decLt, ℕ-discrete}
+use native.Mathlib.Omega.{arith}
+use borrow.Author.Tests.{le-leb, lt-leb, eq-eqb, ne-eqb}
+use lib.Dec.{leb, eqb}
+use lib.IntN.{pos, _+ℤ_, _*ℤ_}
+use lib.ListN.{length, getD, take, drop, replicate, length-drop, getD-replicate}
+use lib.Seq.{length-take-le}
+use Rattle.springs.specs.Promise.{Solvable, Promised}
+use Rattle.sheet.specs.declared.Tier.{Tier}
+use Rattle.sheet.specs.declared.Lash.{Lash}
+use Rattle.sheet.specs.declared.Lashing.{Lashing}
+use Rattle.sheet.specs.declared.Sheet.{Sheet}
+use Rattle.sheet.specs.Lashings.{lashingOf}
+use Rattle.sheet.specs.Routes.{routePercent}
+use Rattle.forces.specs.declared.EndFigures.{EndFigures}
+use Rattle.forces.specs.declared.HalfWeights.{HalfWeights}
+use Rattle.forces.specs.declared.Gear.{Gear}
+use Rattle.forces.specs.declared.Pulls.{Pulls}
+use Rattle.forces.specs.declared.LevelFigures.{LevelFigures}
+use Rattle.forces.specs.Facts.{LashFacts, Facts}
+use Rattle.forces.specs.Lashes.{hookLevel}
+use Rattle.forces.specs.Ends.{End, springOf, tiersOf, lashesOf}
+use Rattle.forces.specs.Reported.{noLash, EndFigured}
+use Rattle.forces.specs.Fixed.{upward, upwards, leePart, windwardPart, rackingPart, rackingFigure, momentPart, compressionFigure, tensionFigure, Computed}
+use Rattle.forces.specs.Steps.{Filled, Loaded, Weighed, total, momentOf, Measured, Levelled, Geared, Pulled, Workable, EndWorked, Worked}
+use Rattle.forces.proofs.Figured.{end-figured}
+use Rattle.forces.proofs.Inputs.{spring-least, spring-most}
+use Rattle.forces.proofs.LevelStiffness.{level-most}
+use Rattle.forces.proofs.Tallies.{tally, tally-upwards}
+use Rattle.forces.proofs.Descent.{total-peel, total-off}
+
+-- the lashes at a level or above: those at it, and those above it
+level-split : (i h x : ℕ) → cond (leb i h) x 0 ≡ cond (eqb i h) x 0 + cond (leb (suc i) h) x 0
+level-split i h x =
+    elim (ℕ-discrete i h) [
+      | yes e ↦ rw (le-leb i h (omega arith), eq-eqb i h e, lt-leb (suc i) h (omega arith)) (omega arith)
+      | no ne ↦
+          elim (decLt i h) [
+            | yes l ↦ rw (le-leb i h (omega arith), ne-eqb i h ne, le-leb (suc i) h l) (omega arith)
+            | no nl ↦ rw (lt-leb i h (omega arith), ne-eqb i h ne, lt-leb (suc i) h (omega arith)) (omega arith)
+          ]
+    ]
+
+module _ (v : Lash → ℕ) where
+  tally-split : (i : ℕ) (ls : List Lash) → tally (λ l. leb i (hookLevel l)) v ls ≡ tally (λ l. eqb i (hookLevel l)) v ls + tally (λ l. leb (suc i) (hookLevel l)) v ls
+  unfolding tally
+  tally-split i [] = refl
+  tally-split i (l ∷ ls) = omega (arith, level-split i (hookLevel l) (v l), tally-split i ls)
+
+  tally-over : (n : ℕ) (ls : List Lash) → ((j : ℕ) → j < length ls → hookLevel (getD ls j noLash) ≤ n) → tally (λ l. leb (suc n) (hookLevel l)) v ls ≡ 0
+  unfolding tally
+  tally-over n [] h = refl
+  tally-over n (l ∷ ls) h =
+      rw (lt-leb (suc n) (hookLevel l) (omega (arith, h 0 (omega arith)))) (omega (arith, tally-over n ls (λ j q. h (suc j) (omega arith))))
+
+-- the sum over the levels from i on is the sum over the lashes at level i or above
+module _ (post : Lashing → ℕ → ℕ) (n : ℕ) (d : List ℕ) (ls : List Lash) (r : List ℕ) (room : suc n ≤ length r)
+    (under : (j : ℕ) → j < length ls → hookLevel (getD ls j noLash) ≤ n)
+    (each : (i : ℕ) → getD r i 0 ≡ upwards post (λ l. eqb i (hookLevel l)) d ls) where
+  abbrev on : Lash → ℕ
+  on l = post (lashingOf l) (upward d l)
+
+  from : (g i : ℕ) → i + g ≡ suc n → total (drop i (take (suc n) r)) ≡ tally (λ l. leb i (hookLevel l)) on ls
+  from zero i e =
+      let q : i ≡ suc n = omega arith in
+      rw q (total-off r (suc n) room ∙ sym (tally-over on n ls under))
+  from (suc g) i e =
+      omega (
+        arith,
+        total-peel r (suc n) i (omega arith) room,
+        from g (suc i) (omega arith),
+        each i ∙ tally-upwards post (λ l. eqb i (hookLevel l)) d ls,
+        tally-split on i ls,
+      )
+
+  pub sum-from : (i : ℕ) → i ≤ suc n → total (drop i (take (suc n) r)) ≡ upwards post (λ l. leb i (hookLevel l)) d ls
+  sum-from i h = from (suc n - i) i (omega arith) ∙ sym (tally-upwards post (λ l. leb i (hookLevel l)) d ls)
+
+refilled : {A : Type 0} {blank : A} {n : ℕ} {P Q : ℕ → A} {r : List A} → ((i : ℕ) → i < n → P i ≡ Q i) → Filled blank n P r → Filled blank n Q r
+refilled e f = record { each = λ i h. f .each i h ∙ e i h; rest = f .rest }
+
+facts-ten : {n : ℕ} {l : Lash} → n ≤ 10 → LashFacts n l → LashFacts 10 l
+facts-ten h f =
+    record {
+      lx = f .lx;
+      ly = f .ly;
+      ly-most = f .ly-most;
+      lz = f .lz;
+      lz-most = f .lz-most;
+      area = f .area;
+      area-most = f .area-most;
+      modulus = f .modulus;
+      modulus-most = f .modulus-most;
+      raised = f .raised;
+      inside = omega (arith, f .inside);
+    }
+
+module _ (n : ℕ) (k : List ℕ) (tiers : List Tier) (m : ℕ) (lashes : List Lash) (ω : List ℕ) (w : HalfWeights)
+    (h : Workable n k (take n tiers) m (take m lashes) ω w) (eight : length lashes ≡ 8) where
+  abbrev ls : List Lash
+  ls = take m lashes
+
+  counted : length ls ≡ m
+  counted = length-take-le m lashes (omega (arith, h .few-lashes))
+
+  pub each-ten : (j : ℕ) → j < m → LashFacts 10 (getD ls j noLash)
+  each-ten j q = facts-ten (h .few) (h .each j (omega (arith, counted)))
+
+  pub end-solvable : (g : Gear) → Geared m ls g → Solvable n k (g .level) ω
+  end-solvable g s =
+      record {
+        few = h .few;
+        springs = h .springs;
+        held =
+            λ i q. rw (s .held i)
+            (omega (arith, level-most n ls (record { at = h .each }) (suc i), h .at-level (suc i)));
+        loaded = h .loaded;
+      }
+
+  module _ (g : Gear) (d : List ℕ) (p : Pulls) (s : Geared m ls g) (o : Promised n k (g .level) ω d) (u : Pulled m ls d p) where
+    pub end-measured : Measured n k (take n tiers) d (w .most) (w .least) (p .lee) (p .windward)
+    end-measured =
+        record {
+          few = h .few;
+          springs = λ i q. h .springs i q .1;
+          heights = h .heights;
+          shifts = o .far;
+          most-light = h .weighed .most-light;
+          least-light = h .weighed .least-light;
+          lee-small = u .lee-small;
+          windward-small = u .windward-small;
+        }
+
+    module _ (v : LevelFigures) (l : Levelled n k (take n tiers) d (w .most) (w .least) (p .lee) (p .windward) v) where
+      under : (j : ℕ) → j < length ls → hookLevel (getD ls j noLash) ≤ n
+      under j q = h .each j q .inside
+
+      lees : (i : ℕ) → i ≤ suc n → total (drop i (take (suc n) (p .lee))) ≡ upwards leePart (λ l. leb i (hookLevel l)) d ls
+      lees = sum-from leePart n d ls (p .lee) (omega (arith, h .few, u .lee-long)) under (u .lee)
+
+      windwards : (i : ℕ) → i ≤ suc n → total (drop i (take (suc n) (p .windward))) ≡ upwards windwardPart (λ l. leb i (hookLevel l)) d ls
+      windwards = sum-from windwardPart n d ls (p .windward) (omega (arith, h .few, u .windward-long)) under (u .windward)
+
+      pub end-worked :
+          EndWorked n k (take n tiers) ls ω
+          (record { racking = v .racking; compression = v .compression; tension = v .tension; pull = p .pull; athwart = p .athwart; vertical = p .vertical })
+      end-worked =
+          record {
+            κ = g .level;
+            d = d;
+            held = λ i q. s .held i;
+            promised = o;
+            racking = l .racking;
+            compression =
+                refilled
+                (λ i q.
+                let e = lees i (omega arith) in
+                let f = windwards i (omega arith) in
+                rw (h .weighed .most i, e, f) refl)
+                (l .compression);
+            tension =
+                refilled
+                (λ i q.
+                let e = lees (suc i) (omega arith) in
+                let f = windwards (suc i) (omega arith) in
+                rw (h .weighed .least i, e, f) refl)
+                (l .tension);
+            pull = rw counted (u .pull);
+            athwart = rw counted (u .athwart);
+            vertical = rw counted (u .vertical);
+          }
+
+-- the springs of an end, and that its figures may be computed
+abbrev pub springs : End → List ℕ
+springs e = replicate 10 (springOf e)
+
+module _ {t : Sheet} (f : Facts t) (e : End) where
+  pub spring-at : (i : ℕ) → i < t .ntiers → getD (springs e) i 0 ≡ springOf e
+  spring-at i h = getD-replicate 10 i (springOf e) 0 (omega (arith, f .few))
+
+  pub workable :
+      (share factor m : ℕ) (ω : List ℕ) (w : HalfWeights) →
+      m ≤ 8 →
+      Loaded share factor (t .ntiers) (tiersOf t) ω →
+      Weighed (tiersOf t) w →
+      Workable (t .ntiers) (springs e) (tiersOf t) m (lashesOf e t) ω w
+  workable share factor m ω w few l v =
+      record {
+        few = f .few;
+        springs = λ i h. rw (spring-at i h) (spring-least e, spring-most e);
+        heights = λ i h. f .each i h .height;
+        few-lashes = few;
+        each = f .ends e .each;
+        at-level = f .ends e .at-level;
+        loaded = l .small;
+        weighed = v;
+      }
+
+-- one spring for all tiers of an end
+moment-same : (K n : ℕ) (k d : List ℕ) → ((i : ℕ) → i < n → getD k i 0 ≡ K) → (ts : List Tier) (i : ℕ) → i + length ts ≤ n → momentOf k d ts i ≡ momentPart K d ts i
+unfolding momentOf momentPart
+moment-same K n k d same [] i h = refl
+moment-same K n k d same (t ∷ ts) i h =
+    ap₂ (λ x y. pos (t .height) *ℤ rackingPart x d i +ℤ y) (same i (omega arith)) (moment-same K n k d same ts (suc i) (omega arith))
+
+-- the figures of an end of a sheet
+module _ (share factor : ℕ) (e : End) (t : Sheet) (k ω : List ℕ) (f : EndFigures) (stacked : length (tiersOf t) ≡ t .ntiers)
+    (same : (i : ℕ) → i < t .ntiers → getD k i 0 ≡ springOf e)
+    (l : Loaded share factor (t .ntiers) (tiersOf t) ω)
+    (w : EndWorked (t .ntiers) k (tiersOf t) (lashesOf e t) ω f) where
+  moment-at : (i : ℕ) → i ≤ t .ntiers → momentOf k (w .d) (drop i (tiersOf t)) i ≡ momentPart (springOf e) (w .d) (drop i (tiersOf t)) i
+  moment-at i h =
+      moment-same (springOf e) (t .ntiers) k (w .d) same (drop i (tiersOf t)) i (omega (arith, length-drop i (tiersOf t)))
+
+  computed : Computed e t (w .d) f
+  unfolding compressionFigure tensionFigure
+  computed =
+      record {
+        racking = λ i h. w .racking .each i h ∙ ap (λ (K : ℕ). rackingFigure (rackingPart K (w .d) i)) (same i h);
+        compression = λ i h. w .compression .each i (omega arith) ∙ rw (moment-at i h) refl;
+        tension = λ i h. w .tension .each i h ∙ rw (moment-at i (omega arith)) refl;
+        pull = w .pull .each;
+        athwart = w .athwart .each;
+        vertical = w .vertical .each;
+      }
+
+  pub worked : Worked share factor e t f
+  worked =
+      record {
+        k = k;
+        κ = w .κ;
+        ω = ω;
+        d = w .d;
+        inputs = record { springs = same; held = w .held; loaded = l .each };
+        promised = w .promised;
+        computed = computed;
+        blank =
+            record {
+              racking = w .racking .rest;
+              compression = w .compression .rest;
+              tension = w .tension .rest;
+              pull = w .pull .rest;
+              athwart = w .athwart .rest;
+              vertical = w .vertical .rest;
+            };
+      }
+
+-- by the class rule and the route, they report the end's forces
+pub reports : {e : End} {t : Sheet} {f : EndFigures} → Facts t → Worked 9 (10 * routePercent (t .head .route)) e t f → EndFigured 20 e t f
+reports h w =
+    end-figured h (w .inputs) (w .promised) (w .computed)
+    (record {
+      compression = w .blank .compression;
+      tension = w .blank .tension;
+      pull = w .blank .pull;
+      athwart = w .blank .athwart;
+      vertical = w .blank .vertical;
+    })

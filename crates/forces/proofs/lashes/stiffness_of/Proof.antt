@@ -1,0 +1,57 @@
+use native.Mathlib.Nat.{lt-of-le-of-lt}
+use native.Mathlib.Omega.{arith}
+use lib.Dec.{lit<}
+use Rattle.forces.specs.Fixed.{stiffnessOf}
+use Rattle.forces.proofs.LashLaws.{force-le, side-le, top-le, square-le, cube-le, cube-above, quotient-le}
+use Rattle.forces.proofs.lashes.stiffness_of.Statement.{statement}
+use Rattle.forces.proofs.lashes.stiffness_of.Tie as tie
+
+mul-scaled-twice : tie.Need-mul-scaled-twice
+mul-scaled-twice c =
+    let b = c .before in
+    omega (arith, force-le (b .args .l) (b .pre .0) (b .args .length) (b .pre .1))
+
+mul-scaled-twice-2 : tie.Need-mul-scaled-twice-2
+mul-scaled-twice-2 c =
+    let b = c .before .before in
+    omega (arith, side-le (b .args .l) (b .pre .0) (b .args .length) (b .pre .1))
+
+mul-scaled-twice-3 : tie.Need-mul-scaled-twice-3
+mul-scaled-twice-3 c =
+    let b = c .before .before in
+    record { fits = lt-of-le-of-lt (top-le (b .args .l) (b .pre .0) (b .args .length) (b .pre .1)) (lit< tt) }
+
+mul-scaled-twice-4 : tie.Need-mul-scaled-twice-4
+mul-scaled-twice-4 c =
+    let b = c .before .before in
+    omega (arith, square-le (b .args .l) (b .pre .0) (b .args .length) (b .pre .1))
+
+mul-scaled-twice-5 : tie.Need-mul-scaled-twice-5
+mul-scaled-twice-5 c =
+    let b = c .before .before in
+    record { fits = lt-of-le-of-lt (cube-le (b .args .l) (b .pre .0) (b .args .length) (b .pre .1)) (lit< tt) }
+
+scaled-twice-requires : tie.Need-scaled-twice-requires
+scaled-twice-requires c κs =
+    let b = c .before .before in
+    let h = cube-le (b .args .l) (b .pre .0) (b .args .length) (b .pre .1) in
+    let q = quotient-le (b .args .l) (b .pre .0) (b .args .length) (b .pre .1) in
+    (cube-above (b .args .l) (b .pre .0) (b .args .length) (b .pre .1), lit< tt, omega arith, omega arith, omega arith)
+
+returns : tie.Need-returns
+unfolding stiffnessOf
+returns c =
+    let b = c .before .before .before in
+    rw (← b .pre .1) (c .scaled-twice .ensures)
+
+pub stiffness-of-spec : {M : Type 1} → statement M
+stiffness-of-spec =
+    tie.close
+    (tie.spec
+    mul-scaled-twice
+    mul-scaled-twice-2
+    mul-scaled-twice-3
+    mul-scaled-twice-4
+    mul-scaled-twice-5
+    scaled-twice-requires
+    returns)

@@ -1,0 +1,17 @@
+use mathlib.Core.Path.{refl}
+use lib.Dec.{lit<}
+use Rattle.arith.proofs.Sizes.{fits64}
+use Rattle.forces.proofs.LevelLaws.{held, lean-small}
+use Rattle.forces.proofs.levels.lean_of.Statement.{statement}
+use Rattle.forces.proofs.levels.lean_of.Tie as tie
+
+div-result : tie.Need-div-result
+div-result c = rw (held (c .pre) (lit< tt)) (lit< tt, fits64 (lean-small (c .pre)) (lit< tt))
+
+returns : tie.Need-returns
+returns c =
+    let l = lean-small (c .pre) in
+    simp (held (c .pre) (lit< tt), held l (lit< tt)) (refl, l)
+
+pub lean-of-spec : {M : Type 1} → statement M
+lean-of-spec = tie.close (tie.spec div-result returns)

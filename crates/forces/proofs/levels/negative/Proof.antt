@@ -1,0 +1,14 @@
+use lib.Dec.{lit<}
+use Rattle.arith.proofs.Sizes.{fits64, small-neg}
+use Rattle.forces.proofs.LevelLaws.{held, minus}
+use Rattle.forces.proofs.levels.negative.Statement.{statement}
+use Rattle.forces.proofs.levels.negative.Tie as tie
+
+sub-result : tie.Need-sub-result
+sub-result c = rw (held (c .pre) (lit< tt), minus (c .args .x)) (fits64 (small-neg (c .pre)) (lit< tt))
+
+returns : tie.Need-returns
+returns c = simp (held (c .pre) (lit< tt), minus (c .args .x), held (small-neg (c .pre)) (lit< tt))
+
+pub negative-spec : {M : Type 1} → statement M
+negative-spec = tie.close (tie.spec sub-result returns)

@@ -1,0 +1,22 @@
+use mathlib.Core.Path.{refl}
+use native.Mathlib.Nat.{mul-le-mul}
+use native.Mathlib.Omega.{arith}
+use Rattle.forces.specs.Fixed.{push}
+use borrow.Author.Needs.{needs}
+use Rattle.forces.proofs.loads.thrust_of.Statement.{statement}
+use Rattle.forces.proofs.loads.thrust_of.Tie as tie
+
+mul-t2 : tie.Need-mul-t2
+mul-t2 c = omega (arith, mul-le-mul (c .before .pre .mass) (c .before .pre .at))
+
+gust-of-requires : tie.Need-gust-of-requires
+gust-of-requires c κs = search needs
+
+returns : tie.Need-returns
+unfolding push
+returns c =
+    let b = c .before .before in
+    (refl, mul-le-mul (b .pre .mass) (b .pre .at), c .gust-of .ensures .0, c .gust-of .ensures .1)
+
+pub thrust-of-spec : {M : Type 1} → statement M
+thrust-of-spec = tie.close (tie.spec mul-t2 gust-of-requires returns)

@@ -1,0 +1,32 @@
+-- Document 01, "The springs": a lash's length, tension and parts.
+use mathlib.Core.Bool.{Bool, true, false, cond}
+use Prim.Native.Nat.{ℕ, zero, suc, _+_, _*_, _-_}
+use lib.Dec.{leb, eqb}
+use Rattle.arith.specs.Fractions.{Frac, nat, _*q_, _/q_}
+use Rattle.sheet.specs.declared.Lash.{Lash}
+
+-- a top hook of tier i and a bottom hook of tier i + 1 both lie at level i
+unfoldable pub hookLevel : Lash → ℕ
+hookLevel l = l .tier - l .hook
+
+-- the least k, from k on, with k² ≥ s, among `more` numbers
+unfoldable pub leastFrom : ℕ → ℕ → ℕ → ℕ
+leastFrom s k zero = k
+leastFrom s k (suc more) = cond (leb s (k * k)) k (leastFrom s (suc k) more)
+
+-- L: the least whole millimetre with L² ≥ LX² + LY² + LZ²
+unfoldable pub lashLength : Lash → ℕ
+lashLength l =
+    leastFrom (l .lx * l .lx + l .ly * l .ly + l .lz * l .lz) 0 (l .lx * l .lx + l .ly * l .ly + l .lz * l .lz)
+
+-- T = modulus × area × LY × D / L², at a shift D of the hook's level
+unfoldable pub pull : Lash → Frac → Frac
+pull l D = nat (l .modulus) *q nat (l .area) *q nat (l .ly) *q D /q nat (lashLength l * lashLength l)
+
+-- athwart part T × LY / L
+unfoldable pub athwartPart : Lash → Frac → Frac
+athwartPart l D = pull l D *q nat (l .ly) /q nat (lashLength l)
+
+-- vertical part T × LZ / L
+unfoldable pub verticalPart : Lash → Frac → Frac
+verticalPart l D = pull l D *q nat (l .lz) /q nat (lashLength l)

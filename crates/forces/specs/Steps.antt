@@ -1,0 +1,173 @@
+-- Contracts of inner functions: what each step of the computation of an end's figures takes and gives. Nothing here need be believed.
+use mathlib.Core.Path.{_≡_}
+use mathlib.Core.Bool.{Bool, true, false, cond}
+use mathlib.Core.List.{List, [], _∷_}
+use Prim.Native.Nat.{ℕ, zero, suc, _+_, _*_, _-_, _^_, _<_, _≤_}
+use lib.Dec.{eqb}
+use lib.ListN.{drop, take, getD, length}
+use lib.IntN.{ℤ, pos, negℤ, _+ℤ_, _-ℤ_, _*ℤ_}
+use Rattle.sheet.specs.declared.Tier.{Tier}
+use Rattle.sheet.specs.declared.Lash.{Lash}
+use Rattle.sheet.specs.declared.Sheet.{Sheet}
+use Rattle.springs.specs.Promise.{Promised}
+use Rattle.forces.specs.declared.EndFigures.{EndFigures}
+use Rattle.forces.specs.declared.LevelFigures.{LevelFigures}
+use Rattle.forces.specs.declared.HalfWeights.{HalfWeights}
+use Rattle.forces.specs.declared.Gear.{Gear}
+use Rattle.forces.specs.declared.Pulls.{Pulls}
+use Rattle.forces.specs.Lashes.{hookLevel, lashLength}
+use Rattle.forces.specs.Ends.{End, lashesOf}
+use Rattle.forces.specs.Posts.{inCompression, inTension}
+use Rattle.forces.specs.Reported.{noLash}
+use Rattle.forces.specs.Facts.{LashFacts, countAt}
+use Rattle.forces.specs.Fixed.{noTier, levelLoad, halfWeight, stiffnessOf, levelStiffness, pullFigure, athwartFigure, verticalFigure, upwards, leePart, windwardPart, rackingPart, rackingFigure, leeFound, windwardFound, postFigure, InputsBy, Computed}
+
+-- the first n entries of a list are P, and those behind them blank
+pub record Filled {A : Type 0} (blank : A) (n : ℕ) (P : ℕ → A) (r : List A) : Type 0 where
+  pub each : (i : ℕ) → i < n → getD r i blank ≡ P i
+  pub rest : (i : ℕ) → n ≤ i → getD r i blank ≡ blank
+
+-- the loads on the levels over n tiers
+pub record Loaded (share factor n : ℕ) (ts : List Tier) (r : List ℕ) : Type 0 where
+  pub each : (i : ℕ) → i < n → getD r i 0 ≡ levelLoad share factor (getD ts i noTier) (getD ts (suc i) noTier)
+  pub small : (i : ℕ) → i < n → getD r i 0 ≤ 2 ^ 46
+
+-- half of the weight above each level
+pub record Weighed (ts : List Tier) (w : HalfWeights) : Type 0 where
+  pub most : (i : ℕ) → getD (w .most) i 0 ≡ halfWeight (λ t. t .avmax) ts i
+  pub least : (i : ℕ) → getD (w .least) i 0 ≡ halfWeight (λ t. t .avmin) ts i
+  pub most-light : (i : ℕ) → getD (w .most) i 0 ≤ 2 ^ 40
+  pub least-light : (i : ℕ) → getD (w .least) i 0 ≤ 2 ^ 40
+
+-- lengths and stiffnesses of m lashes, and the stiffness at each level over the deck
+pub record Geared (m : ℕ) (ls : List Lash) (g : Gear) : Type 0 where
+  pub lengths : (j : ℕ) → j < m → getD (g .length) j 0 ≡ lashLength (getD ls j noLash)
+  pub stiff : (j : ℕ) → j < m → getD (g .stiffness) j 0 ≡ stiffnessOf (getD ls j noLash)
+  pub held : (i : ℕ) → getD (g .level) i 0 ≡ levelStiffness ls (suc i)
+
+-- the figures of m lashes at the shifts d, and the vertical parts on the posts at each level
+pub record Pulled (m : ℕ) (ls : List Lash) (d : List ℕ) (r : Pulls) : Type 0 where
+  pub pull : Filled 0 m (λ j. pullFigure d (getD ls j noLash)) (r .pull)
+  pub athwart : Filled 0 m (λ j. athwartFigure d (getD ls j noLash)) (r .athwart)
+  pub vertical : Filled 0 m (λ j. verticalFigure d (getD ls j noLash)) (r .vertical)
+  pub lee : (i : ℕ) → getD (r .lee) i 0 ≡ upwards leePart (λ l. eqb i (hookLevel l)) d ls
+  pub windward : (i : ℕ) → getD (r .windward) i 0 ≡ upwards windwardPart (λ l. eqb i (hookLevel l)) d ls
+  pub lee-small : (i : ℕ) → getD (r .lee) i 0 ≤ 2 ^ 58
+  pub windward-small : (i : ℕ) → getD (r .windward) i 0 ≤ 2 ^ 58
+  pub lee-long : length (r .lee) ≡ 11
+  pub windward-long : length (r .windward) ≡ 11
+
+unfoldable pub total : List ℕ → ℕ
+total [] = 0
+total (x ∷ xs) = x + total xs
+
+-- the moment at a level, with a spring for each tier
+unfoldable pub momentOf : List ℕ → List ℕ → List Tier → ℕ → ℤ
+momentOf k d [] i = pos 0
+momentOf k d (t ∷ ts) i = pos (t .height) *ℤ rackingPart (getD k i 0) d i +ℤ momentOf k d ts (suc i)
+
+-- compression and tension at a level, from half the weight above it, the moment, and the vertical parts on the two posts
+abbrev pub compressed : ℕ → ℤ → ℕ → ℕ → ℕ
+compressed weight moment lee windward =
+    postFigure (leeFound weight moment lee) (windwardFound weight moment windward)
+
+abbrev pub tensed : ℕ → ℤ → ℕ → ℕ → ℕ
+tensed weight moment lee windward =
+    postFigure (negℤ (leeFound weight moment lee)) (negℤ (windwardFound weight moment windward))
+
+-- the levels' figures may be computed
+pub record Measured (n : ℕ) (k : List ℕ) (ts : List Tier) (d most least lee windward : List ℕ) : Type 0 where
+  pub few : n ≤ 10
+  pub springs : (i : ℕ) → i < n → getD k i 0 ≤ 15690
+  pub heights : (i : ℕ) → i < n → getD ts i noTier .height ≤ 2896
+  pub shifts : (i : ℕ) → getD d i 0 ≤ 2 ^ 40
+  pub most-light : (i : ℕ) → getD most i 0 ≤ 2 ^ 40
+  pub least-light : (i : ℕ) → getD least i 0 ≤ 2 ^ 40
+  pub lee-small : (i : ℕ) → getD lee i 0 ≤ 2 ^ 58
+  pub windward-small : (i : ℕ) → getD windward i 0 ≤ 2 ^ 58
+
+module _ (n : ℕ) (k : List ℕ) (ts : List Tier) (d most least lee windward : List ℕ) where
+  abbrev pub compressionAt : ℕ → ℕ
+  compressionAt i =
+      compressed
+      (getD most i 0)
+      (momentOf k d (drop i ts) i)
+      (total (drop i (take (suc n) lee)))
+      (total (drop i (take (suc n) windward)))
+
+  abbrev pub tensionAt : ℕ → ℕ
+  tensionAt i =
+      tensed
+      (getD least i 0)
+      (momentOf k d (drop i ts) i)
+      (total (drop (suc i) (take (suc n) lee)))
+      (total (drop (suc i) (take (suc n) windward)))
+
+  pub record Levelled (r : LevelFigures) : Type 0 where
+    pub racking : Filled (pos 0) n (λ i. rackingFigure (rackingPart (getD k i 0) d i)) (r .racking)
+    pub compression : Filled 0 (suc n) compressionAt (r .compression)
+    pub tension : Filled 0 n tensionAt (r .tension)
+
+-- an end may be worked: n tiers ts with springs k, m lashes ls, the loads ω on the levels, and half of the weights above them
+pub record Workable (n : ℕ) (k : List ℕ) (ts : List Tier) (m : ℕ) (ls : List Lash) (ω : List ℕ) (w : HalfWeights) : Type 0 where
+  pub few : n ≤ 10
+  pub springs : (i : ℕ) → i < n → (3730 ≤ getD k i 0) × (getD k i 0 ≤ 15690)
+  pub heights : (i : ℕ) → i < n → getD ts i noTier .height ≤ 2896
+  pub few-lashes : m ≤ 8
+  pub each : (j : ℕ) → j < length ls → LashFacts n (getD ls j noLash)
+  pub at-level : (i : ℕ) → countAt ls i ≤ 4
+  pub loaded : (i : ℕ) → i < n → getD ω i 0 ≤ 2 ^ 46
+  pub weighed : Weighed ts w
+
+-- the figures of an end, at shifts d that the solver found
+pub record EndWorked (n : ℕ) (k : List ℕ) (ts : List Tier) (ls : List Lash) (ω : List ℕ) (f : EndFigures) : Type 0 where
+  pub κ : List ℕ
+  pub d : List ℕ
+  pub held : (i : ℕ) → i < n → getD κ i 0 ≡ levelStiffness ls (suc i)
+  pub promised : Promised n k κ ω d
+  pub racking : Filled (pos 0) n (λ i. rackingFigure (rackingPart (getD k i 0) d i)) (f .racking)
+  pub compression :
+      Filled
+      0
+      (suc n)
+      (λ i.
+      compressed
+      (halfWeight (λ t. t .avmax) ts i)
+      (momentOf k d (drop i ts) i)
+      (upwards leePart (inCompression i) d ls)
+      (upwards windwardPart (inCompression i) d ls))
+      (f .compression)
+  pub tension :
+      Filled
+      0
+      n
+      (λ i.
+      tensed
+      (halfWeight (λ t. t .avmin) ts i)
+      (momentOf k d (drop i ts) i)
+      (upwards leePart (inTension i) d ls)
+      (upwards windwardPart (inTension i) d ls))
+      (f .tension)
+  pub pull : Filled 0 (length ls) (λ j. pullFigure d (getD ls j noLash)) (f .pull)
+  pub athwart : Filled 0 (length ls) (λ j. athwartFigure d (getD ls j noLash)) (f .athwart)
+  pub vertical : Filled 0 (length ls) (λ j. verticalFigure d (getD ls j noLash)) (f .vertical)
+
+-- the figures behind the counts are 0
+pub record Blank (e : End) (t : Sheet) (f : EndFigures) : Type 0 where
+  pub racking : (i : ℕ) → t .ntiers ≤ i → getD (f .racking) i (pos 0) ≡ pos 0
+  pub compression : (i : ℕ) → suc (t .ntiers) ≤ i → getD (f .compression) i 0 ≡ 0
+  pub tension : (i : ℕ) → t .ntiers ≤ i → getD (f .tension) i 0 ≡ 0
+  pub pull : (j : ℕ) → length (lashesOf e t) ≤ j → getD (f .pull) j 0 ≡ 0
+  pub athwart : (j : ℕ) → length (lashesOf e t) ≤ j → getD (f .athwart) j 0 ≡ 0
+  pub vertical : (j : ℕ) → length (lashesOf e t) ≤ j → getD (f .vertical) j 0 ≡ 0
+
+-- the figures of an end of a sheet, by a share in twentieths and a factor in thousandths: computed from shifts that keep the solver's promise
+pub record Worked (share factor : ℕ) (e : End) (t : Sheet) (f : EndFigures) : Type 0 where
+  pub k : List ℕ
+  pub κ : List ℕ
+  pub ω : List ℕ
+  pub d : List ℕ
+  pub inputs : InputsBy share factor e t k κ ω
+  pub promised : Promised (t .ntiers) k κ ω d
+  pub computed : Computed e t d f
+  pub blank : Blank e t f

@@ -1,0 +1,174 @@
+// Lashes: their lengths and stiffnesses, and their forces at the shifts of the levels. Scales are those of specs/Fixed.antt.
+
+ghost use mathlib.Core.Path.{_≡_};
+ghost use Prim.Native.Nat.{ℕ, _+_, _*_, _-_, _/_, _<_, _≤_, _^_};
+ghost use lib.ListN.{take, getD};
+ghost use Rattle.forces.specs.Facts.{LashFacts};
+ghost use Rattle.forces.specs.Lashes.{hookLevel, lashLength};
+ghost use Rattle.forces.specs.Reported.{noLash};
+ghost use Rattle.forces.specs.Fixed.{ceil, stiffnessOf, leePart, windwardPart};
+ghost use Rattle.forces.specs.Steps.{Geared, Pulled};
+use crate::Gear;
+use crate::Pulls;
+use crate::Uplift;
+use arith::roots::length;
+use arith::rounding::ceil_div;
+use arith::rounding::scaled_twice;
+use arith::rounding::split_product;
+use sheet::Lash;
+use sheet::Lashing;
+use sheet::lashing_of;
+
+// The level that a lash is hooked at.
+fn hook_level(l: Lash) -> usize
+    requires { ⌜ LashFacts 10 l ⌝ }
+    ensures { λ r. ⌜ (r ≡ hookLevel l) × (1 ≤ r) × (r ≤ 10) ⌝ }
+{
+    (l.tier - l.hook) as usize
+}
+
+fn length_of(l: Lash) -> u64
+    requires { ⌜ LashFacts 10 l ⌝ }
+    ensures { λ r. ⌜ r ≡ lashLength l ⌝ }
+{
+    length(l.lx, l.ly, l.lz)
+}
+
+// The athwart stiffness of a lash of this length.
+fn stiffness_of(l: Lash, length: u64) -> u64
+    requires { ⌜ LashFacts 10 l × (length ≡ lashLength l) ⌝ }
+    ensures { λ r. ⌜ r ≡ stiffnessOf l ⌝ }
+{
+    scaled_twice(
+        l.modulus * l.area * (l.ly * l.ly),
+        1048576,
+        4,
+        length * length * length,
+    )
+}
+
+// Lengths and stiffnesses of an end's lashes, and the sums of the stiffnesses by level.
+pub fn gear_of(lashes: [Lash; 8], m: usize) -> Gear
+    requires { ⌜ (m ≤ 8) × ((j : ℕ) → j < m → LashFacts 10 (getD (take m lashes) j noLash)) ⌝ }
+    ensures { λ r. ⌜ Geared m (take m lashes) r ⌝ }
+{
+    let mut lengths = [0u64; 8];
+    let mut stiffnesses = [0u64; 8];
+    let mut levels = [0u64; 10];
+    let mut j = 0;
+    while j < m {
+        let l = lashes[j];
+        let long = length_of(l);
+        let stiff = stiffness_of(l, long);
+        let at = hook_level(l) - 1;
+        lengths[j] = long;
+        stiffnesses[j] = stiff;
+        levels[at] = levels[at] + stiff;
+        j += 1;
+    }
+    Gear {
+        length: lengths,
+        stiffness: stiffnesses,
+        level: levels,
+    }
+}
+
+// The athwart part of a lash at a shift of its hook.
+fn part_of(stiffness: u64, shift: u64) -> u64
+    requires { ⌜ (stiffness ≤ 155000 * 2 ^ 22) × (shift ≤ 2 ^ 40) ⌝ }
+    ensures { λ r. ⌜ (r ≡ stiffness * shift / 2 ^ 32) × (r ≤ 2 ^ 48) ⌝ }
+{
+    split_product(stiffness, shift, 4194304, 1024)
+}
+
+// A padded athwart part × a side / LY, in N upwards.
+fn figure_along(padded: u64, side: u64, ly: u64) -> u64
+    requires { ⌜ (padded ≤ 2 ^ 48 + 34336) × (side ≤ 22913) × (500 ≤ ly) ⌝ }
+    ensures { λ r. ⌜ r ≡ ceil (ceil (padded * side) ly) (2 ^ 18) ⌝ }
+{
+    ceil_div(ceil_div(padded * side, ly), 262144)
+}
+
+// The vertical part, from the athwart part.
+fn upward_of(part: u64, ly: u64, lz: u64) -> u64
+    requires { ⌜ (part ≤ 2 ^ 48) × (500 ≤ ly) × (lz ≤ 20000) ⌝ }
+    ensures { λ r. ⌜ (r ≡ part * lz / ly) × (r ≤ 2 ^ 54) ⌝ }
+{
+    part * lz / ly
+}
+
+// The figures of one lash, and its vertical part.
+struct Pull {
+    pull: u64,
+    athwart: u64,
+    vertical: u64,
+    upward: u64,
+}
+
+fn pull_of(l: Lash, length: u64, stiffness: u64, shift: u64) -> Pull
+    requires { ⌜ LashFacts 10 l × (length ≡ lashLength l) × (stiffness ≡ stiffnessOf l) × (shift ≤ 2 ^ 40) ⌝ }
+    ensures { λ r. ⌜ r .pull ≡ ceil (ceil ((stiffnessOf l * shift / 2 ^ 32 + 34336) * lashLength l) (l .ly)) (2 ^ 18) ⌝ }
+    ensures { λ r. ⌜ r .athwart ≡ ceil (stiffnessOf l * shift / 2 ^ 32 + 34336) (2 ^ 18) ⌝ }
+    ensures { λ r. ⌜ r .vertical ≡ ceil (ceil ((stiffnessOf l * shift / 2 ^ 32 + 34336) * l .lz) (l .ly)) (2 ^ 18) ⌝ }
+    ensures { λ r. ⌜ (r .upward ≡ stiffnessOf l * shift / 2 ^ 32 * l .lz / l .ly) × (r .upward ≤ 2 ^ 54) ⌝ }
+{
+    let part = part_of(stiffness, shift);
+    let padded = part + 34336;
+    Pull {
+        pull: figure_along(padded, length, l.ly),
+        athwart: ceil_div(padded, 262144),
+        vertical: figure_along(padded, l.lz, l.ly),
+        upward: upward_of(part, l.ly, l.lz),
+    }
+}
+
+// The vertical part of a lash on its post: of a cross lash on the lee post, of a side lash on the windward post.
+fn on_posts(l: Lashing, upward: u64) -> Uplift
+    ensures { λ r. ⌜ (r .lee ≡ leePart l upward) × (r .windward ≡ windwardPart l upward) ⌝ }
+{
+    match l {
+        Lashing::Cross(_) => Uplift {
+            lee: upward,
+            windward: 0,
+        },
+        Lashing::Side(_) => Uplift {
+            lee: 0,
+            windward: upward,
+        },
+    }
+}
+
+// The figures of an end's lashes, and the sums of the vertical parts by level on each post.
+pub fn lash_figures(lashes: [Lash; 8], m: usize, gear: Gear, d: [u64; 11]) -> Pulls
+    requires { ⌜ (m ≤ 8) × ((j : ℕ) → j < m → LashFacts 10 (getD (take m lashes) j noLash)) ⌝ }
+    requires { ⌜ Geared m (take m lashes) gear × ((i : ℕ) → getD d i 0 ≤ 2 ^ 40) ⌝ }
+    ensures { λ r. ⌜ Pulled m (take m lashes) d r ⌝ }
+{
+    let lengths = gear.length;
+    let stiffnesses = gear.stiffness;
+    let mut pull = [0u64; 8];
+    let mut athwart = [0u64; 8];
+    let mut vertical = [0u64; 8];
+    let mut lee = [0u64; 11];
+    let mut windward = [0u64; 11];
+    let mut j = 0;
+    while j < m {
+        let l = lashes[j];
+        let at = hook_level(l);
+        let p = pull_of(l, lengths[j], stiffnesses[j], d[at]);
+        let u = on_posts(lashing_of(l), p.upward);
+        pull[j] = p.pull;
+        athwart[j] = p.athwart;
+        vertical[j] = p.vertical;
+        lee[at] = lee[at] + u.lee;
+        windward[at] = windward[at] + u.windward;
+        j += 1;
+    }
+    Pulls {
+        pull: pull,
+        athwart: athwart,
+        vertical: vertical,
+        lee: lee,
+        windward: windward,
+    }
+}

@@ -1,0 +1,130 @@
+// Every reported force of a stack: rackings, posts and lashes of both ends.
+
+ghost use mathlib.Core.Path.{_≡_};
+ghost use Prim.Native.Nat.{ℕ, _≤_};
+ghost use lib.ListN.{take};
+ghost use Rattle.sheet.specs.Fits.{Fits};
+ghost use Rattle.forces.specs.Ends.{door, closed};
+ghost use Rattle.forces.specs.Reported.{EndFigured};
+ghost use Rattle.forces.specs.Steps.{Workable, EndWorked, Worked};
+use sheet::Lash;
+use sheet::Sheet;
+use sheet::Tier;
+
+mod loads; // loads.rt: the loads on the levels and the weights above them
+mod lashes; // lashes.rt: stiffnesses of lashes, and their forces
+mod levels; // levels.rt: rackings and posts, from the top level down
+
+// The figures of one end: racking per tier, compression per level from 0, tension per level from 0, and each lash's tension,
+// athwart and vertical part, all in N.
+pub struct EndFigures {
+    pub racking: [i32; 10],
+    pub compression: [u64; 11],
+    pub tension: [u64; 10],
+    pub pull: [u64; 8],
+    pub athwart: [u64; 8],
+    pub vertical: [u64; 8],
+}
+
+pub struct Figures {
+    pub door: EndFigures,
+    pub closed: EndFigures,
+}
+
+// Half of V above each level, with A_Vmax and with A_Vmin.
+pub struct HalfWeights {
+    pub most: [u64; 11],
+    pub least: [u64; 11],
+}
+
+// Lengths and stiffnesses of an end's lashes, and the stiffness of all lashes at levels 1 to 10.
+pub struct Gear {
+    pub length: [u64; 8],
+    pub stiffness: [u64; 8],
+    pub level: [u64; 10],
+}
+
+// The figures of an end's lashes, and the vertical parts on each post at levels 0 to 10.
+pub struct Pulls {
+    pub pull: [u64; 8],
+    pub athwart: [u64; 8],
+    pub vertical: [u64; 8],
+    pub lee: [u64; 11],
+    pub windward: [u64; 11],
+}
+
+// Of each level: racking of the tier over it, compression and tension.
+pub struct LevelFigures {
+    pub racking: [i32; 10],
+    pub compression: [u64; 11],
+    pub tension: [u64; 10],
+}
+
+// Vertical parts on the two posts.
+pub struct Uplift {
+    pub lee: u64,
+    pub windward: u64,
+}
+
+// The figures of one end: n tiers with a spring for each, m lashes, and the loads and weights that both ends share.
+fn end_figures(
+    n: usize,
+    k: [u64; 10],
+    tiers: [Tier; 10],
+    lashes: [Lash; 8],
+    m: usize,
+    loads: [u64; 10],
+    weights: HalfWeights,
+) -> EndFigures
+    requires { ⌜ Workable n k (take n tiers) m (take m lashes) loads weights ⌝ }
+    ensures { λ r. ⌜ EndWorked n k (take n tiers) (take m lashes) loads r ⌝ }
+{
+    let gear = lashes::gear_of(lashes, m);
+    let kappa = gear.level;
+    let d = springs::solve(n, k, kappa, loads);
+    let pulls = lashes::lash_figures(lashes, m, gear, d);
+    let most = weights.most;
+    let least = weights.least;
+    let lee = pulls.lee;
+    let windward = pulls.windward;
+    let levels = levels::level_figures(n, k, tiers, d, most, least, lee, windward);
+    let racking = levels.racking;
+    let compression = levels.compression;
+    let tension = levels.tension;
+    let pull = pulls.pull;
+    let athwart = pulls.athwart;
+    let vertical = pulls.vertical;
+    EndFigures {
+        racking: racking,
+        compression: compression,
+        tension: tension,
+        pull: pull,
+        athwart: athwart,
+        vertical: vertical,
+    }
+}
+
+// The figures of both ends, with the share of F that a tier's own top takes, in twentieths, and the factor on A_T, in thousandths.
+pub fn figures_by(s: Sheet, share: u64, factor: u64) -> Figures
+    requires { ⌜ Fits s × (share ≤ 20) × (factor ≤ 1000) ⌝ }
+    ensures { λ r. ⌜ Worked share factor door s (r .door) × Worked share factor closed s (r .closed) ⌝ }
+{
+    let n = s.ntiers;
+    let tiers = s.tiers;
+    let door = s.door;
+    let closed = s.closed;
+    let loads = loads::level_loads(n, tiers, share, factor);
+    let weights = loads::half_weights(n, tiers);
+    Figures {
+        door: end_figures(n, [3730u64; 10], tiers, door, s.ndoor, loads, weights),
+        closed: end_figures(n, [15690u64; 10], tiers, closed, s.nclosed, loads, weights),
+    }
+}
+
+// The figures of both ends by the class rule: 0.45 of F on a tier's own top, and the route factor.
+pub fn figures_of(s: Sheet) -> Figures
+    requires { ⌜ Fits s ⌝ }
+    ensures { λ r. ⌜ EndFigured 20 door s (r .door) × EndFigured 20 closed s (r .closed) ⌝ }
+{
+    figures_by(s, 9, 10 * sheet::route_percent(s.head.route))
+}

@@ -1,0 +1,115 @@
+// The load on each level and half of the weight above it: the same for both ends. Scales are those of specs/Fixed.antt.
+
+ghost use mathlib.Core.Path.{_≡_};
+ghost use Prim.Native.Nat.{ℕ, suc, _+_, _*_, _-_, _/_, _<_, _≤_, _^_};
+ghost use lib.ListN.{take, getD};
+ghost use Rattle.forces.specs.Facts.{TierFacts};
+ghost use Rattle.forces.specs.Fixed.{noTier, push, gust};
+ghost use Rattle.forces.specs.Steps.{Loaded, Weighed};
+use crate::HalfWeights;
+use arith::rounding::scaled;
+use sheet::Tier;
+
+// What a tier pushes with: mass × A_T, and the wind on it.
+struct Thrust {
+    push: u64,
+    gust: u64,
+}
+
+// 27 × length × height where the tier is exposed.
+fn gust_of(t: Tier) -> u64
+    requires { ⌜ TierFacts t ⌝ }
+    ensures { λ r. ⌜ (r ≡ gust t) × (r ≤ 27 * 12192 * 2896) ⌝ }
+{
+    if t.wind == 1 {
+        if t.size == 20 {
+            return 27 * 6058 * t.height;
+        }
+        return 27 * 12192 * t.height;
+    }
+    0
+}
+
+fn thrust_of(t: Tier) -> Thrust
+    requires { ⌜ TierFacts t ⌝ }
+    ensures { λ r. ⌜ (r .push ≡ push t) × (r .push ≤ 30480 * 1500) × (r .gust ≡ gust t) × (r .gust ≤ 27 * 12192 * 2896) ⌝ }
+{
+    Thrust {
+        push: t.mass * t.at,
+        gust: gust_of(t),
+    }
+}
+
+// The load on the level between a tier and the tier over it: share in twentieths, factor in thousandths.
+fn level_load(share: u64, factor: u64, tier: Thrust, over: Thrust) -> u64
+    requires { ⌜ (share ≤ 20) × (factor ≤ 1000) ⌝ }
+    requires { ⌜ (tier .push ≤ 30480 * 1500) × (tier .gust ≤ 27 * 12192 * 2896) ⌝ }
+    requires { ⌜ (over .push ≤ 30480 * 1500) × (over .gust ≤ 27 * 12192 * 2896) ⌝ }
+    ensures { λ r. ⌜ (r ≡ (981 * factor * (share * tier .push + (20 - share) * over .push) + 40000 * (tier .gust + over .gust)) * 2 ^ 28 / 4000000000) × (r ≤ 2 ^ 46) ⌝ }
+{
+    let shared = share * tier.push + (20 - share) * over.push;
+    scaled(
+        981 * factor * shared + 40000 * (tier.gust + over.gust),
+        268435456,
+        4000000000,
+    )
+}
+
+// The loads on levels 1 to n.
+pub fn level_loads(n: usize, tiers: [Tier; 10], share: u64, factor: u64) -> [u64; 10]
+    requires { ⌜ (n ≤ 10) × (share ≤ 20) × (factor ≤ 1000) ⌝ }
+    requires { ⌜ ((i : ℕ) → i < n → TierFacts (getD (take n tiers) i noTier)) ⌝ }
+    ensures { λ r. ⌜ Loaded share factor n (take n tiers) r ⌝ }
+{
+    let mut loads = [0u64; 10];
+    let mut over = Thrust { push: 0, gust: 0 };
+    let mut i = n;
+    while 0 < i {
+        i -= 1;
+        let tier = thrust_of(tiers[i]);
+        loads[i] = level_load(share, factor, tier, over);
+        over = tier;
+    }
+    loads
+}
+
+// Mass × acceleration.
+fn lift(mass: u64, acceleration: u64) -> u64
+    requires { ⌜ (mass ≤ 30480) × (acceleration ≤ 3000) ⌝ }
+    ensures { λ r. ⌜ (r ≡ mass * acceleration) × (r ≤ 30480 * 3000) ⌝ }
+{
+    mass * acceleration
+}
+
+// Half of V, from mass × acceleration of the tiers above.
+fn half_weight(lifted: u64) -> u64
+    requires { ⌜ lifted ≤ 10 * (30480 * 3000) ⌝ }
+    ensures { λ r. ⌜ (r ≡ 981 * lifted * 2 ^ 18 / 400000) × (r ≤ 2 ^ 40) ⌝ }
+{
+    981 * lifted * 262144 / 400000
+}
+
+// Half of V above levels 0 to n, with A_Vmax and with A_Vmin.
+pub fn half_weights(n: usize, tiers: [Tier; 10]) -> HalfWeights
+    requires { ⌜ n ≤ 10 ⌝ }
+    requires { ⌜ ((i : ℕ) → i < n → TierFacts (getD (take n tiers) i noTier)) ⌝ }
+    ensures { λ r. ⌜ Weighed (take n tiers) r ⌝ }
+{
+    let mut most = [0u64; 11];
+    let mut least = [0u64; 11];
+    let mut most_lifted = 0;
+    let mut least_lifted = 0;
+    let mut i = n;
+    while 0 < i {
+        i -= 1;
+        let t = tiers[i];
+        most_lifted += lift(t.mass, t.avmax);
+        least_lifted += lift(t.mass, t.avmin);
+        most[i] = half_weight(most_lifted);
+        least[i] = half_weight(least_lifted);
+    }
+    HalfWeights {
+        most: most,
+        least: least,
+    }
+}

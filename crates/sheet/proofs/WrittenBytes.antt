@@ -1,0 +1,76 @@
+-- What is written of a sheet within its limits are bytes.
+use Prim.Native.Nat.{ℕ, zero, suc, _<_, _≤_}
+use mathlib.Core.List.{List, [], _∷_, _++_, flatMap}
+use mathlib.Core.Logic.{inl, inr}
+use native.Mathlib.Omega.{arith}
+use lib.ListN.{getD, take}
+use Rattle.sheet.specs.declared.Tier.{Tier}
+use Rattle.sheet.specs.declared.Lash.{Lash}
+use Rattle.sheet.specs.declared.Sheet.{Sheet}
+use Rattle.sheet.specs.Layout.{blankTier, blankLash}
+use Rattle.sheet.specs.Fits.{EndFits, Fits, lashAt}
+use Rattle.sheet.specs.Written.{headBytes, tierBytes, lashBytes, counted, written}
+use Rattle.sheet.proofs.Limits.{Box, TierLimits, tier-limits, LashLimits, lash-limits, lash-placed}
+
+abbrev Bytes : List ℕ → Type 0
+Bytes [] = Unit {0}
+Bytes (x ∷ s) = (x < 256) × Bytes s
+
+bytes-at : (s : List ℕ) → Bytes s → (i : ℕ) → getD s i 0 < 256
+bytes-at [] h i = omega arith
+bytes-at (x ∷ s) h zero = h .0
+bytes-at (x ∷ s) h (suc i) = bytes-at s (h .1) i
+
+join : (a b : List ℕ) → Bytes a → Bytes b → Bytes (a ++ b)
+join [] b h k = k
+join (x ∷ a) b h k = (h .0, join a b (h .1) k)
+
+each :
+    {A : Type 0} (bytes : A → List ℕ) (d : A) (l : List A) (n : ℕ) →
+    ((k : ℕ) → k < n → Bytes (bytes (getD l k d))) →
+    Bytes (flatMap bytes (take n l))
+unfolding flatMap
+each bytes d l zero h = tt
+each bytes d [] (suc n) h = tt
+each bytes d (x ∷ l) (suc n) h =
+    join (bytes x) (flatMap bytes (take n l)) (h 0 (omega arith)) (each bytes d l n (λ k q. h (suc k) (omega (arith, q))))
+
+tier-bytes : (t : Tier) → TierLimits t → Bytes (tierBytes t)
+tier-bytes t l = (size (l .box), (omega arith, omega (arith, l)))
+  where
+    size : Box (t .size) (t .height) → t .size < 256
+    size (inl e) = omega arith
+    size (inr e) = omega arith
+
+lash-bytes : (l : Lash) → LashLimits l → l .tier < 256 → Bytes (lashBytes l)
+lash-bytes l h t = omega arith
+
+end-bytes : (n : ℕ) (lashes : List Lash) (c : ℕ) → n ≤ 10 → EndFits n lashes c → Bytes (counted lashBytes c lashes)
+end-bytes n lashes c m f = (omega (arith, f .few), each lashBytes blankLash lashes c lash)
+  where
+    lash : (k : ℕ) → k < c → Bytes (lashBytes (lashAt lashes k))
+    lash k q =
+        let h = lash-limits (lashAt lashes k) (f .fits k q) in
+        let p = lash-placed n (lashAt lashes k) (f .placed k q) (h .hook) in
+        lash-bytes (lashAt lashes k) h (omega arith)
+
+pub written-bytes : (t : Sheet) → Fits t → (i : ℕ) → getD (written t) i 0 < 256
+unfolding written
+written-bytes t f =
+    let tb = counted tierBytes (t .ntiers) (t .tiers) in
+    let db = counted lashBytes (t .ndoor) (t .door) in
+    let cb = counted lashBytes (t .nclosed) (t .closed) in
+    bytes-at (written t)
+    (join (headBytes (t .head)) (tb ++ (db ++ cb)) head
+    (join tb (db ++ cb) tiers
+    (join db cb (end-bytes (t .ntiers) (t .door) (t .ndoor) (f .few) (f .door))
+    (end-bytes (t .ntiers) (t .closed) (t .nclosed) (f .few) (f .closed)))))
+  where
+    head : Bytes (headBytes (t .head))
+    head = omega (arith, f)
+
+    tiers : Bytes (counted tierBytes (t .ntiers) (t .tiers))
+    tiers = (
+      omega (arith, f .few),
+      each tierBytes blankTier (t .tiers) (t .ntiers) (λ k q. tier-bytes _ (tier-limits _ (f .tiers k q))),
+    )

@@ -1,0 +1,111 @@
+// A stack sheet: what its bytes hold, or why it is turned back. Entries of the arrays are counted from 0, bottom tier first.
+
+mod fields; // fields.rt: the fields and entries of a sheet, read from its bytes
+mod tests; // tests.rt: the tests of a sheet's items, in the order of reading
+
+ghost use mathlib.Core.Path.{_≡_};
+ghost use Prim.Native.Nat.{_<_, _≤_};
+ghost use Rattle.sheet.specs.Lashings.{lashingOf};
+ghost use Rattle.sheet.specs.Refusals.{decoded};
+ghost use Rattle.sheet.specs.Routes.{routePercent};
+
+// The head: rule number, route, lock material (0 ordinary steel, 1 higher strength, 2 nodular iron), a zero byte,
+// lock breaking load in N.
+pub struct Head {
+    pub rule: u64,
+    pub route: u64,
+    pub lock: u64,
+    pub zero: u64,
+    pub breaking: u64,
+}
+
+// A tier: size in feet, wind (0 sheltered, 1 exposed), height in mm, mass in kg; A_T, A_Vmax and A_Vmin in thousandths
+// of g.
+pub struct Tier {
+    pub size: u64,
+    pub wind: u64,
+    pub height: u64,
+    pub mass: u64,
+    pub at: u64,
+    pub avmax: u64,
+    pub avmin: u64,
+}
+
+// A lash: tier (from 1), hook (0 top corner, 1 bottom corner), kind (0 cross, 1 side), material (0 ordinary rod, 1 higher
+// strength rod, 2 wire, 3 chain); LX, LY, LZ in mm, area in mm², modulus in N/mm², breaking load in N.
+pub struct Lash {
+    pub tier: u64,
+    pub hook: u64,
+    pub kind: u64,
+    pub material: u64,
+    pub lx: u64,
+    pub ly: u64,
+    pub lz: u64,
+    pub area: u64,
+    pub modulus: u64,
+    pub breaking: u64,
+}
+
+// A decoded sheet. Entries of an array behind its count are blank.
+pub struct Sheet {
+    pub head: Head,
+    pub tiers: [Tier; 10],
+    pub ntiers: usize,
+    pub door: [Lash; 8],
+    pub ndoor: usize,
+    pub closed: [Lash; 8],
+    pub nclosed: usize,
+}
+
+// What comes of reading: the sheet is taken, or refused with a number of the table and its second number.
+pub enum Reading {
+    Taken,
+    Refused(u64, usize),
+}
+
+pub struct Decoded {
+    pub reading: Reading,
+    pub sheet: Sheet,
+}
+
+// A lash by its kind: a cross lash is on the lee corner, a side lash on the windward corner.
+pub enum Lashing {
+    Cross(Lash),
+    Side(Lash),
+}
+
+// The sheet that the bytes hold, or a blank one with the first fault.
+pub fn decode(s: &[u8]) -> Decoded
+    ensures { λ r. ⌜ r ≡ decoded (now (s .entry)) ⌝ }
+{
+    let reading = tests::test_sheet(s);
+    match reading {
+        Reading::Taken => Decoded {
+            reading: Reading::Taken,
+            sheet: fields::sheet_of(s),
+        },
+        Reading::Refused(number, second) => Decoded {
+            reading: Reading::Refused(number, second),
+            sheet: fields::blank_sheet(),
+        },
+    }
+}
+
+pub fn lashing_of(l: Lash) -> Lashing
+    ensures { λ r. ⌜ r ≡ lashingOf l ⌝ }
+{
+    if l.kind == 0 {
+        return Lashing::Cross(l);
+    }
+    Lashing::Side(l)
+}
+
+// Route factor percents (CR 5.2.4(c)).
+pub const ROUTE_PERCENT: [u64; 13] = [100, 87, 96, 95, 94, 100, 95, 73, 86, 90, 90, 73, 87];
+
+pub fn route_percent(route: u64) -> u64
+    requires { ⌜ route < 13 ⌝ }
+    ensures { λ r. ⌜ (r ≡ routePercent route) × (73 ≤ r) × (r ≤ 100) ⌝ }
+{
+    ROUTE_PERCENT[route as usize]
+}
