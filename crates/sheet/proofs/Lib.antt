@@ -3,6 +3,7 @@ pub mod Limits
 pub mod Taken
 pub mod Levels
 pub mod Refusal
+pub mod Routes
 pub mod FirstBytes
 pub mod RoundTrip
 pub mod WrittenBytes
@@ -13,5 +14,4 @@ mod Items
 mod Arrays
 mod Clear
 mod ReadBack
-mod Routes
 mod Examples
