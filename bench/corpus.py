@@ -3,7 +3,7 @@
 from dataclasses import dataclass
 from random import Random
 
-from reference import stacks
+from reference import samples
 from reference.sheet import CROSS, MOST_LASHES, MOST_TIERS, SIDE, TOP, Head, Sheet, pack, parse
 
 KIND_SHEETS = 400
@@ -22,9 +22,9 @@ class Group:
 
 def with_lashes(random, tier_count, door, closed):
     """A stack of forty-foot boxes with lashes at these places of its ends."""
-    tiers = stacks.realistic_tiers(random, 40, tier_count)
+    tiers = samples.realistic_tiers(random, 40, tier_count)
     ends = [
-        tuple(stacks.realistic_lash(random, tiers, 0, place, 490, 1) for place in places)
+        tuple(samples.realistic_lash(random, tiers, 0, place, 490, 1) for place in places)
         for places in (door, closed)
     ]
     return Sheet(HEAD, tiers, *ends)
@@ -37,7 +37,7 @@ def tall(random, count):
 
 def lashed(random, count):
     """A stack of ten tiers with this many lashes in all."""
-    places = stacks.hooks(LASHED_TIERS)
+    places = samples.hooks(LASHED_TIERS)
     halves = [sorted(random.sample(places, half)) for half in ((count + 1) // 2, count // 2)]
     return with_lashes(random, MOST_TIERS, *halves)
 
@@ -52,7 +52,7 @@ def group(varies, value, count, build):
 
 def groups():
     """Every group; its place in the list is its number in the file."""
-    found = [group("kind", build.__name__, KIND_SHEETS, build) for build in (stacks.realistic, stacks.extreme)]
+    found = [group("kind", build.__name__, KIND_SHEETS, build) for build in (samples.realistic, samples.extreme)]
     for count in range(1, MOST_TIERS + 1):
         found.append(group("tiers", count, GROWTH_SHEETS, lambda random, c=count: tall(random, c)))
     for count in range(2 * MOST_LASHES + 1):
