@@ -1,11 +1,11 @@
 -- What follows for a taken sheet from what `check` says: its answer's bytes, by themselves, tell the forces, the findings and the verdict.
 use mathlib.Core.Path.{_≡_, refl, sym, ap, ap₂, subst, _∙_}
-use mathlib.Core.Bool.{Bool, cond}
+use mathlib.Core.Bool.{cond}
 use mathlib.Core.List.{List, [], _∷_, _++_, map, flatMap, List·Memᴰ, List·Memᴰ·head, List·Memᴰ·tail}
 use Prim.Native.Nat.{ℕ, zero, suc, _+_, _-_, _≤_, _<_, _^_}
 use native.Mathlib.Omega.{arith}
 use lib.Dec.{ltb}
-use lib.IntN.{ℤ, pos, natAbs}
+use lib.IntN.{pos, natAbs}
 use lib.ListN.{getD, length, drop}
 use Rattle.arith.specs.Fractions.{Frac}
 use Rattle.sheet.specs.declared.Reading.{Reading}
@@ -18,7 +18,7 @@ use Rattle.sheet.proofs.Taken.{taken-fits}
 use Rattle.forces.specs.declared.EndFigures.{EndFigures}
 use Rattle.forces.specs.declared.Figures.{Figures}
 use Rattle.forces.specs.Ends.{End, door, closed, lashesOf, Settled}
-use Rattle.forces.specs.Reported.{Reported, ReportedRacking, EndReported, EndFigured}
+use Rattle.forces.specs.Reported.{EndReported}
 use Rattle.forces.proofs.Facts.{Facts}
 use Rattle.forces.proofs.Bounds.{racking-within}
 use Rattle.forces.proofs.Taken.{facts}
@@ -26,9 +26,9 @@ use Rattle.forces.proofs.Within.{reported-below}
 use Rattle.answer.specs.declared.Outcome.{Outcome}
 use Rattle.answer.specs.Findings.{Kind, racking, compression, cornerTension, lockTension, lashTension, lashVertical, lashAthwart, kinds, Finding, endCode, kindCode, figuresOf, firstIndex, indexCount, reportedSize, limitAt, findingsFrom, endFindings, findings, verdict}
 use Rattle.answer.specs.Answers.{upFrom, below, answerBytes}
-use Rattle.answer.specs.Checked.{OneSolution, Answered, CheckedAs, Checked}
-use Rattle.answer.specs.Places.{byteAt, entryPlace, compressionsFrom, tensionsFrom, lashesFrom, endPlace, findingsPlace, EndReadBack, FindingAt, noFinding, ReadBack, Signed, reportedIn, figuresIn, findingIn}
-use Rattle.answer.specs.Consequences.{CheckedAt, WithinLimits, Justified, Told}
+use Rattle.answer.specs.Checked.{Answered, CheckedAs, Checked}
+use Rattle.answer.specs.Places.{endPlace, EndReadBack, noFinding, ReadBack, Signed, reportedIn, figuresIn, findingIn}
+use Rattle.answer.specs.Consequences.{CheckedAt, Justified, Told}
 use Rattle.answer.proofs.Accepted as A
 use Rattle.answer.proofs.ReadBack as R
 

@@ -1,5 +1,5 @@
 -- The findings in bytes, kind by kind, against document 01's list of findings.
-use mathlib.Core.Path.{_≡_, refl, sym, ap, ap₂, subst, _∙_}
+use mathlib.Core.Path.{_≡_, refl, ap, ap₂, subst, _∙_}
 use mathlib.Core.Bool.{Bool, true, false, cond}
 use mathlib.Core.List.{List, [], _∷_, _++_, flatMap, append-assoc, append-nil}
 use Prim.Native.Nat.{ℕ, zero, suc, _+_, _*_, _-_, _/_, _<_, _≤_}
@@ -16,8 +16,8 @@ use Rattle.forces.specs.declared.Figures.{Figures}
 use Rattle.forces.specs.Ends.{End, door, closed, lashesOf}
 use Rattle.forces.specs.Reported.{noLash}
 use Rattle.answer.specs.Limits.{safeLoad}
-use Rattle.answer.specs.Findings.{Finding, Kind, racking, compression, cornerTension, lockTension, lashTension, lashVertical, lashAthwart, kinds, endCode, kindCode, figuresOf, firstIndex, indexCount, reportedSize, limitAt, findingsFrom, endFindings, findings}
-use Rattle.answer.specs.Answers.{upFrom, below, findingBytes}
+use Rattle.answer.specs.Findings.{Finding, Kind, racking, compression, cornerTension, lockTension, lashTension, lashVertical, lashAthwart, endCode, kindCode, figuresOf, firstIndex, indexCount, reportedSize, limitAt, findingsFrom, endFindings, findings}
+use Rattle.answer.specs.Answers.{upFrom, findingBytes}
 use Rattle.answer.specs.Steps.{Wrote, Sized, lashLimit, findingWhere, findingsOver, tierFindings, lashFindings, findingsBytes}
 use Rattle.answer.proofs.Stores.{in-front}
 
