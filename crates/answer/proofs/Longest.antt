@@ -48,4 +48,4 @@ module _ (t : Sheet) (f : Figures) where
     unfolding answerBytes
     answer-most =
         simp length-append
-        (omega (arith, end-length t door (f .door) 1, end-length t closed (f .closed) 1, findings-most, bytes-length (findings t f), lashes door, lashes closed))
+        (omega (arith, end-length t door (f .door), end-length t closed (f .closed), findings-most, bytes-length (findings t f), lashes door, lashes closed))
