@@ -80,7 +80,7 @@ module _ (e : End) (t : Sheet) (f : EndFigures) (k : Kind) where
       rw c
       (from-bytes (firstIndex k) n
       ∙ (rw z at (entries-from entry (firstIndex k) 0 n))
-      ∙ entries-same _ _ 0 n (λ j _ u. ap₂ (λ (x y : ℕ). findingWhere (endCode e) (kindCode k) (firstIndex k + j) x y) (h j (omega arith)) (g j (omega arith))))
+      ∙ over-same (endCode e) (kindCode k) (firstIndex k) n (λ j. reportedSize f k (firstIndex k + j)) size (λ j. limitAt e t k (firstIndex k + j)) limit h g)
 
 -- an end: kinds 1 to 7
 module _ (t : Sheet) (f : Figures) (e : End) (ls : List Lash) (m : ℕ) (few : length (lashesOf e t) ≡ m) (each : (j : ℕ) → j < m → getD (lashesOf e t) j noLash ≡ getD ls j noLash) where
