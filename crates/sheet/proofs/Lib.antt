@@ -4,6 +4,7 @@ pub mod Taken
 pub mod Levels
 pub mod Refusal
 pub mod FirstBytes
+pub mod Numbers
 pub mod RoundTrip
 pub mod WrittenBytes
 -- What they and the functions' proofs rest on.
