@@ -2,17 +2,17 @@
 use mathlib.Core.Path.{_≡_, refl, sym, ap, _∙_}
 use mathlib.Core.Bool.{cond}
 use mathlib.Core.List.{List, [], _∷_, _++_, flatMap}
-use Prim.Native.Nat.{ℕ, suc, _+_, _*_, _<_}
+use Prim.Native.Nat.{ℕ, _+_, _*_, _-_, _≤_}
 use native.Mathlib.Numerals.{add-one}
 use native.Mathlib.Omega.{arith}
 use borrow.Author.Tests.{eq-eqb, ne-eqb}
 use lib.Dec.{eqb}
-use lib.ListN.{length}
+use lib.ListN.{length, take, replicate, length-append, length-take, length-replicate}
 use lib.Seq.{sets}
+use Rattle.sheet.specs.declared.Lash.{Lash}
 use Rattle.sheet.specs.declared.Sheet.{Sheet}
-use Rattle.sheet.specs.Layout.{blankLash}
+use Rattle.sheet.specs.Layout.{blankLash, padded}
 use Rattle.sheet.specs.Fits.{Fits, Padded}
-use Rattle.sheet.proofs.Arrays.{full}
 use Rattle.forces.specs.declared.EndFigures.{EndFigures}
 use Rattle.forces.specs.declared.Figures.{Figures}
 use Rattle.forces.specs.Ends.{End, door, closed, lashesOf}
@@ -47,6 +47,14 @@ module _ (t : Sheet) (f : Figures) (s : Sized t) where
       rw (end-is t door (f .door) (t .ndoor) (s .door-lashes), end-is t closed (f .closed) (t .nclosed) (s .closed-lashes), ← u)
       (in-front v (then (then a b) d) e)
 
+-- an end has as many lashes as are counted
+lashes-full : (ls : List Lash) (n : ℕ) → ls ≡ padded 8 blankLash (take n ls) → n ≤ 8 → length (take n ls) ≡ n
+lashes-full ls n e h =
+    let short : length (take n ls) ≤ n = rw (length-take n ls) (omega arith) in
+    let rest = 8 - length (take n ls) in
+    let whole : length ls ≡ 8 = ap length e ∙ length-append (take n ls) (replicate rest blankLash) ∙ omega (arith, length-replicate rest blankLash) in
+    length-take n ls ∙ rw whole (omega arith)
+
 -- a sheet within document 01's limits, with its arrays blank behind the counts
 pub sized : (t : Sheet) → Fits t → Padded t → Sized t
 sized t f p =
@@ -54,6 +62,6 @@ sized t f p =
       tiers = f .few;
       door-few = f .door .few;
       closed-few = f .closed .few;
-      door-lashes = full 8 blankLash (t .door) (t .ndoor) (p .door) (f .door .few);
-      closed-lashes = full 8 blankLash (t .closed) (t .nclosed) (p .closed) (f .closed .few);
+      door-lashes = lashes-full (t .door) (t .ndoor) (p .door) (f .door .few);
+      closed-lashes = lashes-full (t .closed) (t .nclosed) (p .closed) (f .closed .few);
     }

@@ -57,7 +57,7 @@ module _ (s before : List ℕ) (d : Decoded) (is : d ≡ decoded s) where
     same = ap (λ (x : Decoded). x .sheet) is ∙ decoded-sheet s (reading-is e)
 
     pub taken-fits : Fits (d .sheet)
-    taken-fits = rw is (decoded-fits s (reading-is e))
+    taken-fits = decoded-fits s d is e
 
     pub taken-sized : Sized (d .sheet)
     taken-sized = sized (d .sheet) taken-fits (rw same (sheet-padded s))

