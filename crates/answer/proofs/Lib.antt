@@ -9,3 +9,4 @@ pub mod Longest
 pub mod Table
 pub mod CheckLaws
 pub mod Consequences
+pub mod Numbers
