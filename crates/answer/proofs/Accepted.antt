@@ -2,7 +2,7 @@
 use mathlib.Core.Path.{_≡_, refl, sym, ap, subst, _∙_}
 use mathlib.Core.Bool.{Bool, true, false, cond}
 use mathlib.Core.List.{List, [], _∷_, _++_, flatMap, List·Memᴰ, List·Memᴰ·head, List·Memᴰ·tail, List·Memᴰ·not-nil, List·Memᴰ·cases-cons, List·Memᴰ·append-cases}
-use mathlib.Core.Logic.{_⊎_, inl, inr, ⊎-elim}
+use mathlib.Core.Logic.{_⊎_, ⊎-elim}
 use Prim.Native.Nat.{ℕ, zero, suc, _+_, _-_, _≤_, _<_}
 use native.Mathlib.Nat.{eq-or-lt-of-le}
 use native.Mathlib.Omega.{arith}
@@ -17,7 +17,7 @@ use Rattle.arith.proofs.FractionsInRationals.{mk-int, of-⊏, to-⊏}
 use Rattle.sheet.specs.declared.Sheet.{Sheet}
 use Rattle.forces.specs.declared.EndFigures.{EndFigures}
 use Rattle.forces.specs.declared.Figures.{Figures}
-use Rattle.forces.specs.Ends.{End, door, closed, Settled}
+use Rattle.forces.specs.Ends.{End, door, closed}
 use Rattle.forces.specs.Reported.{Reported, EndReported, EndFigured}
 use Rattle.answer.specs.Findings.{Kind, racking, compression, cornerTension, lockTension, lashTension, lashVertical, lashAthwart, kinds, Finding, endCode, kindCode, figuresOf, firstIndex, indexCount, reportedSize, limitAt, exactForce, findingsFrom, endFindings, findings, verdict}
 use Rattle.answer.specs.Consequences.{CheckedAt, WithinLimits, Justified}

@@ -10,7 +10,7 @@ use Rattle.sheet.specs.declared.Decoded.{Decoded}
 use Rattle.sheet.specs.declared.Sheet.{Sheet}
 use Rattle.sheet.specs.Layout.{sheetOf}
 use Rattle.sheet.specs.Refusals.{decoded, refusal}
-use Rattle.sheet.specs.Fits.{Fits, Padded}
+use Rattle.sheet.specs.Fits.{Fits}
 use Rattle.sheet.proofs.Refusal.{decoded-sheet, sheet-refused, room-short, all-taken}
 use Rattle.sheet.proofs.Taken.{decoded-fits, sheet-padded}
 use Rattle.forces.specs.declared.Figures.{Figures}

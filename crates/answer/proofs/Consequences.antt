@@ -1,11 +1,11 @@
 -- What follows for a taken sheet from what `check` says: its answer's bytes, by themselves, tell the forces, the findings and the verdict.
 use mathlib.Core.Path.{_≡_, refl, sym, ap, ap₂, subst, _∙_}
-use mathlib.Core.Bool.{Bool, cond}
+use mathlib.Core.Bool.{cond}
 use mathlib.Core.List.{List, [], _∷_, _++_, map, flatMap, List·Memᴰ, List·Memᴰ·head, List·Memᴰ·tail}
 use Prim.Native.Nat.{ℕ, zero, suc, _+_, _-_, _≤_, _<_, _^_}
 use native.Mathlib.Omega.{arith}
 use lib.Dec.{ltb}
-use lib.IntN.{ℤ, pos, natAbs}
+use lib.IntN.{pos, natAbs}
 use lib.ListN.{getD, length, drop}
 use Rattle.arith.specs.Fractions.{Frac}
 use Rattle.sheet.specs.declared.Reading.{Reading}
@@ -18,7 +18,7 @@ use Rattle.sheet.proofs.Taken.{taken-fits}
 use Rattle.forces.specs.declared.EndFigures.{EndFigures}
 use Rattle.forces.specs.declared.Figures.{Figures}
 use Rattle.forces.specs.Ends.{End, door, closed, lashesOf, Settled}
-use Rattle.forces.specs.Reported.{Reported, ReportedRacking, EndReported, EndFigured}
+use Rattle.forces.specs.Reported.{EndReported}
 use Rattle.forces.proofs.Facts.{Facts}
 use Rattle.forces.proofs.Bounds.{racking-within}
 use Rattle.forces.proofs.Taken.{facts}
@@ -26,11 +26,12 @@ use Rattle.forces.proofs.Within.{reported-below}
 use Rattle.answer.specs.declared.Outcome.{Outcome}
 use Rattle.answer.specs.Findings.{Kind, racking, compression, cornerTension, lockTension, lashTension, lashVertical, lashAthwart, kinds, Finding, endCode, kindCode, figuresOf, firstIndex, indexCount, reportedSize, limitAt, findingsFrom, endFindings, findings, verdict}
 use Rattle.answer.specs.Answers.{upFrom, below, answerBytes}
-use Rattle.answer.specs.Checked.{OneSolution, Answered, CheckedAs, Checked}
-use Rattle.answer.specs.Places.{byteAt, entryPlace, compressionsFrom, tensionsFrom, lashesFrom, endPlace, findingsPlace, EndReadBack, FindingAt, noFinding, ReadBack, Signed, reportedIn, figuresIn, findingIn}
-use Rattle.answer.specs.Consequences.{CheckedAt, WithinLimits, Justified, Told}
+use Rattle.answer.specs.Checked.{Answered, CheckedAs, Checked}
+use Rattle.answer.specs.Places.{EndReadBack, noFinding, ReadBack, reportedIn, figuresIn}
+use Rattle.answer.specs.Consequences.{CheckedAt, Justified, Told}
 use Rattle.answer.proofs.Accepted as A
 use Rattle.answer.proofs.ReadBack as R
+use Rattle.answer.proofs.ReadBack.{Signed}
 
 -- entry i of a list made by index
 made-at : {A : Type 0} (g : ℕ → A) (d : A) (a n i : ℕ) → i < n → getD (map g (upFrom a n)) i d ≡ g (a + i)
@@ -94,7 +95,7 @@ module _ (t : Sheet) (f : Figures) (s : List ℕ) (b : ReadBack t f s) where
     abbrev back : EndFigures
     back = reportedIn t e s
 
-    abbrev rb : EndReadBack t e (figuresOf e f) s (endPlace t e)
+    abbrev rb : EndReadBack t e (figuresOf e f) s
     rb = b .ends e
 
     racking-back : (i : ℕ) → i < t .ntiers → getD (back .racking) i (pos 0) ≡ getD (figuresOf e f .racking) i (pos 0)
@@ -142,7 +143,7 @@ module _ (t : Sheet) (f : Figures) (s : List ℕ) (b : ReadBack t f s) where
       size door k i c = size-back door k i c
       size closed k i c = size-back closed k i c
 
-  end-ruled : (e : End) → EndReadBack t e (reportedIn t e s) s (endPlace t e)
+  end-ruled : (e : End) → EndReadBack t e (reportedIn t e s) s
   end-ruled e =
       record {
         rackings = rb e .rackings;
@@ -166,18 +167,9 @@ module _ (t : Sheet) (f : Figures) (s : List ℕ) (b : ReadBack t f s) where
         finding = rw same-findings (b .finding);
       }
     where
-      ends : (e : End) → EndReadBack t e (figuresOf e (figuresIn t s)) s (endPlace t e)
+      ends : (e : End) → EndReadBack t e (figuresOf e (figuresIn t s)) s
       ends door = end-ruled door
       ends closed = end-ruled closed
-
-  -- a finding read back is the list's
-  found-back : (k : ℕ) → k < length (findings t f) → getD (findings t f) k noFinding ≡ findingIn t s k
-  found-back k h =
-      let a = b .finding k h in
-      let x = sym (a .end) in
-      let y = sym (a .kind) in
-      let z = sym (a .index) in
-      λ i. record { end = x i; kind = y i; index = z i }
 
 -- what the bytes say of a taken sheet
 module _ {margin : ℕ} (few : margin ≤ 100) {t : Sheet} (facts : Facts t) {before after : List ℕ} {r : Outcome} (a : Answered margin t before after r) where
@@ -202,7 +194,7 @@ module _ {margin : ℕ} (few : margin ≤ 100) {t : Sheet} (facts : Facts t) {be
         found =
             λ k h.
             let g : k < length (findings t f) = rw (read-back .count) at h in
-            subst (λ (x : Finding). Justified margin t x) (found-back t f after read-back k g) (A.found t f (a .told) (getD (findings t f) k noFinding) (member (findings t f) k g));
+            subst (λ (x : Finding). Justified margin t x) (sym (read-back .finding k g)) (A.found t f (a .told) (getD (findings t f) k noFinding) (member (findings t f) k g));
       }
 
 -- where a check is not refused, its sheet is not

@@ -1,12 +1,14 @@
-pub mod Arrays
-pub mod Sizes
-pub mod Stores
-pub mod FindingLaws
-pub mod AnswerLaws
+-- Theorems for the reader and for the crates above.
+pub mod Table
 pub mod Accepted
 pub mod ReadBack
 pub mod Longest
-pub mod Table
-pub mod CheckLaws
-pub mod Consequences
 pub mod Numbers
+pub mod Consequences
+-- What they and the functions' proofs rest on.
+mod Arrays
+mod Sizes
+mod Stores
+mod FindingLaws
+mod AnswerLaws
+mod CheckLaws

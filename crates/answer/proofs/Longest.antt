@@ -1,7 +1,6 @@
 -- The longest answer: 128 findings, which fit their count's byte, and 834 bytes in all.
-use mathlib.Core.Path.{_≡_}
 use mathlib.Core.Bool.{Bool, true, false, cond}
-use mathlib.Core.List.{List, [], _∷_, _++_, flatMap}
+use mathlib.Core.List.{List, _∷_, flatMap}
 use Prim.Native.Nat.{ℕ, zero, suc, _+_, _*_, _≤_}
 use native.Mathlib.Omega.{arith}
 use lib.Dec.{ltb}
@@ -11,7 +10,7 @@ use Rattle.forces.specs.declared.EndFigures.{EndFigures}
 use Rattle.forces.specs.declared.Figures.{Figures}
 use Rattle.forces.specs.Ends.{End, door, closed, lashesOf}
 use Rattle.answer.specs.Findings.{Kind, racking, compression, cornerTension, lockTension, lashTension, lashVertical, lashAthwart, Finding, endCode, kindCode, figuresOf, limitAt, reportedSize, findingsFrom, endFindings, findings}
-use Rattle.answer.specs.Answers.{endBytes, findingBytes, answerBytes}
+use Rattle.answer.specs.Answers.{answerBytes}
 use Rattle.answer.proofs.FindingLaws.{bytes-length}
 use Rattle.answer.proofs.ReadBack.{end-length}
 
@@ -49,4 +48,4 @@ module _ (t : Sheet) (f : Figures) where
     unfolding answerBytes
     answer-most =
         simp length-append
-        (omega (arith, end-length t door (f .door) 1, end-length t closed (f .closed) 1, findings-most, bytes-length (findings t f), lashes door, lashes closed))
+        (omega (arith, end-length t door (f .door), end-length t closed (f .closed), findings-most, bytes-length (findings t f), lashes door, lashes closed))

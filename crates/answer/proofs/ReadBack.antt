@@ -1,7 +1,7 @@
 -- The numbers read back from an answer's bytes are the counts, figures, findings and verdict that they were written from.
-use mathlib.Core.Path.{_≡_, refl, sym, ap, ap₂, subst, _∙_}
+use mathlib.Core.Path.{_≡_, refl, sym, ap, ap₂, _∙_}
 use mathlib.Core.List.{List, [], _∷_, _++_, flatMap, append-assoc}
-use Prim.Native.Nat.{ℕ, zero, suc, _+_, _*_, _-_, _<_, _≤_, _^_}
+use Prim.Native.Nat.{ℕ, zero, suc, _+_, _*_, _-_, _<_, _^_}
 use native.Mathlib.Nat.{add-zero, zero-add}
 use native.Mathlib.Omega.{arith}
 use lib.IntN.{ℤ, pos, negsuc, natAbs}
@@ -17,7 +17,7 @@ use Rattle.forces.specs.Ends.{End, door, closed, lashesOf}
 use Rattle.forces.specs.Reported.{Fitting}
 use Rattle.answer.specs.Findings.{Finding, figuresOf, findings, verdict}
 use Rattle.answer.specs.Answers.{upFrom, below, counted, endBytes, findingBytes, answerBytes}
-use Rattle.answer.specs.Places.{byteAt, sectionSize, entryPlace, compressionsFrom, tensionsFrom, lashesFrom, endFrom, endPlace, findingsPlace, EndReadBack, FindingAt, noFinding, ReadBack, Signed}
+use Rattle.answer.specs.Places.{byteAt, sectionSize, entryPlace, endSize, endPlace, findingsPlace, compressionsPlace, tensionsPlace, lashesPlace, EndReadBack, noFinding, ReadBack}
 
 -- xs stands in l from `at` on
 record Stands (l : List ℕ) (at : ℕ) (xs : List ℕ) : Type 0 where
@@ -90,6 +90,10 @@ module _ (entry : ℕ → List ℕ) (size : ℕ) (wide : (i : ℕ) → length (e
         let e : 0 + i ≡ i = omega arith in
         rw e at (one-entry (at + 1) 0 n i h (behind n (flatMap entry (below n)) s))
 
+-- the rackings fit 32 bits in two's complement, as every i32 does
+pub record Signed (t : Sheet) (f : EndFigures) : Type 0 where
+  pub racking : (i : ℕ) → i < t .ntiers → natAbs (getD (f .racking) i (pos 0)) < 2 ^ 31
+
 fits-signed : (z : ℤ) → natAbs z < 2 ^ 31 → SFits w32 z
 fits-signed (pos n) h = record { sfits = omega arith }
 fits-signed (negsuc n) h = record { sfits = omega arith }
@@ -138,52 +142,58 @@ module _ (t : Sheet) (e : End) (f : EndFigures) where
   three-length =
       length-append two (counted n drawn) ∙ ap₂ (λ (x y : ℕ). x + y) two-length (section-length drawn 4 (λ i. refl) n)
 
-  pub end-length : (at : ℕ) → at + length (endBytes t e f) ≡ endFrom t e at
+  pub end-length : length (endBytes t e f) ≡ endSize t e
   unfolding endBytes
-  end-length at =
+  end-length =
       omega (arith, length-append three (counted m lashed), three-length, section-length lashed 12 (λ j. refl) m)
 
-  module _ {l : List ℕ} (at : ℕ) (fits : Fitting f) (two32 : Signed t f) (s : Stands l at (endBytes t e f)) where
+  module _ {l : List ℕ} (fits : Fitting f) (two32 : Signed t f) (s : Stands l (endPlace t e) (endBytes t e f)) where
+    abbrev at : ℕ
+    at = endPlace t e
+
     rackings-there : Stands l at (counted n racked)
     unfolding endBytes
     rackings-there = first-part (counted n racked) (counted (suc n) pressed) (first-part two (counted n drawn) (first-part three (counted m lashed) s))
 
-    compressions-there : Stands l (compressionsFrom t e at) (counted (suc n) pressed)
+    compressions-there : Stands l (compressionsPlace t e) (counted (suc n) pressed)
     unfolding endBytes
     compressions-there =
         rw (section-length racked 4 (λ i. refl) n) at
         (second-part (counted n racked) (counted (suc n) pressed) (first-part two (counted n drawn) (first-part three (counted m lashed) s)))
 
-    tensions-there : Stands l (tensionsFrom t e at) (counted n drawn)
+    tensions-there : Stands l (tensionsPlace t e) (counted n drawn)
     unfolding endBytes
     tensions-there =
-        let p : at + length two ≡ tensionsFrom t e at = omega (arith, two-length) in
+        let p : at + length two ≡ tensionsPlace t e = omega (arith, two-length) in
         rw p at (second-part two (counted n drawn) (first-part three (counted m lashed) s))
 
-    lashes-there : Stands l (lashesFrom t e at) (counted m lashed)
+    lashes-there : Stands l (lashesPlace t e) (counted m lashed)
     unfolding endBytes
     lashes-there =
-        let p : at + length three ≡ lashesFrom t e at = omega (arith, three-length) in
+        let p : at + length three ≡ lashesPlace t e = omega (arith, three-length) in
         rw p at (second-part three (counted m lashed) s)
 
-    end-back : EndReadBack t e f l at
+    end-back : EndReadBack t e f l
     end-back =
-        let lash = the-entry lashed 12 (λ j. refl) (lashesFrom t e at) m lashes-there in
+        let lash = the-entry lashed 12 (λ j. refl) (lashesPlace t e) m lashes-there in
         record {
           rackings = the-count racked 4 (λ i. refl) at n rackings-there;
           racking = λ i h. signed (getD (f .racking) i (pos 0)) (fits-signed _ (two32 .racking i h)) (the-entry racked 4 (λ i. refl) at n rackings-there i h);
-          compressions = the-count pressed 4 (λ i. refl) (compressionsFrom t e at) (suc n) compressions-there;
-          compression = λ i h. number (getD (f .compression) i 0) (fits .compression i) (the-entry pressed 4 (λ i. refl) (compressionsFrom t e at) (suc n) compressions-there i (omega arith));
-          tensions = the-count drawn 4 (λ i. refl) (tensionsFrom t e at) n tensions-there;
-          tension = λ i h. number (getD (f .tension) i 0) (fits .tension i) (the-entry drawn 4 (λ i. refl) (tensionsFrom t e at) n tensions-there i h);
-          lashes = the-count lashed 12 (λ j. refl) (lashesFrom t e at) m lashes-there;
+          compressions = the-count pressed 4 (λ i. refl) (compressionsPlace t e) (suc n) compressions-there;
+          compression = λ i h. number (getD (f .compression) i 0) (fits .compression i) (the-entry pressed 4 (λ i. refl) (compressionsPlace t e) (suc n) compressions-there i (omega arith));
+          tensions = the-count drawn 4 (λ i. refl) (tensionsPlace t e) n tensions-there;
+          tension = λ i h. number (getD (f .tension) i 0) (fits .tension i) (the-entry drawn 4 (λ i. refl) (tensionsPlace t e) n tensions-there i h);
+          lashes = the-count lashed 12 (λ j. refl) (lashesPlace t e) m lashes-there;
           pull = λ j h. number (getD (f .pull) j 0) (fits .pull j) (first-part (pulled j) (athwarted j) (first-part (pulled j ++ athwarted j) (raised j) (lash j h)));
           athwart = λ j h. number (getD (f .athwart) j 0) (fits .athwart j) (second-part (pulled j) (athwarted j) (first-part (pulled j ++ athwarted j) (raised j) (lash j h)));
           vertical = λ j h. number (getD (f .vertical) j 0) (fits .vertical j) (second-part (pulled j ++ athwarted j) (raised j) (lash j h));
         }
 
 -- findings, three bytes each
-one-finding : {l : List ℕ} (at k : ℕ) (xs : List Finding) → k < length xs → Stands l at (flatMap findingBytes xs) → FindingAt l (at + 3 * k) (getD xs k noFinding)
+abbrev findingFrom : List ℕ → ℕ → Finding
+findingFrom l p = record { end = byteAt l p; kind = byteAt l (p + 1); index = byteAt l (p + 2) }
+
+one-finding : {l : List ℕ} (at k : ℕ) (xs : List Finding) → k < length xs → Stands l at (flatMap findingBytes xs) → findingFrom l (at + 3 * k) ≡ getD xs k noFinding
 unfolding flatMap
 one-finding at k [] h s = absurd (none h)
   where
@@ -194,12 +204,10 @@ one-finding {l} at zero (x ∷ xs) h s =
     let g : at + 1 + 1 ≡ at + 2 = omega arith in
     let rest = flatMap findingBytes xs in
     let b = behind (x .end) (x .kind ∷ x .index ∷ rest) s in
-    rw e
-    (record {
-      end = first-byte (x .end) (x .kind ∷ x .index ∷ rest) s;
-      kind = first-byte (x .kind) (x .index ∷ rest) b;
-      index = rw g at (first-byte (x .index) rest (behind (x .kind) (x .index ∷ rest) b));
-    })
+    let first = first-byte (x .end) (x .kind ∷ x .index ∷ rest) s in
+    let second = first-byte (x .kind) (x .index ∷ rest) b in
+    let third = rw g at (first-byte (x .index) rest (behind (x .kind) (x .index ∷ rest) b)) in
+    rw e (λ i. record { end = first i; kind = second i; index = third i })
 one-finding {l} at (suc k) (x ∷ xs) h s =
     let e : at + 3 * suc k ≡ at + 3 + 3 * k = omega arith in
     rw e (one-finding (at + 3) k xs (omega arith) (second-part (findingBytes x) (flatMap findingBytes xs) s))
@@ -229,7 +237,7 @@ module _ (t : Sheet) (f : Figures) (fits : (e : End) → Fitting (figuresOf e f)
   door-there = second-part mark (endBytes t door (f .door)) ends-there
 
   front-length : length (mark ++ endBytes t door (f .door)) ≡ endPlace t closed
-  front-length = length-append mark (endBytes t door (f .door)) ∙ end-length t door (f .door) 1
+  front-length = length-append mark (endBytes t door (f .door)) ∙ ap (λ (k : ℕ). 1 + k) (end-length t door (f .door))
 
   closed-there : Stands s (endPlace t closed) (endBytes t closed (f .closed))
   closed-there =
@@ -238,12 +246,12 @@ module _ (t : Sheet) (f : Figures) (fits : (e : End) → Fitting (figuresOf e f)
 
   findings-there : Stands s (findingsPlace t) tail
   findings-there =
-      let p : 0 + length both ≡ findingsPlace t = zero-add _ ∙ length-append (mark ++ endBytes t door (f .door)) (endBytes t closed (f .closed)) ∙ ap (λ (k : ℕ). k + length (endBytes t closed (f .closed))) front-length ∙ end-length t closed (f .closed) (endPlace t closed) in
+      let p : 0 + length both ≡ findingsPlace t = zero-add _ ∙ length-append (mark ++ endBytes t door (f .door)) (endBytes t closed (f .closed)) ∙ ap₂ (λ (j k : ℕ). j + k) front-length (end-length t closed (f .closed)) in
       rw p at (second-part both tail all-there)
 
-  an-end : (e : End) → EndReadBack t e (figuresOf e f) s (endPlace t e)
-  an-end door = end-back t door (f .door) 1 (fits door) (two32 door) door-there
-  an-end closed = end-back t closed (f .closed) (endPlace t closed) (fits closed) (two32 closed) closed-there
+  an-end : (e : End) → EndReadBack t e (figuresOf e f) s
+  an-end door = end-back t door (f .door) (fits door) (two32 door) door-there
+  an-end closed = end-back t closed (f .closed) (fits closed) (two32 closed) closed-there
 
   -- the numbers read back
   pub read-back : ReadBack t f s

@@ -1,11 +1,11 @@
 -- Document 01's figures (a) to (j), computed from the definitions.
 use mathlib.Core.Path.{_≡_, refl, sym}
 use mathlib.Core.List.{List, [], _∷_}
-use Prim.Native.Nat.{ℕ, zero, suc, _+_, _*_, _≤_, _<_}
+use Prim.Native.Nat.{ℕ, zero, suc, _*_, _≤_, _<_}
 use native.Mathlib.Nat.{mul-le-mul}
 use native.Mathlib.Omega.{arith}
 use lib.Dec.{lit≤}
-use Rattle.arith.specs.Fractions.{Frac, nat, _+q_, _*q_, _/q_, recip, sumq, _≈_, _⊏_}
+use Rattle.arith.specs.Fractions.{Frac, nat, _/q_, recip, sumq, _≈_, _⊏_}
 use Rattle.arith.proofs.FractionLaws.{≈-trans, ≈⊑}
 use Rattle.arith.proofs.OrderedField.{⊑-⊏-trans}
 use Rattle.arith.specs.Roots.{Least}

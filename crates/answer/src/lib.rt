@@ -2,7 +2,7 @@
 
 mod encode; // encode.rt: the answer's bytes
 mod findings; // findings.rt: where a reported size exceeds its limit
-pub mod limits; // limits.rt: permissible loads
+mod limits; // limits.rt: permissible loads
 
 ghost use Rattle.answer.specs.Checked.{Checked, demanded, kept};
 use sheet::Reading;
