@@ -3,6 +3,7 @@ pub mod Limits
 pub mod Taken
 pub mod Levels
 pub mod Refusal
+pub mod Routes
 pub mod FirstBytes
 pub mod Numbers
 pub mod RoundTrip
@@ -14,5 +15,4 @@ mod Items
 mod Arrays
 mod Clear
 mod ReadBack
-mod Routes
 mod Examples
