@@ -5,6 +5,7 @@ pub mod Levels
 pub mod Refusal
 pub mod Routes
 pub mod FirstBytes
+pub mod Numbers
 pub mod RoundTrip
 pub mod WrittenBytes
 -- What they and the functions' proofs rest on.
