@@ -198,7 +198,7 @@ module _ {margin : ℕ} (few : margin ≤ 100) {t : Sheet} (facts : Facts t) {be
       }
 
 -- where a check is not refused, its sheet is not
-sheet-taken : (s : List ℕ) (room : ℕ) → refusal s room ≡ Taken → first (sheetRows s) ≡ Taken
+pub sheet-taken : (s : List ℕ) (room : ℕ) → refusal s room ≡ Taken → first (sheetRows s) ≡ Taken
 unfolding refusal
 sheet-taken s room e = go (first (sheetRows s)) (sym (first-append (sheetRows s) (row13 room ∷ [])) ∙ e)
   where

@@ -3,6 +3,7 @@ pub mod Table
 pub mod Accepted
 pub mod ReadBack
 pub mod Longest
+pub mod Numbers
 pub mod Consequences
 -- What they and the functions' proofs rest on.
 mod Arrays

@@ -3,7 +3,9 @@ pub mod Limits
 pub mod Taken
 pub mod Levels
 pub mod Refusal
+pub mod Routes
 pub mod FirstBytes
+pub mod Numbers
 pub mod RoundTrip
 pub mod WrittenBytes
 -- What they and the functions' proofs rest on.
@@ -13,5 +15,4 @@ mod Items
 mod Arrays
 mod Clear
 mod ReadBack
-mod Routes
 mod Examples
