@@ -2,3 +2,4 @@
 pub mod FirstBytes
 -- What the proofs of the functions rest on.
 mod Text
+mod Outcomes
