@@ -9,7 +9,6 @@ use borrow.Author.Tests.{le-leb, lt-leb, eq-eqb, ne-eqb}
 use lib.Dec.{leb, eqb}
 use lib.IntN.{pos, _+ℤ_, _*ℤ_}
 use lib.ListN.{length, getD, take, drop, replicate, length-drop, getD-replicate}
-use lib.Seq.{length-take-le}
 use Rattle.springs.specs.Promise.{Solvable, Promised}
 use Rattle.sheet.specs.declared.Tier.{Tier}
 use Rattle.sheet.specs.declared.Lash.{Lash}
@@ -100,43 +99,73 @@ facts-ten h f =
       inside = omega (arith, f .inside);
     }
 
-module _ (n : ℕ) (k : List ℕ) (tiers : List Tier) (m : ℕ) (lashes : List Lash) (ω : List ℕ) (w : HalfWeights)
-    (h : Workable n k (take n tiers) m (take m lashes) ω w) (eight : length lashes ≡ 8) where
-  abbrev ls : List Lash
-  ls = take m lashes
-
-  counted : length ls ≡ m
-  counted = length-take-le m lashes (omega (arith, h .few-lashes))
-
+module _ {n : ℕ} {k : List ℕ} {ts : List Tier} {m : ℕ} {ls : List Lash} {ω : List ℕ} {w : HalfWeights}
+    (h : Workable n k ts m ls ω w) (counted : length ls ≡ m) where
   pub each-ten : (j : ℕ) → j < m → LashFacts 10 (getD ls j noLash)
-  each-ten j q = facts-ten (h .few) (h .each j (omega (arith, counted)))
+  each-ten j q = facts-ten (h .few) (h .each j (omega arith))
 
-  pub end-solvable : (g : Gear) → Geared m ls g → Solvable n k (g .level) ω
-  end-solvable g s =
+  pub end-solvable : {g : Gear} → Geared m ls g → Solvable n k (g .level) ω
+  end-solvable s =
       record {
         few = h .few;
         springs = h .springs;
-        held =
-            λ i q. rw (s .held i)
-            (omega (arith, level-most n ls (record { at = h .each }) (suc i), h .at-level (suc i)));
+        held = λ i q. rw (s .held i) (omega (arith, level-most n ls (record { at = h .each }) (suc i), h .at-level (suc i)));
         loaded = h .loaded;
       }
 
-  module _ (g : Gear) (d : List ℕ) (p : Pulls) (s : Geared m ls g) (o : Promised n k (g .level) ω d) (u : Pulled m ls d p) where
-    pub end-measured : Measured n k (take n tiers) d (w .most) (w .least) (p .lee) (p .windward)
-    end-measured =
-        record {
-          few = h .few;
-          springs = λ i q. h .springs i q .1;
-          heights = h .heights;
-          shifts = o .far;
-          most-light = h .weighed .most-light;
-          least-light = h .weighed .least-light;
-          lee-small = u .lee-small;
-          windward-small = u .windward-small;
-        }
+  pub end-measured :
+      {κ d : List ℕ} {p : Pulls} →
+      Promised n k κ ω d →
+      Pulled m ls d p →
+      Measured n k ts d (w .most) (w .least) (p .lee) (p .windward)
+  end-measured o u =
+      record {
+        few = h .few;
+        springs = λ i q. h .springs i q .1;
+        heights = h .heights;
+        shifts = o .far;
+        most-light = h .weighed .most-light;
+        least-light = h .weighed .least-light;
+        lee-small = u .lee-small;
+        windward-small = u .windward-small;
+        lee-long = u .lee-long;
+        windward-long = u .windward-long;
+      }
 
-    module _ (v : LevelFigures) (l : Levelled n k (take n tiers) d (w .most) (w .least) (p .lee) (p .windward) v) where
+  pub end-worked :
+      {g : Gear} {d : List ℕ} {p : Pulls} {v : LevelFigures} →
+      Geared m ls g →
+      Promised n k (g .level) ω d →
+      Pulled m ls d p →
+      Levelled n k ts d (w .most) (w .least) (p .lee) (p .windward) v →
+      EndWorked n k ts ls ω
+      (record {
+        racking = v .racking;
+        compression = v .compression;
+        tension = v .tension;
+        pull = p .pull;
+        athwart = p .athwart;
+        vertical = p .vertical;
+      })
+  end-worked {g} {d} {p} s o u l =
+      record {
+        κ = g .level;
+        d = d;
+        held = λ i q. s .held i;
+        promised = o;
+        racking = l .racking;
+        compression =
+            refilled (λ i q. let e = lees i (omega arith) in let f = windwards i (omega arith) in rw (h .weighed .most i, e, f) refl)
+            (l .compression);
+        tension =
+            refilled
+            (λ i q. let e = lees (suc i) (omega arith) in let f = windwards (suc i) (omega arith) in rw (h .weighed .least i, e, f) refl)
+            (l .tension);
+        pull = rw counted (u .pull);
+        athwart = rw counted (u .athwart);
+        vertical = rw counted (u .vertical);
+      }
+    where
       under : (j : ℕ) → j < length ls → hookLevel (getD ls j noLash) ≤ n
       under j q = h .each j q .inside
 
@@ -145,35 +174,6 @@ module _ (n : ℕ) (k : List ℕ) (tiers : List Tier) (m : ℕ) (lashes : List L
 
       windwards : (i : ℕ) → i ≤ suc n → total (drop i (take (suc n) (p .windward))) ≡ upwards windwardPart (λ l. leb i (hookLevel l)) d ls
       windwards = sum-from windwardPart n d ls (p .windward) (omega (arith, h .few, u .windward-long)) under (u .windward)
-
-      pub end-worked :
-          EndWorked n k (take n tiers) ls ω
-          (record { racking = v .racking; compression = v .compression; tension = v .tension; pull = p .pull; athwart = p .athwart; vertical = p .vertical })
-      end-worked =
-          record {
-            κ = g .level;
-            d = d;
-            held = λ i q. s .held i;
-            promised = o;
-            racking = l .racking;
-            compression =
-                refilled
-                (λ i q.
-                let e = lees i (omega arith) in
-                let f = windwards i (omega arith) in
-                rw (h .weighed .most i, e, f) refl)
-                (l .compression);
-            tension =
-                refilled
-                (λ i q.
-                let e = lees (suc i) (omega arith) in
-                let f = windwards (suc i) (omega arith) in
-                rw (h .weighed .least i, e, f) refl)
-                (l .tension);
-            pull = rw counted (u .pull);
-            athwart = rw counted (u .athwart);
-            vertical = rw counted (u .vertical);
-          }
 
 -- the springs of an end, and that its figures may be computed
 abbrev pub springs : End → List ℕ
@@ -209,7 +209,7 @@ moment-same K n k d same (t ∷ ts) i h =
     ap₂ (λ x y. pos (t .height) *ℤ rackingPart x d i +ℤ y) (same i (omega arith)) (moment-same K n k d same ts (suc i) (omega arith))
 
 -- the figures of an end of a sheet
-module _ (share factor : ℕ) (e : End) (t : Sheet) (k ω : List ℕ) (f : EndFigures) (stacked : length (tiersOf t) ≡ t .ntiers)
+module _ {share factor : ℕ} (e : End) (t : Sheet) {k ω : List ℕ} {f : EndFigures} (stacked : length (tiersOf t) ≡ t .ntiers)
     (same : (i : ℕ) → i < t .ntiers → getD k i 0 ≡ springOf e)
     (l : Loaded share factor (t .ntiers) (tiersOf t) ω)
     (w : EndWorked (t .ntiers) k (tiersOf t) (lashesOf e t) ω f) where

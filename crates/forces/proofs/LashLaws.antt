@@ -8,7 +8,7 @@ use Rattle.forces.specs.Facts.{LashFacts}
 use Rattle.forces.specs.Lashes.{lashLength}
 use Rattle.forces.proofs.LashLength.{squares, length-least}
 
-module _ {n : ℕ} (l : Lash) (f : LashFacts n l) where
+module _ {n : ℕ} {l : Lash} (f : LashFacts n l) where
   pub length-most : lashLength l ≤ 22913
   length-most = length-least l .least 22913 (omega (arith, mul-le-mul (f .lx) (f .lx), mul-le-mul (f .ly-most) (f .ly-most), mul-le-mul (f .lz-most) (f .lz-most)))
 
@@ -19,7 +19,7 @@ module _ {n : ℕ} (l : Lash) (f : LashFacts n l) where
   length-ly = omega (arith, short (lashLength l) (length-least l .enough))
 
   -- the steps to the stiffness
-  module _ (L : ℕ) (e : L ≡ lashLength l) where
+  module _ {L : ℕ} (e : L ≡ lashLength l) where
     pub force-le : l .modulus * l .area ≤ 200000 * 1000
     force-le = mul-le-mul (f .modulus-most) (f .area-most)
 
@@ -54,7 +54,7 @@ module _ {n : ℕ} (l : Lash) (f : LashFacts n l) where
         div-le-of-le-mul (L * L * L) (omega (arith, h, cube-least))
 
 -- the athwart part
-module _ (k s : ℕ) (hk : k ≤ 155000 * 2 ^ 22) (hs : s ≤ 2 ^ 40) where
+module _ {k s : ℕ} (hk : k ≤ 155000 * 2 ^ 22) (hs : s ≤ 2 ^ 40) where
   pub by-quotient : k * (s / 4194304 + 1) ≤ 155000 * 2 ^ 22 * (2 ^ 18 + 1)
   by-quotient =
       let h : s / 4194304 + 1 ≤ 2 ^ 18 + 1 = omega arith in
@@ -64,8 +64,8 @@ module _ (k s : ℕ) (hk : k ≤ 155000 * 2 ^ 22) (hs : s ≤ 2 ^ 40) where
   part-le = omega (arith, mul-le-mul hk hs)
 
 -- the vertical part
-pub upward-le : (part ly lz : ℕ) → part ≤ 2 ^ 48 → 500 ≤ ly → lz ≤ 20000 → part * lz / ly ≤ 2 ^ 54
-upward-le part ly lz hp hy hz =
+pub upward-le : {part ly lz : ℕ} → part ≤ 2 ^ 48 → 500 ≤ ly → lz ≤ 20000 → part * lz / ly ≤ 2 ^ 54
+upward-le {part} {ly} {lz} hp hy hz =
     let h : lz ≤ 40 * ly = omega arith in
     let q : part * lz / ly ≤ 40 * part = div-le-of-le-mul ly (omega (arith, mul-le-mul-left part h)) in
     omega arith

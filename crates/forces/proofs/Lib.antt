@@ -42,6 +42,7 @@ pub mod LoadLaws
 pub mod LashLaws
 pub mod Tallies
 pub mod LashLoops
+pub mod Words
 pub mod LevelLaws
 pub mod Descent
 pub mod EndLaws

@@ -85,6 +85,8 @@ pub record Measured (n : ℕ) (k : List ℕ) (ts : List Tier) (d most least lee 
   pub least-light : (i : ℕ) → getD least i 0 ≤ 2 ^ 40
   pub lee-small : (i : ℕ) → getD lee i 0 ≤ 2 ^ 58
   pub windward-small : (i : ℕ) → getD windward i 0 ≤ 2 ^ 58
+  pub lee-long : length lee ≡ 11
+  pub windward-long : length windward ≡ 11
 
 module _ (n : ℕ) (k : List ℕ) (ts : List Tier) (d most least lee windward : List ℕ) where
   abbrev pub compressionAt : ℕ → ℕ

@@ -1,16 +1,17 @@
 // Lashes: their lengths and stiffnesses, and their forces at the shifts of the levels. Scales are those of specs/Fixed.antt.
 
 ghost use mathlib.Core.Path.{_≡_};
-ghost use Prim.Native.Nat.{ℕ, _+_, _*_, _-_, _/_, _<_, _≤_, _^_};
+ghost use Prim.Native.Nat.{ℕ, _+_, _*_, _/_, _<_, _≤_, _^_};
 ghost use lib.ListN.{take, getD};
 ghost use Rattle.forces.specs.Facts.{LashFacts};
 ghost use Rattle.forces.specs.Lashes.{hookLevel, lashLength};
 ghost use Rattle.forces.specs.Reported.{noLash};
-ghost use Rattle.forces.specs.Fixed.{ceil, stiffnessOf, leePart, windwardPart};
+ghost use Rattle.forces.specs.Fixed.{ceil, lashPad, stiffnessOf, leePart, windwardPart};
 ghost use Rattle.forces.specs.Steps.{Geared, Pulled};
 use crate::Gear;
+use crate::NEWTON;
+use crate::PostParts;
 use crate::Pulls;
-use crate::Uplift;
 use arith::roots::length;
 use arith::rounding::ceil_div;
 use arith::rounding::scaled_twice;
@@ -18,6 +19,9 @@ use arith::rounding::split_product;
 use sheet::Lash;
 use sheet::Lashing;
 use sheet::lashing_of;
+
+// What one lash's athwart part may lack: 0.131 N.
+const LASH_PAD: u64 = 34336;
 
 // The level that a lash is hooked at.
 fn hook_level(l: Lash) -> usize
@@ -83,10 +87,10 @@ fn part_of(stiffness: u64, shift: u64) -> u64
 
 // A padded athwart part × a side / LY, in N upwards.
 fn figure_along(padded: u64, side: u64, ly: u64) -> u64
-    requires { ⌜ (padded ≤ 2 ^ 48 + 34336) × (side ≤ 22913) × (500 ≤ ly) ⌝ }
+    requires { ⌜ (padded ≤ 2 ^ 48 + lashPad) × (side ≤ 22913) × (500 ≤ ly) ⌝ }
     ensures { λ r. ⌜ r ≡ ceil (ceil (padded * side) ly) (2 ^ 18) ⌝ }
 {
-    ceil_div(ceil_div(padded * side, ly), 262144)
+    ceil_div(ceil_div(padded * side, ly), NEWTON)
 }
 
 // The vertical part, from the athwart part.
@@ -107,31 +111,31 @@ struct Pull {
 
 fn pull_of(l: Lash, length: u64, stiffness: u64, shift: u64) -> Pull
     requires { ⌜ LashFacts 10 l × (length ≡ lashLength l) × (stiffness ≡ stiffnessOf l) × (shift ≤ 2 ^ 40) ⌝ }
-    ensures { λ r. ⌜ r .pull ≡ ceil (ceil ((stiffnessOf l * shift / 2 ^ 32 + 34336) * lashLength l) (l .ly)) (2 ^ 18) ⌝ }
-    ensures { λ r. ⌜ r .athwart ≡ ceil (stiffnessOf l * shift / 2 ^ 32 + 34336) (2 ^ 18) ⌝ }
-    ensures { λ r. ⌜ r .vertical ≡ ceil (ceil ((stiffnessOf l * shift / 2 ^ 32 + 34336) * l .lz) (l .ly)) (2 ^ 18) ⌝ }
+    ensures { λ r. ⌜ r .pull ≡ ceil (ceil ((stiffnessOf l * shift / 2 ^ 32 + lashPad) * lashLength l) (l .ly)) (2 ^ 18) ⌝ }
+    ensures { λ r. ⌜ r .athwart ≡ ceil (stiffnessOf l * shift / 2 ^ 32 + lashPad) (2 ^ 18) ⌝ }
+    ensures { λ r. ⌜ r .vertical ≡ ceil (ceil ((stiffnessOf l * shift / 2 ^ 32 + lashPad) * l .lz) (l .ly)) (2 ^ 18) ⌝ }
     ensures { λ r. ⌜ (r .upward ≡ stiffnessOf l * shift / 2 ^ 32 * l .lz / l .ly) × (r .upward ≤ 2 ^ 54) ⌝ }
 {
     let part = part_of(stiffness, shift);
-    let padded = part + 34336;
+    let padded = part + LASH_PAD;
     Pull {
         pull: figure_along(padded, length, l.ly),
-        athwart: ceil_div(padded, 262144),
+        athwart: ceil_div(padded, NEWTON),
         vertical: figure_along(padded, l.lz, l.ly),
         upward: upward_of(part, l.ly, l.lz),
     }
 }
 
 // The vertical part of a lash on its post: of a cross lash on the lee post, of a side lash on the windward post.
-fn on_posts(l: Lashing, upward: u64) -> Uplift
+fn on_posts(l: Lashing, upward: u64) -> PostParts
     ensures { λ r. ⌜ (r .lee ≡ leePart l upward) × (r .windward ≡ windwardPart l upward) ⌝ }
 {
     match l {
-        Lashing::Cross(_) => Uplift {
+        Lashing::Cross(_) => PostParts {
             lee: upward,
             windward: 0,
         },
-        Lashing::Side(_) => Uplift {
+        Lashing::Side(_) => PostParts {
             lee: 0,
             windward: upward,
         },
@@ -144,8 +148,6 @@ pub fn lash_figures(lashes: [Lash; 8], m: usize, gear: Gear, d: [u64; 11]) -> Pu
     requires { ⌜ Geared m (take m lashes) gear × ((i : ℕ) → getD d i 0 ≤ 2 ^ 40) ⌝ }
     ensures { λ r. ⌜ Pulled m (take m lashes) d r ⌝ }
 {
-    let lengths = gear.length;
-    let stiffnesses = gear.stiffness;
     let mut pull = [0u64; 8];
     let mut athwart = [0u64; 8];
     let mut vertical = [0u64; 8];
@@ -155,7 +157,7 @@ pub fn lash_figures(lashes: [Lash; 8], m: usize, gear: Gear, d: [u64; 11]) -> Pu
     while j < m {
         let l = lashes[j];
         let at = hook_level(l);
-        let p = pull_of(l, lengths[j], stiffnesses[j], d[at]);
+        let p = pull_of(l, gear.length[j], gear.stiffness[j], d[at]);
         let u = on_posts(lashing_of(l), p.upward);
         pull[j] = p.pull;
         athwart[j] = p.athwart;
@@ -165,10 +167,10 @@ pub fn lash_figures(lashes: [Lash; 8], m: usize, gear: Gear, d: [u64; 11]) -> Pu
         j += 1;
     }
     Pulls {
-        pull: pull,
-        athwart: athwart,
-        vertical: vertical,
-        lee: lee,
-        windward: windward,
+        pull,
+        athwart,
+        vertical,
+        lee,
+        windward,
     }
 }

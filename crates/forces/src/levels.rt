@@ -1,17 +1,28 @@
 // Rackings of the tiers and forces on the posts, from the top level down. Scales are those of specs/Fixed.antt.
 
 ghost use mathlib.Core.Path.{_≡_};
-ghost use Prim.Native.Nat.{ℕ, _+_, _*_, _/_, _<_, _≤_, _^_, max};
-ghost use lib.IntN.{ℤ, pos, natAbs, negℤ, _+ℤ_, _-ℤ_, _*ℤ_};
+ghost use Prim.Native.Nat.{_+_, _*_, _≤_, _^_, max};
+ghost use lib.IntN.{pos, natAbs, negℤ, _+ℤ_, _-ℤ_, _*ℤ_};
 ghost use lib.ListN.{take};
 ghost use lib.Signed.{quotZ};
 ghost use Rattle.arith.specs.Sizes.{Small};
 ghost use Rattle.forces.specs.Fixed.{rackingFigure, postFigure, notBelow};
 ghost use Rattle.forces.specs.Steps.{compressed, tensed, Measured, Levelled};
+use crate::HalfWeights;
 use crate::LevelFigures;
-use crate::Uplift;
+use crate::NEWTON;
+use crate::PostParts;
+use crate::Pulls;
 use arith::rounding::ceil_div;
 use sheet::Tier;
+
+// What a racking and a post sum may lack: 0.26 N and 8.86 N.
+const RACKING_PAD: u64 = 68158;
+
+const POST_PAD: i64 = 2322596;
+
+// Post spacing, mm (CR Table 2-2).
+const POST_SPACING: i64 = 2259;
 
 // The racking of a tier of spring k, from the shifts of its upper and its lower level.
 fn racking_part(k: u64, upper: u64, lower: u64) -> i64
@@ -43,7 +54,7 @@ fn racking_figure(part: i64) -> i32
     requires { ⌜ Small (2 ^ 45) part ⌝ }
     ensures { λ r. ⌜ r ≡ rackingFigure part ⌝ }
 {
-    let newtons = ceil_div(size(part) + 68158, 262144) as i32;
+    let newtons = ceil_div(size(part) + RACKING_PAD, NEWTON) as i32;
     if part < 0 {
         return -newtons;
     }
@@ -74,38 +85,38 @@ fn post_figure(x: i64, y: i64) -> u64
     ensures { λ r. ⌜ r ≡ postFigure x y ⌝ }
 {
     ceil_div(
-        greater(not_below(x + 2322596), not_below(y + 2322596)),
-        262144,
+        greater(not_below(x + POST_PAD), not_below(y + POST_PAD)),
+        NEWTON,
     )
 }
 
 // The sum of a post: half the weight above, what the moment adds, and the vertical parts.
-fn post_sum(weight: u64, lean: i64, vertical: u64) -> i64
-    requires { ⌜ (weight ≤ 2 ^ 40) × Small (2 ^ 50) lean × (vertical ≤ 2 ^ 62) ⌝ }
-    ensures { λ r. ⌜ (r ≡ pos weight +ℤ lean +ℤ pos vertical) × Small (3 * 2 ^ 61) r ⌝ }
+fn post_sum(weight: u64, couple: i64, vertical: u64) -> i64
+    requires { ⌜ (weight ≤ 2 ^ 40) × Small (2 ^ 50) couple × (vertical ≤ 2 ^ 62) ⌝ }
+    ensures { λ r. ⌜ (r ≡ pos weight +ℤ couple +ℤ pos vertical) × Small (3 * 2 ^ 61) r ⌝ }
 {
-    (weight as i64) + lean + (vertical as i64)
+    (weight as i64) + couple + (vertical as i64)
 }
 
 // Compression at a level, from half the weight above it, the moment over the post spacing, and the vertical parts on the posts.
-fn compression(weight: u64, lean: i64, uplift: Uplift) -> u64
-    requires { ⌜ (weight ≤ 2 ^ 40) × Small (2 ^ 50) lean × (uplift .lee ≤ 2 ^ 62) × (uplift .windward ≤ 2 ^ 62) ⌝ }
-    ensures { λ r. ⌜ r ≡ postFigure (pos weight +ℤ lean +ℤ pos (uplift .lee)) (pos weight -ℤ lean +ℤ pos (uplift .windward)) ⌝ }
+fn compression_of(weight: u64, couple: i64, parts: PostParts) -> u64
+    requires { ⌜ (weight ≤ 2 ^ 40) × Small (2 ^ 50) couple × (parts .lee ≤ 2 ^ 62) × (parts .windward ≤ 2 ^ 62) ⌝ }
+    ensures { λ r. ⌜ r ≡ postFigure (pos weight +ℤ couple +ℤ pos (parts .lee)) (pos weight -ℤ couple +ℤ pos (parts .windward)) ⌝ }
 {
     post_figure(
-        post_sum(weight, lean, uplift.lee),
-        post_sum(weight, negative(lean), uplift.windward),
+        post_sum(weight, couple, parts.lee),
+        post_sum(weight, negative(couple), parts.windward),
     )
 }
 
 // Tension, from the same.
-fn tension(weight: u64, lean: i64, uplift: Uplift) -> u64
-    requires { ⌜ (weight ≤ 2 ^ 40) × Small (2 ^ 50) lean × (uplift .lee ≤ 2 ^ 62) × (uplift .windward ≤ 2 ^ 62) ⌝ }
-    ensures { λ r. ⌜ r ≡ postFigure (negℤ (pos weight +ℤ lean +ℤ pos (uplift .lee))) (negℤ (pos weight -ℤ lean +ℤ pos (uplift .windward))) ⌝ }
+fn tension_of(weight: u64, couple: i64, parts: PostParts) -> u64
+    requires { ⌜ (weight ≤ 2 ^ 40) × Small (2 ^ 50) couple × (parts .lee ≤ 2 ^ 62) × (parts .windward ≤ 2 ^ 62) ⌝ }
+    ensures { λ r. ⌜ r ≡ postFigure (negℤ (pos weight +ℤ couple +ℤ pos (parts .lee))) (negℤ (pos weight -ℤ couple +ℤ pos (parts .windward))) ⌝ }
 {
     post_figure(
-        negative(post_sum(weight, lean, uplift.lee)),
-        negative(post_sum(weight, negative(lean), uplift.windward)),
+        negative(post_sum(weight, couple, parts.lee)),
+        negative(post_sum(weight, negative(couple), parts.windward)),
     )
 }
 
@@ -118,17 +129,23 @@ fn moment_under(above: i64, part: i64, height: u64) -> i64
 }
 
 // A moment over the post spacing.
-fn lean_of(moment: i64) -> i64
+fn couple_of(moment: i64) -> i64
     requires { ⌜ Small (2 ^ 61) moment ⌝ }
     ensures { λ r. ⌜ (r ≡ quotZ moment (pos 2259)) × Small (2 ^ 50) r ⌝ }
 {
-    moment / 2259
+    moment / POST_SPACING
+}
+
+fn parts_of(lee: u64, windward: u64) -> PostParts
+    ensures { λ r. ⌜ (r .lee ≡ lee) × (r .windward ≡ windward) ⌝ }
+{
+    PostParts { lee, windward }
 }
 
 // What stands above a level: the moment of the tiers, and the vertical parts of the lashes at this level or above.
 struct Above {
     moment: i64,
-    uplift: Uplift,
+    parts: PostParts,
 }
 
 struct Level {
@@ -137,30 +154,30 @@ struct Level {
     tension: u64,
 }
 
-// The level under a tier of racking `part`, with lashes of its own.
-fn level_under(above: Above, part: i64, height: u64, own: Uplift, most: u64, least: u64) -> Level
+// The level under a tier of racking `part`, with the vertical parts of its own lashes.
+fn level_under(above: Above, part: i64, height: u64, own: PostParts, most: u64, least: u64) -> Level
     requires { ⌜ Small (2 ^ 60) (above .moment) × Small (2 ^ 45) part × (height ≤ 2896) ⌝ }
-    requires { ⌜ (above .uplift .lee ≤ 15 * 2 ^ 58) × (above .uplift .windward ≤ 15 * 2 ^ 58) ⌝ }
+    requires { ⌜ (above .parts .lee ≤ 15 * 2 ^ 58) × (above .parts .windward ≤ 15 * 2 ^ 58) ⌝ }
     requires { ⌜ (own .lee ≤ 2 ^ 58) × (own .windward ≤ 2 ^ 58) × (most ≤ 2 ^ 40) × (least ≤ 2 ^ 40) ⌝ }
     ensures { λ r. ⌜ r .above .moment ≡ pos height *ℤ part +ℤ above .moment ⌝ }
-    ensures { λ r. ⌜ (r .above .uplift .lee ≡ above .uplift .lee + own .lee) × (r .above .uplift .windward ≡ above .uplift .windward + own .windward) ⌝ }
-    ensures { λ r. ⌜ r .compression ≡ compressed most (pos height *ℤ part +ℤ above .moment) (above .uplift .lee + own .lee) (above .uplift .windward + own .windward) ⌝ }
-    ensures { λ r. ⌜ r .tension ≡ tensed least (pos height *ℤ part +ℤ above .moment) (above .uplift .lee) (above .uplift .windward) ⌝ }
+    ensures { λ r. ⌜ (r .above .parts .lee ≡ above .parts .lee + own .lee) × (r .above .parts .windward ≡ above .parts .windward + own .windward) ⌝ }
+    ensures { λ r. ⌜ r .compression ≡ compressed most (pos height *ℤ part +ℤ above .moment) (above .parts .lee + own .lee) (above .parts .windward + own .windward) ⌝ }
+    ensures { λ r. ⌜ r .tension ≡ tensed least (pos height *ℤ part +ℤ above .moment) (above .parts .lee) (above .parts .windward) ⌝ }
 {
     let moment = moment_under(above.moment, part, height);
-    let lean = lean_of(moment);
-    let over = above.uplift;
-    let uplift = Uplift {
+    let couple = couple_of(moment);
+    let over = above.parts;
+    let parts = PostParts {
         lee: over.lee + own.lee,
         windward: over.windward + own.windward,
     };
     Level {
         above: Above {
             moment: moment,
-            uplift: uplift,
+            parts: parts,
         },
-        compression: compression(most, lean, uplift),
-        tension: tension(least, lean, over),
+        compression: compression_of(most, couple, parts),
+        tension: tension_of(least, couple, over),
     }
 }
 
@@ -170,44 +187,37 @@ pub fn level_figures(
     k: [u64; 10],
     tiers: [Tier; 10],
     d: [u64; 11],
-    most: [u64; 11],
-    least: [u64; 11],
-    lee: [u64; 11],
-    windward: [u64; 11],
+    w: HalfWeights,
+    p: Pulls,
 ) -> LevelFigures
-    requires { ⌜ Measured n k (take n tiers) d most least lee windward ⌝ }
-    ensures { λ r. ⌜ Levelled n k (take n tiers) d most least lee windward r ⌝ }
+    requires { ⌜ Measured n k (take n tiers) d (w .most) (w .least) (p .lee) (p .windward) ⌝ }
+    ensures { λ r. ⌜ Levelled n k (take n tiers) d (w .most) (w .least) (p .lee) (p .windward) r ⌝ }
 {
     let mut racking = [0i32; 10];
-    let mut compressions = [0u64; 11];
-    let mut tensions = [0u64; 10];
+    let mut compression = [0u64; 11];
+    let mut tension = [0u64; 10];
+    let top = parts_of(p.lee[n], p.windward[n]);
+    compression[n] = compression_of(w.most[n], 0, top);
     let mut above = Above {
         moment: 0,
-        uplift: Uplift {
-            lee: lee[n],
-            windward: windward[n],
-        },
+        parts: top,
     };
-    compressions[n] = compression(most[n], 0, above.uplift);
     let mut i = n;
     while 0 < i {
         let upper = d[i];
         i -= 1;
         let t = tiers[i];
         let part = racking_part(k[i], upper, d[i]);
-        let own = Uplift {
-            lee: lee[i],
-            windward: windward[i],
-        };
-        let l = level_under(above, part, t.height, own, most[i], least[i]);
+        let own = parts_of(p.lee[i], p.windward[i]);
+        let l = level_under(above, part, t.height, own, w.most[i], w.least[i]);
         racking[i] = racking_figure(part);
-        compressions[i] = l.compression;
-        tensions[i] = l.tension;
+        compression[i] = l.compression;
+        tension[i] = l.tension;
         above = l.above;
     }
     LevelFigures {
-        racking: racking,
-        compression: compressions,
-        tension: tensions,
+        racking,
+        compression,
+        tension,
     }
 }

@@ -1,7 +1,6 @@
 // Every reported force of a stack: rackings, posts and lashes of both ends.
 
-ghost use mathlib.Core.Path.{_≡_};
-ghost use Prim.Native.Nat.{ℕ, _≤_};
+ghost use Prim.Native.Nat.{_≤_};
 ghost use lib.ListN.{take};
 ghost use Rattle.sheet.specs.Fits.{Fits};
 ghost use Rattle.forces.specs.Ends.{door, closed};
@@ -14,6 +13,17 @@ use sheet::Tier;
 mod loads; // loads.rt: the loads on the levels and the weights above them
 mod lashes; // lashes.rt: stiffnesses of lashes, and their forces
 mod levels; // levels.rt: rackings and posts, from the top level down
+
+// K of a tier at the door end and at the closed end, N/mm (CR Table 2-4).
+const DOOR_SPRING: u64 = 3730;
+
+const CLOSED_SPRING: u64 = 15690;
+
+// The share of F that a tier's own top takes by the class rule, in twentieths: 0.45.
+const CLASS_SHARE: u64 = 9;
+
+// 1 N in 2^-18 N.
+const NEWTON: u64 = 262144;
 
 // The figures of one end: racking per tier, compression per level from 0, tension per level from 0, and each lash's tension,
 // athwart and vertical part, all in N.
@@ -60,8 +70,8 @@ pub struct LevelFigures {
     pub tension: [u64; 10],
 }
 
-// Vertical parts on the two posts.
-pub struct Uplift {
+// Vertical parts of lashes on the two posts.
+pub struct PostParts {
     pub lee: u64,
     pub windward: u64,
 }
@@ -83,11 +93,7 @@ fn end_figures(
     let kappa = gear.level;
     let d = springs::solve(n, k, kappa, loads);
     let pulls = lashes::lash_figures(lashes, m, gear, d);
-    let most = weights.most;
-    let least = weights.least;
-    let lee = pulls.lee;
-    let windward = pulls.windward;
-    let levels = levels::level_figures(n, k, tiers, d, most, least, lee, windward);
+    let levels = levels::level_figures(n, k, tiers, d, weights, pulls);
     let racking = levels.racking;
     let compression = levels.compression;
     let tension = levels.tension;
@@ -95,12 +101,12 @@ fn end_figures(
     let athwart = pulls.athwart;
     let vertical = pulls.vertical;
     EndFigures {
-        racking: racking,
-        compression: compression,
-        tension: tension,
-        pull: pull,
-        athwart: athwart,
-        vertical: vertical,
+        racking,
+        compression,
+        tension,
+        pull,
+        athwart,
+        vertical,
     }
 }
 
@@ -116,8 +122,16 @@ pub fn figures_by(s: Sheet, share: u64, factor: u64) -> Figures
     let loads = loads::level_loads(n, tiers, share, factor);
     let weights = loads::half_weights(n, tiers);
     Figures {
-        door: end_figures(n, [3730u64; 10], tiers, door, s.ndoor, loads, weights),
-        closed: end_figures(n, [15690u64; 10], tiers, closed, s.nclosed, loads, weights),
+        door: end_figures(n, [DOOR_SPRING; 10], tiers, door, s.ndoor, loads, weights),
+        closed: end_figures(
+            n,
+            [CLOSED_SPRING; 10],
+            tiers,
+            closed,
+            s.nclosed,
+            loads,
+            weights,
+        ),
     }
 }
 
@@ -126,5 +140,5 @@ pub fn figures_of(s: Sheet) -> Figures
     requires { ⌜ Fits s ⌝ }
     ensures { λ r. ⌜ EndFigured 20 door s (r .door) × EndFigured 20 closed s (r .closed) ⌝ }
 {
-    figures_by(s, 9, 10 * sheet::route_percent(s.head.route))
+    figures_by(s, CLASS_SHARE, 10 * sheet::route_percent(s.head.route))
 }

@@ -1,33 +1,49 @@
 // The load on each level and half of the weight above it: the same for both ends. Scales are those of specs/Fixed.antt.
 
 ghost use mathlib.Core.Path.{_≡_};
-ghost use Prim.Native.Nat.{ℕ, suc, _+_, _*_, _-_, _/_, _<_, _≤_, _^_};
+ghost use Prim.Native.Nat.{ℕ, _+_, _*_, _-_, _/_, _<_, _≤_, _^_};
 ghost use lib.ListN.{take, getD};
 ghost use Rattle.forces.specs.Facts.{TierFacts};
 ghost use Rattle.forces.specs.Fixed.{noTier, push, gust};
+ghost use Rattle.forces.specs.Loads.{boxLength};
 ghost use Rattle.forces.specs.Steps.{Loaded, Weighed};
 use crate::HalfWeights;
+use crate::NEWTON;
 use arith::rounding::scaled;
 use sheet::Tier;
 
-// What a tier pushes with: mass × A_T, and the wind on it.
-struct Thrust {
-    push: u64,
-    gust: u64,
+// Length of a box of 20 feet and of 40 feet, mm (CR Table 2-1).
+const LENGTH_20: u64 = 6058;
+
+const LENGTH_40: u64 = 12192;
+
+// 1 N in 2^-28 N.
+const FINE_NEWTON: u64 = 268435456;
+
+fn box_length(t: Tier) -> u64
+    ensures { λ r. ⌜ (r ≡ boxLength t) × (r ≤ 12192) ⌝ }
+{
+    if t.size == 20 {
+        return LENGTH_20;
+    }
+    LENGTH_40
 }
 
-// 27 × length × height where the tier is exposed.
+// The wind on a tier: 27 × length × height where it is exposed.
 fn gust_of(t: Tier) -> u64
     requires { ⌜ TierFacts t ⌝ }
     ensures { λ r. ⌜ (r ≡ gust t) × (r ≤ 27 * 12192 * 2896) ⌝ }
 {
     if t.wind == 1 {
-        if t.size == 20 {
-            return 27 * 6058 * t.height;
-        }
-        return 27 * 12192 * t.height;
+        return 27 * box_length(t) * t.height;
     }
     0
+}
+
+// What a tier pushes with: mass × A_T, and the wind.
+struct Thrust {
+    push: u64,
+    gust: u64,
 }
 
 fn thrust_of(t: Tier) -> Thrust
@@ -40,7 +56,7 @@ fn thrust_of(t: Tier) -> Thrust
     }
 }
 
-// The load on the level between a tier and the tier over it: share in twentieths, factor in thousandths.
+// The load on the level between a tier and the tier over it: share in twentieths, factor in thousandths, all over 4,000,000,000 N.
 fn level_load(share: u64, factor: u64, tier: Thrust, over: Thrust) -> u64
     requires { ⌜ (share ≤ 20) × (factor ≤ 1000) ⌝ }
     requires { ⌜ (tier .push ≤ 30480 * 1500) × (tier .gust ≤ 27 * 12192 * 2896) ⌝ }
@@ -50,7 +66,7 @@ fn level_load(share: u64, factor: u64, tier: Thrust, over: Thrust) -> u64
     let shared = share * tier.push + (20 - share) * over.push;
     scaled(
         981 * factor * shared + 40000 * (tier.gust + over.gust),
-        268435456,
+        FINE_NEWTON,
         4000000000,
     )
 }
@@ -86,7 +102,7 @@ fn half_weight(lifted: u64) -> u64
     requires { ⌜ lifted ≤ 10 * (30480 * 3000) ⌝ }
     ensures { λ r. ⌜ (r ≡ 981 * lifted * 2 ^ 18 / 400000) × (r ≤ 2 ^ 40) ⌝ }
 {
-    981 * lifted * 262144 / 400000
+    981 * lifted * NEWTON / 400000
 }
 
 // Half of V above levels 0 to n, with A_Vmax and with A_Vmin.
@@ -108,8 +124,5 @@ pub fn half_weights(n: usize, tiers: [Tier; 10]) -> HalfWeights
         most[i] = half_weight(most_lifted);
         least[i] = half_weight(least_lifted);
     }
-    HalfWeights {
-        most: most,
-        least: least,
-    }
+    HalfWeights { most, least }
 }

@@ -1,6 +1,6 @@
 use Rattle.forces.specs.Ends.{door, closed}
 use Rattle.forces.proofs.Taken.{facts}
-use Rattle.forces.proofs.EndLaws.{springs, spring-at, workable, worked}
+use Rattle.forces.proofs.EndLaws.{spring-at, workable, worked}
 use Rattle.forces.proofs.figures_by.Statement.{statement}
 use Rattle.forces.proofs.figures_by.Tie as tie
 
@@ -29,8 +29,8 @@ returns c =
     let b = c .before .before .before .before .before .before .before in
     let h = facts (b .pre .0) in
     let l = c .before .before .before .level-loads .ensures in (
-      worked _ _ door (b .args .s) (springs door) _ _ (h .tiers) (spring-at h door) l (c .before .end-figures .ensures),
-      worked _ _ closed (b .args .s) (springs closed) _ _ (h .tiers) (spring-at h closed) l (c .end-figures2 .ensures),
+      worked door (b .args .s) (h .tiers) (spring-at h door) l (c .before .end-figures .ensures),
+      worked closed (b .args .s) (h .tiers) (spring-at h closed) l (c .end-figures2 .ensures),
     )
 
 pub figures-by-spec : {M : Type 1} → statement M

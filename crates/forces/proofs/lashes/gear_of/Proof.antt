@@ -1,27 +1,33 @@
+use mathlib.Core.Path.{_≡_}
+use lib.ListN.{getD, take}
+use lib.Seq.{getD-take}
+use Rattle.forces.proofs.LashLoops.{Listed, listed, Hung, hung-none, held-fits, hung-more, hung-all}
 use Prim.Native.Nat.{_-_}
 use native.Mathlib.Numerals.{add-one}
 use native.Mathlib.Omega.{arith}
-use lib.ListN.{getD}
 use Rattle.forces.specs.Facts.{LashFacts}
 use Rattle.forces.specs.Reported.{noLash}
 use borrow.Author.Needs.{needs}
-use Rattle.forces.proofs.LashLoops.{Hung, hung-none, facts, held-fits, hung-more, hung-all}
 use Rattle.forces.proofs.lashes.gear_of.Statement.{statement}
 use Rattle.forces.proofs.lashes.gear_of.Tie as tie
 
 abbrev Inv-loop : tie.InvT-loop
-Inv-loop m lashes lengths₀ stiffnesses₀ levels₀ j₀ lengths stiffnesses levels j = Hung m lashes lengths stiffnesses levels j
+Inv-loop m lashes lengths₀ stiffnesses₀ levels₀ j₀ lengths stiffnesses levels j = Hung m (take m lashes) lengths stiffnesses levels j
 
 abbrev μ-loop : tie.MeasureT-loop
 μ-loop m lashes lengths₀ stiffnesses₀ levels₀ j₀ lengths stiffnesses levels j = m - j
 
+lashes-of : (c : tie.Start Inv-loop μ-loop) → Listed (c .args .m) (take (c .args .m) (c .args .t1))
+lashes-of c = listed (c .args .t1) (c .good .0 .1 .0 .1) (c .pre)
+
+own : (c : tie.In-loop Inv-loop μ-loop) → getD (take (c .before .before .args .m) (c .before .before .args .t1)) (c .before .loop .j) noLash ≡ getD (c .before .before .args .t1) (c .before .loop .j) noLash
+own c = getD-take (c .before .before .args .m) (c .before .before .args .t1) (c .before .loop .j) noLash (c .loop-test .taken)
+
 lash-facts : (c : tie.In-loop Inv-loop μ-loop) → LashFacts 10 (getD (c .before .before .args .t1) (c .before .loop .j) noLash)
-lash-facts c =
-    let b = c .before .before in
-    facts (b .args .m) (b .args .t1) (b .pre .0) (b .good .0 .1 .0 .1) (b .pre .1) (c .before .loop .j) (c .loop-test .taken)
+lash-facts c = rw (own c) at (c .before .before .pre .1 (c .before .loop .j) (c .loop-test .taken))
 
 loop-holds : tie.Need-loop-holds Inv-loop μ-loop
-loop-holds c = hung-none (c .args .m) (c .args .t1)
+loop-holds c = hung-none
 
 mul-l : tie.Need-mul-l Inv-loop μ-loop
 mul-l c = search needs
@@ -63,9 +69,8 @@ add-levels : tie.Need-add-levels Inv-loop μ-loop
 add-levels c =
     let t = c .before .before .before .before in
     let l = t .before .loop in
-    let b = t .before .before in
     let h = c .hook-level .ensures in
-    record { fits = held-fits (b .args .m) (b .args .t1) (b .pre .0) (b .good .0 .1 .0 .1) (b .pre .1) (l .j) (t .loop-test .taken) (l .lengths) (l .stiffnesses) (l .levels) (l .inv) _ _ (c .hook-level .result - 1) (c .before .before .length-of .ensures) (c .before .stiffness-of .ensures) (omega (arith, h .0, h .1)) (omega (arith, h .1, h .2)) }
+    record { fits = held-fits (lashes-of (t .before .before)) (l .inv) (t .loop-test .taken) (own t) (c .before .stiffness-of .ensures) (omega (arith, h .0, h .1)) }
 
 mul-levels-2 : tie.Need-mul-levels-2 Inv-loop μ-loop
 mul-levels-2 c = search needs
@@ -83,15 +88,11 @@ loop-again : tie.Need-loop-again Inv-loop μ-loop
 loop-again c =
     let t = c .before .before .before .before in
     let l = t .before .loop in
-    let b = t .before .before in
     let h = c .hook-level .ensures in
-    rw (add-one (l .j)) (hung-more (b .args .m) (b .args .t1) (b .pre .0) (b .good .0 .1 .0 .1) (b .pre .1) (l .j) (t .loop-test .taken) (l .lengths) (l .stiffnesses) (l .levels) (l .inv) _ _ (c .hook-level .result - 1) (c .before .before .length-of .ensures) (c .before .stiffness-of .ensures) (omega (arith, h .0, h .1)) (omega (arith, h .1, h .2)))
+    rw (add-one (l .j)) (hung-more (lashes-of (t .before .before)) (l .inv) (t .loop-test .taken) (own t) (c .before .stiffness-of .ensures) (omega (arith, h .0, h .1)) (c .before .before .length-of .ensures) (omega (arith, h .1, h .2)))
 
 returns : tie.Need-returns Inv-loop μ-loop
-returns c =
-    let l = c .before .loop in
-    let b = c .before .before in
-    hung-all (b .args .m) (b .args .t1) (l .lengths) (l .stiffnesses) (l .levels) (l .j) (b .pre .0) (b .good .0 .1 .0 .1) (c .loop-test .left) (l .inv)
+returns c = hung-all (lashes-of (c .before .before)) (c .loop-test .left) (c .before .loop .inv)
 
 pub gear-of-spec : {M : Type 1} → statement M
 gear-of-spec =

@@ -1,33 +1,41 @@
+use borrow.Author.Needs.{needs}
 use Prim.Native.Nat.{_-_}
+use mathlib.Core.Path.{_≡_}
 use native.Mathlib.Numerals.{add-one}
 use native.Mathlib.Omega.{arith}
-use lib.ListN.{getD}
+use lib.ListN.{getD, take}
 use lib.Seq.{getD-take}
 use Rattle.forces.specs.Facts.{LashFacts}
-use Rattle.forces.specs.Reported.{noLash}
 use Rattle.forces.specs.Fixed.{leePart, windwardPart}
-use borrow.Author.Needs.{needs}
-use Rattle.forces.proofs.LashLoops.{Strained, strained-none, facts, post-fits, strained-more, strained-all, lee-kept, windward-kept}
+use Rattle.forces.specs.Reported.{noLash}
+use Rattle.forces.proofs.LashLoops.{Listed, listed, Strained, strained-none, post-fits, strained-more, strained-all, lee-kept, windward-kept}
 use Rattle.forces.proofs.lashes.lash_figures.Statement.{statement}
 use Rattle.forces.proofs.lashes.lash_figures.Tie as tie
 
 abbrev Inv-loop : tie.InvT-loop
-Inv-loop m lashes d lengths stiffnesses pull₀ athwart₀ vertical₀ lee₀ windward₀ j₀ pull athwart vertical lee windward j =
-    Strained m lashes d pull athwart vertical lee windward j
+Inv-loop m lashes gear d pull₀ athwart₀ vertical₀ lee₀ windward₀ j₀ pull athwart vertical lee windward j =
+    Strained m (take m lashes) d pull athwart vertical lee windward j
 
 abbrev μ-loop : tie.MeasureT-loop
-μ-loop m lashes d lengths stiffnesses pull₀ athwart₀ vertical₀ lee₀ windward₀ j₀ pull athwart vertical lee windward j =
+μ-loop m lashes gear d pull₀ athwart₀ vertical₀ lee₀ windward₀ j₀ pull athwart vertical lee windward j =
     m - j
 
-lash-facts : (c : tie.In-loop Inv-loop μ-loop) → LashFacts 10 (getD (c .before .before .before .before .args .t1) (c .before .loop .j) noLash)
-lash-facts c =
-    let b = c .before .before .before .before in
-    facts (b .args .m) (b .args .t1) (b .pre .0 .0) (b .good .0 .1 .0 .1) (b .pre .0 .1) (c .before .loop .j) (c .loop-test .taken)
+lashes-of : (c : tie.Start Inv-loop μ-loop) → Listed (c .args .m) (take (c .args .m) (c .args .t1))
+lashes-of c = listed (c .args .t1) (c .good .0 .1 .0 .1) (c .pre .0)
+
+own :
+    (c : tie.In-loop Inv-loop μ-loop) →
+    let a = c .before .before .args in
+    getD (take (a .m) (a .t1)) (c .before .loop .j) noLash ≡ getD (a .t1) (c .before .loop .j) noLash
+own c =
+    let a = c .before .before .args in
+    getD-take (a .m) (a .t1) (c .before .loop .j) noLash (c .loop-test .taken)
+
+lash-facts : (c : tie.In-loop Inv-loop μ-loop) → LashFacts 10 (getD (c .before .before .args .t1) (c .before .loop .j) noLash)
+lash-facts c = rw (own c) at (c .before .before .pre .0 .1 (c .before .loop .j) (c .loop-test .taken))
 
 loop-holds : tie.Need-loop-holds Inv-loop μ-loop
-loop-holds c =
-    let a = c .before .before .args in
-    strained-none (a .m) (a .t1) (a .t4)
+loop-holds c = strained-none
 
 mul-l : tie.Need-mul-l Inv-loop μ-loop
 mul-l c = search needs
@@ -41,29 +49,33 @@ hook-level-requires c κs = lash-facts (c .before)
 mul-pull-of : tie.Need-mul-pull-of Inv-loop μ-loop
 mul-pull-of c = search needs
 
-array-read-pull-of : tie.Need-array-read-pull-of Inv-loop μ-loop
-array-read-pull-of c = search needs
+element-copy-out-pull-of : tie.Need-element-copy-out-pull-of Inv-loop μ-loop
+element-copy-out-pull-of c = search needs
 
 mul-pull-of-2 : tie.Need-mul-pull-of-2 Inv-loop μ-loop
 mul-pull-of-2 c = search needs
 
-array-read-pull-of-2 : tie.Need-array-read-pull-of-2 Inv-loop μ-loop
-array-read-pull-of-2 c = search needs
+element-copy-out-pull-of-2 : tie.Need-element-copy-out-pull-of-2 Inv-loop μ-loop
+element-copy-out-pull-of-2 c = search needs
 
 mul-pull-of-3 : tie.Need-mul-pull-of-3 Inv-loop μ-loop
 mul-pull-of-3 c = search needs
 
-array-read-pull-of-3 : tie.Need-array-read-pull-of-3 Inv-loop μ-loop
-array-read-pull-of-3 c = search needs
+array-read-pull-of : tie.Need-array-read-pull-of Inv-loop μ-loop
+array-read-pull-of c = search needs
 
 pull-of-requires : tie.Need-pull-of-requires Inv-loop μ-loop
 pull-of-requires c κs =
-    let t = c .before .before in
-    let b = t .before .before .before .before in
+    let k = c .before .before in
+    let t = k .before .before in
+    let b = t .before .before in
     let j = t .before .loop .j in
-    let g = b .pre .1 .0 in
-    let e = getD-take (b .args .m) (b .args .t1) j noLash (t .loop-test .taken) in
-    (lash-facts t, rw e at (g .lengths j (t .loop-test .taken)), rw e at (g .stiff j (t .loop-test .taken)), b .pre .1 .1 (c .hook-level .result))
+    let g = b .pre .1 .0 in (
+      lash-facts t,
+      rw (own t) at (g .lengths j (t .loop-test .taken)),
+      rw (own t) at (g .stiff j (t .loop-test .taken)),
+      b .pre .1 .1 (k .hook-level .result),
+    )
 
 lashing-of-requires : tie.Need-lashing-of-requires Inv-loop μ-loop
 lashing-of-requires c κs = search needs
@@ -98,13 +110,15 @@ array-read-lee c = search needs
 add-lee : tie.Need-add-lee Inv-loop μ-loop
 add-lee c =
     let o = c .before in
-    let q = o .before .before .pull-of in
-    let k = o .before .before .before .hook-level in
-    let t = o .before .before .before .before .before in
+    let q = o .before .before in
+    let k = q .before .before .before in
+    let t = k .before .before in
     let l = t .before .loop in
-    let b = t .before .before .before .before in
+    let b = t .before .before in
+    let e = o .on-posts .ensures in
     let g = o .before .lashing-of .ensures in
-    rw (o .on-posts .ensures .0, g) (record { fits = post-fits (b .args .m) (b .args .t1) (b .args .t4) (b .pre .0 .0) (b .good .0 .1 .0 .1) (b .pre .0 .1) (b .pre .1 .1) (l .j) (t .loop-test .taken) (l .pull) (l .athwart) (l .vertical) (l .lee) (l .windward) (l .inv) (k .result) (k .ensures .0) (omega (arith, k .ensures .2)) (q .result .upward) (q .ensures .1 .1 .1 .0) leePart lee-kept (l .lee) (l .inv .lees) })
+    rw (e .0, g)
+    (record { fits = post-fits (lashes-of b) (b .pre .1 .1) (l .inv) (t .loop-test .taken) (own t) (k .hook-level .ensures .0) (q .pull-of .ensures .1 .1 .1 .0) leePart lee-kept (l .inv .lees) })
 
 mul-lee-2 : tie.Need-mul-lee-2 Inv-loop μ-loop
 mul-lee-2 c = search needs
@@ -121,13 +135,15 @@ array-read-windward c = search needs
 add-windward : tie.Need-add-windward Inv-loop μ-loop
 add-windward c =
     let o = c .before .before in
-    let q = o .before .before .pull-of in
-    let k = o .before .before .before .hook-level in
-    let t = o .before .before .before .before .before in
+    let q = o .before .before in
+    let k = q .before .before .before in
+    let t = k .before .before in
     let l = t .before .loop in
-    let b = t .before .before .before .before in
+    let b = t .before .before in
+    let e = o .on-posts .ensures in
     let g = o .before .lashing-of .ensures in
-    rw (o .on-posts .ensures .1, g) (record { fits = post-fits (b .args .m) (b .args .t1) (b .args .t4) (b .pre .0 .0) (b .good .0 .1 .0 .1) (b .pre .0 .1) (b .pre .1 .1) (l .j) (t .loop-test .taken) (l .pull) (l .athwart) (l .vertical) (l .lee) (l .windward) (l .inv) (k .result) (k .ensures .0) (omega (arith, k .ensures .2)) (q .result .upward) (q .ensures .1 .1 .1 .0) windwardPart windward-kept (l .windward) (l .inv .windwards) })
+    rw (e .1, g)
+    (record { fits = post-fits (lashes-of b) (b .pre .1 .1) (l .inv) (t .loop-test .taken) (own t) (k .hook-level .ensures .0) (q .pull-of .ensures .1 .1 .1 .0) windwardPart windward-kept (l .inv .windwards) })
 
 mul-windward-2 : tie.Need-mul-windward-2 Inv-loop μ-loop
 mul-windward-2 c = search needs
@@ -144,19 +160,21 @@ loop-less c = search needs
 loop-again : tie.Need-loop-again Inv-loop μ-loop
 loop-again c =
     let o = c .before .before in
-    let q = o .before .before .pull-of in
-    let k = o .before .before .before .hook-level in
-    let t = o .before .before .before .before .before in
+    let q = o .before .before in
+    let k = q .before .before .before in
+    let t = k .before .before in
     let l = t .before .loop in
-    let b = t .before .before .before .before in
+    let b = t .before .before in
+    let e = o .on-posts .ensures in
     let g = o .before .lashing-of .ensures in
-    rw (add-one (l .j), o .on-posts .ensures .0, o .on-posts .ensures .1, g) (strained-more (b .args .m) (b .args .t1) (b .args .t4) (b .pre .0 .0) (b .good .0 .1 .0 .1) (b .pre .0 .1) (b .pre .1 .1) (l .j) (t .loop-test .taken) (l .pull) (l .athwart) (l .vertical) (l .lee) (l .windward) (l .inv) (k .result) (k .ensures .0) (omega (arith, k .ensures .2)) (q .result .upward) (q .ensures .1 .1 .1 .0) _ _ _ (q .ensures .0) (q .ensures .1 .0) (q .ensures .1 .1 .0))
+    let r = q .pull-of .ensures in
+    rw (add-one (l .j), e .0, e .1, g)
+    (strained-more (lashes-of b) (b .pre .1 .1) (l .inv) (t .loop-test .taken) (own t) (k .hook-level .ensures .0) (q .pull-of .ensures .1 .1 .1 .0) (omega (arith, k .hook-level .ensures .2)) (r .0) (r .1 .0) (r .1 .1 .0))
 
 returns : tie.Need-returns Inv-loop μ-loop
 returns c =
-    let l = c .before .loop in
-    let b = c .before .before .before .before in
-    strained-all (b .args .m) (b .args .t1) (b .args .t4) (b .pre .0 .0) (b .good .0 .1 .0 .1) (b .pre .0 .1) (b .pre .1 .1) (l .pull) (l .athwart) (l .vertical) (l .lee) (l .windward) (l .j) (c .loop-test .left) (l .inv)
+    let b = c .before .before in
+    strained-all (lashes-of b) (b .pre .1 .1) (c .loop-test .left) (c .before .loop .inv)
 
 pub lash-figures-spec : {M : Type 1} → statement M
 lash-figures-spec =
@@ -169,11 +187,11 @@ lash-figures-spec =
     array-copy-out-l
     hook-level-requires
     mul-pull-of
-    array-read-pull-of
+    element-copy-out-pull-of
     mul-pull-of-2
-    array-read-pull-of-2
+    element-copy-out-pull-of-2
     mul-pull-of-3
-    array-read-pull-of-3
+    array-read-pull-of
     pull-of-requires
     lashing-of-requires
     on-posts-requires

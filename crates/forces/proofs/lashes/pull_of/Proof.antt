@@ -14,7 +14,7 @@ add-padded c = search needs
 figure-along-requires : tie.Need-figure-along-requires
 figure-along-requires c κs =
     let b = c .before in
-    (omega (arith, c .part-of .ensures .1), rw (b .pre .1) (length-most (b .args .l) (b .pre .0)), b .pre .0 .ly)
+    (omega (arith, c .part-of .ensures .1), rw (b .pre .1) (length-most (b .pre .0)), b .pre .0 .ly)
 
 ceil-div-requires : tie.Need-ceil-div-requires
 ceil-div-requires c κs = search needs

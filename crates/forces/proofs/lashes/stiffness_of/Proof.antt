@@ -9,34 +9,34 @@ use Rattle.forces.proofs.lashes.stiffness_of.Tie as tie
 mul-scaled-twice : tie.Need-mul-scaled-twice
 mul-scaled-twice c =
     let b = c .before in
-    omega (arith, force-le (b .args .l) (b .pre .0) (b .args .length) (b .pre .1))
+    omega (arith, force-le (b .pre .0) (b .pre .1))
 
 mul-scaled-twice-2 : tie.Need-mul-scaled-twice-2
 mul-scaled-twice-2 c =
     let b = c .before .before in
-    omega (arith, side-le (b .args .l) (b .pre .0) (b .args .length) (b .pre .1))
+    omega (arith, side-le (b .pre .0) (b .pre .1))
 
 mul-scaled-twice-3 : tie.Need-mul-scaled-twice-3
 mul-scaled-twice-3 c =
     let b = c .before .before in
-    record { fits = lt-of-le-of-lt (top-le (b .args .l) (b .pre .0) (b .args .length) (b .pre .1)) (lit< tt) }
+    record { fits = lt-of-le-of-lt (top-le (b .pre .0) (b .pre .1)) (lit< tt) }
 
 mul-scaled-twice-4 : tie.Need-mul-scaled-twice-4
 mul-scaled-twice-4 c =
     let b = c .before .before in
-    omega (arith, square-le (b .args .l) (b .pre .0) (b .args .length) (b .pre .1))
+    omega (arith, square-le (b .pre .0) (b .pre .1))
 
 mul-scaled-twice-5 : tie.Need-mul-scaled-twice-5
 mul-scaled-twice-5 c =
     let b = c .before .before in
-    record { fits = lt-of-le-of-lt (cube-le (b .args .l) (b .pre .0) (b .args .length) (b .pre .1)) (lit< tt) }
+    record { fits = lt-of-le-of-lt (cube-le (b .pre .0) (b .pre .1)) (lit< tt) }
 
 scaled-twice-requires : tie.Need-scaled-twice-requires
 scaled-twice-requires c κs =
     let b = c .before .before in
-    let h = cube-le (b .args .l) (b .pre .0) (b .args .length) (b .pre .1) in
-    let q = quotient-le (b .args .l) (b .pre .0) (b .args .length) (b .pre .1) in
-    (cube-above (b .args .l) (b .pre .0) (b .args .length) (b .pre .1), lit< tt, omega arith, omega arith, omega arith)
+    let h = cube-le (b .pre .0) (b .pre .1) in
+    let q = quotient-le (b .pre .0) (b .pre .1) in
+    (cube-above (b .pre .0) (b .pre .1), lit< tt, omega arith, omega arith, omega arith)
 
 returns : tie.Need-returns
 unfolding stiffnessOf

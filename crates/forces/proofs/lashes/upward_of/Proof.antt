@@ -13,7 +13,7 @@ div-result : tie.Need-div-result
 div-result c = search needs
 
 returns : tie.Need-returns
-returns c = (refl, upward-le _ _ _ (c .pre .0) (c .pre .1) (c .pre .2))
+returns c = (refl, upward-le (c .pre .0) (c .pre .1) (c .pre .2))
 
 pub upward-of-spec : {M : Type 1} → statement M
 upward-of-spec = tie.close (tie.spec mul-result div-result returns)

@@ -1,62 +1,73 @@
-use mir.Syntax.{w32}
-use mir.ValLaws.{toZ-ofZ}
-use Rattle.forces.proofs.Descent.{Descended, at-top, turned-once, at-foot}
+use borrow.Author.Needs.{needs}
 use Prim.Native.Nat.{_<_, _-_}
-use Rattle.forces.specs.Fixed.{noTier, rackingPart, leeFound, windwardFound}
-use mathlib.Core.Path.{refl, _∙_}
+use mathlib.Core.Path.{_≡_, sym, ap, _∙_}
 use native.Mathlib.Omega.{arith}
 use lib.Dec.{lit<, lit≤}
-use lib.Seq.{getD-take}
+use lib.ListN.{length, take}
+use lib.Seq.{getD-take, length-take-le}
+use mir.Syntax.{w32}
+use mir.ValLaws.{toZ-ofZ}
 use Rattle.arith.proofs.Sizes.{small-pos, small-weaken}
-use Rattle.forces.proofs.LevelLaws.{held}
-use borrow.Author.Needs.{needs}
+use Rattle.sheet.specs.declared.Tier.{Tier}
+use Rattle.forces.specs.Fixed.{noTier, leeFound, windwardFound}
+use Rattle.forces.proofs.Descent.{Descended, at-top, turned-once, at-foot}
+use Rattle.forces.proofs.Words.{held}
 use Rattle.forces.proofs.levels.level_figures.Statement.{statement}
 use Rattle.forces.proofs.levels.level_figures.Tie as tie
 
 abbrev Inv-loop : tie.InvT-loop
-Inv-loop n k tiers d most least lee windward racking₀ compressions₀ tensions₀ above₀ i₀ racking compressions tensions above i =
-    Descended n k tiers d most least lee windward racking compressions tensions (above .moment) (above .uplift .lee) (above .uplift .windward) i
+Inv-loop n k tiers d w p racking₀ compression₀ tension₀ above₀ i₀ racking compression tension above i =
+    Descended n k (take n tiers) d (w .most) (w .least) (p .lee) (p .windward) racking compression tension (above .moment) (above .parts .lee) (above .parts .windward) i
 
 abbrev μ-loop : tie.MeasureT-loop
-μ-loop n k tiers d most least lee windward racking₀ compressions₀ tensions₀ above₀ i₀ racking compressions tensions above i =
+μ-loop n k tiers d w p racking₀ compression₀ tension₀ above₀ i₀ racking compression tension above i =
     i
 
-mul-compressions : tie.Need-mul-compressions Inv-loop μ-loop
-mul-compressions c = search needs
+stacked : (c : tie.Start Inv-loop μ-loop) → length (take (c .args .n) (c .args .t3)) ≡ c .args .n
+stacked c = length-take-le (c .args .n) (c .args .t3) (omega (arith, c .pre .few, c .good .1 .1 .0 .1 .0 .1))
 
-array-read-compressions : tie.Need-array-read-compressions Inv-loop μ-loop
-array-read-compressions c = search needs
+mul-parts-of : tie.Need-mul-parts-of Inv-loop μ-loop
+mul-parts-of c = search needs
+
+element-copy-out-parts-of : tie.Need-element-copy-out-parts-of Inv-loop μ-loop
+element-copy-out-parts-of c = search needs
+
+mul-parts-of-2 : tie.Need-mul-parts-of-2 Inv-loop μ-loop
+mul-parts-of-2 c = search needs
+
+element-copy-out-parts-of-2 : tie.Need-element-copy-out-parts-of-2 Inv-loop μ-loop
+element-copy-out-parts-of-2 c = search needs
+
+parts-of-requires : tie.Need-parts-of-requires Inv-loop μ-loop
+parts-of-requires c κs = search needs
+
+mul-compression-of : tie.Need-mul-compression-of Inv-loop μ-loop
+mul-compression-of c = search needs
+
+element-copy-out-compression-of : tie.Need-element-copy-out-compression-of Inv-loop μ-loop
+element-copy-out-compression-of c = search needs
+
+compression-of-requires : tie.Need-compression-of-requires Inv-loop μ-loop
+compression-of-requires c κs =
+    let b = c .before .before .before .before in
+    let n = b .args .n in
+    let e = c .before .parts-of .ensures in
+    let m = b .pre in
+    (m .most-light n, small-pos (lit≤ tt), omega (arith, e .0, m .lee-small n), omega (arith, e .1, m .windward-small n))
 
 mul-compression : tie.Need-mul-compression Inv-loop μ-loop
 mul-compression c = search needs
 
-array-read-compression : tie.Need-array-read-compression Inv-loop μ-loop
-array-read-compression c = search needs
-
-mul-compression-2 : tie.Need-mul-compression-2 Inv-loop μ-loop
-mul-compression-2 c = search needs
-
-array-read-compression-2 : tie.Need-array-read-compression-2 Inv-loop μ-loop
-array-read-compression-2 c = search needs
-
-compression-requires : tie.Need-compression-requires Inv-loop μ-loop
-compression-requires c κs =
-    let m = c .pre in
-    let n = c .args .n in
-    (m .most-light n, small-pos (lit≤ tt), omega (arith, m .lee-small n), omega (arith, m .windward-small n))
-
-mul-compressions-2 : tie.Need-mul-compressions-2 Inv-loop μ-loop
-mul-compressions-2 c = search needs
-
-array-write-compressions : tie.Need-array-write-compressions Inv-loop μ-loop
-array-write-compressions c = search needs
+array-write-compression : tie.Need-array-write-compression Inv-loop μ-loop
+array-write-compression c = search needs
 
 loop-holds : tie.Need-loop-holds Inv-loop μ-loop
 unfolding leeFound windwardFound
 loop-holds c =
-    let b = c .before in
-    let a = b .args in
-    at-top (a .n) (a .t2) (a .t3) (a .t4) (a .t5) (a .t6) (a .t7) (a .t8) (b .good .1 .1 .0 .1 .0 .1) (b .good .1 .1 .1 .1 .1 .1 .0 .1 .0 .1) (b .good .1 .1 .1 .1 .1 .1 .1 .0 .1 .0 .1) (b .pre) (c .compression .result) (c .compression .ensures)
+    let p = c .before .before in
+    let b = p .before .before .before in
+    let e = p .parts-of .ensures in
+    rw (e .0, e .1) (at-top (b .pre) (stacked b) (simp (e .0, e .1) at (c .compression-of .ensures)))
 
 mul-upper : tie.Need-mul-upper Inv-loop μ-loop
 mul-upper c = search needs
@@ -87,54 +98,59 @@ array-read-racking-part-2 c = search needs
 
 racking-part-requires : tie.Need-racking-part-requires Inv-loop μ-loop
 racking-part-requires c κs =
-    let m = c .before .before .before .before .pre in
-    let i = c .before .before .loop .i in
-    (m .springs (i - 1) (omega (arith, c .before .before .loop .inv .within)), m .shifts i, m .shifts (i - 1))
+    let l = c .before .before .loop in
+    let m = c .before .before .before .before .before .before .before .before .pre in
+    (m .springs (l .i - 1) (omega (arith, l .inv .within)), m .shifts (l .i), m .shifts (l .i - 1))
+
+mul-parts-of-3 : tie.Need-mul-parts-of-3 Inv-loop μ-loop
+mul-parts-of-3 c = search needs
+
+element-copy-out-parts-of-3 : tie.Need-element-copy-out-parts-of-3 Inv-loop μ-loop
+element-copy-out-parts-of-3 c = search needs
+
+mul-parts-of-4 : tie.Need-mul-parts-of-4 Inv-loop μ-loop
+mul-parts-of-4 c = search needs
+
+element-copy-out-parts-of-4 : tie.Need-element-copy-out-parts-of-4 Inv-loop μ-loop
+element-copy-out-parts-of-4 c = search needs
+
+parts-of-requires-2 : tie.Need-parts-of-requires-2 Inv-loop μ-loop
+parts-of-requires-2 c κs = search needs
 
 mul-level-under : tie.Need-mul-level-under Inv-loop μ-loop
 mul-level-under c = search needs
 
-array-read-level-under : tie.Need-array-read-level-under Inv-loop μ-loop
-array-read-level-under c = search needs
+element-copy-out-level-under : tie.Need-element-copy-out-level-under Inv-loop μ-loop
+element-copy-out-level-under c = search needs
 
 mul-level-under-2 : tie.Need-mul-level-under-2 Inv-loop μ-loop
 mul-level-under-2 c = search needs
 
-array-read-level-under-2 : tie.Need-array-read-level-under-2 Inv-loop μ-loop
-array-read-level-under-2 c = search needs
-
-mul-level-under-3 : tie.Need-mul-level-under-3 Inv-loop μ-loop
-mul-level-under-3 c = search needs
-
-array-read-level-under-3 : tie.Need-array-read-level-under-3 Inv-loop μ-loop
-array-read-level-under-3 c = search needs
-
-mul-level-under-4 : tie.Need-mul-level-under-4 Inv-loop μ-loop
-mul-level-under-4 c = search needs
-
-array-read-level-under-4 : tie.Need-array-read-level-under-4 Inv-loop μ-loop
-array-read-level-under-4 c = search needs
+element-copy-out-level-under-2 : tie.Need-element-copy-out-level-under-2 Inv-loop μ-loop
+element-copy-out-level-under-2 c = search needs
 
 level-under-requires : tie.Need-level-under-requires Inv-loop μ-loop
 level-under-requires c κs =
-    let b = c .before .before .before .before .before in
-    let l = c .before .before .before .loop in
+    let o = c .before .before in
+    let r = o .before .before .before in
+    let l = r .before .before .before .loop in
+    let b = r .before .before .before .before .before .before .before .before .before in
     let m = b .pre in
     let j = l .i - 1 in
-    let w : j < b .args .n = omega (arith, l .inv .within) in (
+    let w : j < b .args .n = omega (arith, l .inv .within) in
+    let p = r .racking-part .ensures .1 in
+    let e = o .parts-of2 .ensures in (
+      (small-weaken (l .inv .moment-small) (omega (arith, m .few)), rw (held p (lit< tt)) p, rw (getD-take (b .args .n) (b .args .t3) j noTier w) at (m .heights j w)),
       (
-        small-weaken (l .inv .moment-small) (omega (arith, m .few)),
-        rw (held (c .racking-part .ensures .1) (lit< tt)) (c .racking-part .ensures .1),
-        rw (getD-take (b .args .n) (b .args .t3) j noTier w) at (m .heights j w),
-      ),
-      (
-        (omega (arith, l .inv .lees-small, l .inv .within, m .few), omega (arith, l .inv .windwards-small, l .inv .within, m .few)),
-        (m .lee-small j, m .windward-small j, m .most-light j, m .least-light j),
+        (omega (arith, l .inv .lees-small, m .few), omega (arith, l .inv .windwards-small, m .few)),
+        (omega (arith, e .0, m .lee-small j), omega (arith, e .1, m .windward-small j), m .most-light j, m .least-light j),
       ),
     )
 
 racking-figure-requires : tie.Need-racking-figure-requires Inv-loop μ-loop
-racking-figure-requires c κs = rw (held (c .before .racking-part .ensures .1) (lit< tt)) (c .before .racking-part .ensures .1)
+racking-figure-requires c κs =
+    let p = c .before .before .before .before .before .before .racking-part .ensures .1 in
+    rw (held p (lit< tt)) p
 
 mul-racking : tie.Need-mul-racking Inv-loop μ-loop
 mul-racking c = search needs
@@ -142,40 +158,53 @@ mul-racking c = search needs
 array-set-from-racking : tie.Need-array-set-from-racking Inv-loop μ-loop
 array-set-from-racking c = search needs
 
-mul-compressions-3 : tie.Need-mul-compressions-3 Inv-loop μ-loop
-mul-compressions-3 c = search needs
+mul-compression-2 : tie.Need-mul-compression-2 Inv-loop μ-loop
+mul-compression-2 c = search needs
 
-array-write-compressions-2 : tie.Need-array-write-compressions-2 Inv-loop μ-loop
-array-write-compressions-2 c = search needs
+array-write-compression-2 : tie.Need-array-write-compression-2 Inv-loop μ-loop
+array-write-compression-2 c = search needs
 
-mul-tensions : tie.Need-mul-tensions Inv-loop μ-loop
-mul-tensions c = search needs
+mul-tension : tie.Need-mul-tension Inv-loop μ-loop
+mul-tension c = search needs
 
-array-write-tensions : tie.Need-array-write-tensions Inv-loop μ-loop
-array-write-tensions c = search needs
+array-write-tension : tie.Need-array-write-tension Inv-loop μ-loop
+array-write-tension c = search needs
 
 loop-less : tie.Need-loop-less Inv-loop μ-loop
 loop-less c = search needs
 
 loop-again : tie.Need-loop-again Inv-loop μ-loop
-unfolding rackingPart
 loop-again c =
     let u = c .before .before in
-    let p = u .before .racking-part .ensures in
-    let l = u .before .before .before .before .loop in
-    let b = u .before .before .before .before .before .before in
-    let a = b .args in
+    let o = u .before .before .before in
+    let r = o .before .before .before in
+    let t = r .before .before in
+    let l = t .before .loop in
+    let b = t .before .before .before .before .before .before .before in
+    let p = r .racking-part .ensures in
     let h = held (p .1) (lit< tt) in
-    let e = u .level-under .ensures in
     let g = c .before .racking-figure in
-    turned-once (a .n) (a .t2) (a .t3) (a .t4) (a .t5) (a .t6) (a .t7) (a .t8) (b .good .1 .1 .0 .1 .0 .1) (b .good .1 .1 .1 .1 .1 .1 .0 .1 .0 .1) (b .good .1 .1 .1 .1 .1 .1 .1 .0 .1 .0 .1) (b .pre) (l .racking) (l .compressions) (l .tensions) (l .above .moment) (l .above .uplift .lee) (l .above .uplift .windward) (l .i) (u .before .before .before .loop-test .taken) (l .inv) (u .before .racking-part .result) _ (p .0) refl _ _ _ _ _ _ (toZ-ofZ w32 (g .result) (record { sfits = g .ok }) ∙ simp h at (g .ensures)) (simp h at (e .0)) (e .1 .0 .0) (e .1 .0 .1) (simp h at (e .1 .1 .0)) (simp h at (e .1 .1 .1))
+    let q = o .parts-of2 .ensures in
+    let e = simp (h, q .0, q .1) at (u .level-under .ensures) in
+    let w : l .i - 1 < b .args .n = omega (arith, l .inv .within) in
+    turned-once
+    (b .pre)
+    (stacked b)
+    (t .loop-test .taken)
+    (l .inv)
+    (p .0)
+    (ap (λ (x : Tier). x .height) (sym (getD-take (b .args .n) (b .args .t3) (l .i - 1) noTier w)))
+    (toZ-ofZ w32 (g .result) (record { sfits = g .ok }) ∙ simp h at (g .ensures))
+    (e .0)
+    (e .1 .0 .0)
+    (e .1 .0 .1)
+    (e .1 .1 .0)
+    (e .1 .1 .1)
 
 returns : tie.Need-returns Inv-loop μ-loop
 returns c =
-    let b = c .before .before .before in
-    let a = b .args in
-    let l = c .before .loop in
-    at-foot (a .n) (a .t2) (a .t3) (a .t4) (a .t5) (a .t6) (a .t7) (a .t8) (b .good .1 .1 .0 .1 .0 .1) (b .good .1 .1 .1 .1 .1 .1 .0 .1 .0 .1) (b .good .1 .1 .1 .1 .1 .1 .1 .0 .1 .0 .1) (b .pre) (l .racking) (l .compressions) (l .tensions) (l .above .moment) (l .above .uplift .lee) (l .above .uplift .windward) (l .i) (c .loop-test .left) (l .inv)
+    let b = c .before .before .before .before .before .before .before in
+    at-foot (b .pre) (stacked b) (c .loop-test .left) (c .before .loop .inv)
 
 pub level-figures-spec : {M : Type 1} → statement M
 level-figures-spec =
@@ -183,15 +212,16 @@ level-figures-spec =
     (tie.spec
     Inv-loop
     μ-loop
-    mul-compressions
-    array-read-compressions
+    mul-parts-of
+    element-copy-out-parts-of
+    mul-parts-of-2
+    element-copy-out-parts-of-2
+    parts-of-requires
+    mul-compression-of
+    element-copy-out-compression-of
+    compression-of-requires
     mul-compression
-    array-read-compression
-    mul-compression-2
-    array-read-compression-2
-    compression-requires
-    mul-compressions-2
-    array-write-compressions
+    array-write-compression
     loop-holds
     mul-upper
     array-read-upper
@@ -203,22 +233,23 @@ level-figures-spec =
     mul-racking-part-2
     array-read-racking-part-2
     racking-part-requires
+    mul-parts-of-3
+    element-copy-out-parts-of-3
+    mul-parts-of-4
+    element-copy-out-parts-of-4
+    parts-of-requires-2
     mul-level-under
-    array-read-level-under
+    element-copy-out-level-under
     mul-level-under-2
-    array-read-level-under-2
-    mul-level-under-3
-    array-read-level-under-3
-    mul-level-under-4
-    array-read-level-under-4
+    element-copy-out-level-under-2
     level-under-requires
     racking-figure-requires
     mul-racking
     array-set-from-racking
-    mul-compressions-3
-    array-write-compressions-2
-    mul-tensions
-    array-write-tensions
+    mul-compression-2
+    array-write-compression-2
+    mul-tension
+    array-write-tension
     loop-less
     loop-again
     returns)

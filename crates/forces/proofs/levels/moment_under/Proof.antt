@@ -3,7 +3,8 @@ use native.Mathlib.Omega.{arith}
 use lib.Dec.{lit<}
 use Rattle.arith.proofs.Sizes.{fits64}
 use Rattle.arith.proofs.Ceilings.{divisor}
-use Rattle.forces.proofs.LevelLaws.{held, turned, moment-small}
+use Rattle.forces.proofs.LevelLaws.{turned, moment-small}
+use Rattle.forces.proofs.Words.{held}
 use borrow.Author.Needs.{needs}
 use Rattle.forces.proofs.levels.moment_under.Statement.{statement}
 use Rattle.forces.proofs.levels.moment_under.Tie as tie
@@ -15,20 +16,20 @@ mul-result : tie.Need-mul-result
 mul-result c =
     let a = c .args in
     rw (divisor (a .height) (omega arith), held (c .pre .1) (lit< tt))
-    (fits64 (turned (a .height) (a .part) (a .above) (c .pre .2) (c .pre .1) (c .pre .0)) (lit< tt))
+    (fits64 (turned (c .pre .2) (c .pre .1)) (lit< tt))
 
 add-result : tie.Need-add-result
 add-result c =
     let a = c .args in
-    let t = turned (a .height) (a .part) (a .above) (c .pre .2) (c .pre .1) (c .pre .0) in
-    let m = moment-small (a .height) (a .part) (a .above) (c .pre .2) (c .pre .1) (c .pre .0) in
+    let t = turned (c .pre .2) (c .pre .1) in
+    let m = moment-small (c .pre .2) (c .pre .1) (c .pre .0) in
     simp (divisor (a .height) (omega arith), held (c .pre .1) (lit< tt), held t (lit< tt), held (c .pre .0) (lit< tt)) (fits64 m (lit< tt))
 
 returns : tie.Need-returns
 returns c =
     let a = c .args in
-    let t = turned (a .height) (a .part) (a .above) (c .pre .2) (c .pre .1) (c .pre .0) in
-    let m = moment-small (a .height) (a .part) (a .above) (c .pre .2) (c .pre .1) (c .pre .0) in
+    let t = turned (c .pre .2) (c .pre .1) in
+    let m = moment-small (c .pre .2) (c .pre .1) (c .pre .0) in
     simp (divisor (a .height) (omega arith), held (c .pre .1) (lit< tt), held t (lit< tt), held (c .pre .0) (lit< tt), held m (lit< tt)) (refl, m)
 
 pub moment-under-spec : {M : Type 1} → statement M

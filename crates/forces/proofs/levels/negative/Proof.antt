@@ -1,6 +1,6 @@
 use lib.Dec.{lit<}
 use Rattle.arith.proofs.Sizes.{fits64, small-neg}
-use Rattle.forces.proofs.LevelLaws.{held, minus}
+use Rattle.forces.proofs.Words.{held, minus}
 use Rattle.forces.proofs.levels.negative.Statement.{statement}
 use Rattle.forces.proofs.levels.negative.Tie as tie
 

@@ -1,4 +1,4 @@
-use Rattle.forces.proofs.LevelLaws.{pos-size, size-fits, none-below, all-from}
+use Rattle.forces.proofs.Words.{from-pos, size-fits, below-none, from-all}
 use mir.Syntax.{w64}
 use mir.ValLaws.{toZ-ofZ}
 use Rattle.forces.proofs.levels.not_below.Statement.{statement}
@@ -7,20 +7,20 @@ use Rattle.forces.proofs.levels.not_below.Tie as tie
 returns : tie.Need-returns
 returns c =
     let x = c .before .args .x in
-    none-below x (simp (toZ-ofZ w64 x (c .before .fits .x)) at (c .if1 .taken))
+    below-none x (simp (toZ-ofZ w64 x (c .before .fits .x)) at (c .if1 .taken))
 
 cast-result : tie.Need-cast-result
 cast-result c =
     let x = c .before .args .x in
     let f = c .before .fits .x in
     let e = simp (toZ-ofZ w64 x f) at (c .if1 .left) in
-    rw (toZ-ofZ w64 x f, pos-size x e) (tt, size-fits x f)
+    rw (toZ-ofZ w64 x f, from-pos x e) (tt, size-fits x f)
 
 returns-2 : tie.Need-returns-2
 returns-2 c =
     let x = c .before .args .x in
     let f = c .before .fits .x in
-    rw (toZ-ofZ w64 x f) (all-from x (simp (toZ-ofZ w64 x f) at (c .if1 .left)))
+    rw (toZ-ofZ w64 x f) (from-all x (simp (toZ-ofZ w64 x f) at (c .if1 .left)))
 
 pub not-below-spec : {M : Type 1} → statement M
 not-below-spec = tie.close (tie.spec returns cast-result returns-2)

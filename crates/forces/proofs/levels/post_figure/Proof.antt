@@ -1,7 +1,8 @@
 use lib.Dec.{lit<}
 use Rattle.arith.proofs.Sizes.{fits64}
 use Rattle.forces.specs.Fixed.{postFigure}
-use Rattle.forces.proofs.LevelLaws.{held, padded}
+use Rattle.forces.proofs.LevelLaws.{padded}
+use Rattle.forces.proofs.Words.{held}
 use borrow.Author.Needs.{needs}
 use Rattle.forces.proofs.levels.post_figure.Statement.{statement}
 use Rattle.forces.proofs.levels.post_figure.Tie as tie

@@ -1,5 +1,6 @@
 use mir.ValLaws.{toZ-ofZ, toZ-pos}
-use Rattle.forces.proofs.LevelLaws.{held, minus, newtons-le, figure-below, figure-from}
+use Rattle.forces.proofs.LevelLaws.{newtons-le, figure-below, figure-from}
+use Rattle.forces.proofs.Words.{held, minus}
 use native.Mathlib.Omega.{arith}
 use lib.Dec.{lit<, lit≤}
 use lib.IntN.{pos, negℤ}
@@ -22,12 +23,12 @@ ceil-div-requires c κs = search needs
 cast-newtons : tie.Need-cast-newtons
 cast-newtons c =
     let b = c .before .before in
-    fits32 (small-pos (newtons-le (b .args .part) _ _ (b .pre) (simp (held (b .pre) (lit< tt)) at (c .before .size .ensures)) (c .ceil-div .ensures .1))) (lit< tt)
+    fits32 (small-pos (newtons-le (b .pre) (simp (held (b .pre) (lit< tt)) at (c .before .size .ensures)) (c .ceil-div .ensures .1))) (lit< tt)
 
 sub-result : tie.Need-sub-result
 sub-result c =
     let b = c .before .before .before in
-    let l = newtons-le (b .args .part) _ _ (b .pre) (simp (held (b .pre) (lit< tt)) at (c .before .before .size .ensures)) (c .before .ceil-div .ensures .1) in
+    let l = newtons-le (b .pre) (simp (held (b .pre) (lit< tt)) at (c .before .before .size .ensures)) (c .before .ceil-div .ensures .1) in
     rw (toZ-pos w32 (c .before .ceil-div .result) (omega arith), minus (pos (c .before .ceil-div .result)))
     (fits32 (small-neg (small-pos l)) (lit< tt))
 
@@ -36,7 +37,7 @@ returns c =
     let b = c .before .before .before in
     let h = held (b .pre) (lit< tt) in
     let s = simp h at (c .before .before .size .ensures) in
-    let l = newtons-le (b .args .part) _ _ (b .pre) s (c .before .ceil-div .ensures .1) in
+    let l = newtons-le (b .pre) s (c .before .ceil-div .ensures .1) in
     let e = simp h at (c .if1 .taken) in
     simp (
       toZ-pos w32 (c .before .ceil-div .result) (omega arith),
@@ -50,7 +51,7 @@ returns-2 c =
     let b = c .before .before .before in
     let h = held (b .pre) (lit< tt) in
     let s = simp h at (c .before .before .size .ensures) in
-    let l = newtons-le (b .args .part) _ _ (b .pre) s (c .before .ceil-div .ensures .1) in
+    let l = newtons-le (b .pre) s (c .before .ceil-div .ensures .1) in
     let e = simp h at (c .if1 .left) in
     rw (toZ-pos w32 (c .before .ceil-div .result) (omega arith))
     (ap pos (simp s at (c .before .ceil-div .ensures .0)) ∙ figure-from (b .args .part) e)

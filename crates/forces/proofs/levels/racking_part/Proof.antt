@@ -1,11 +1,8 @@
+use Rattle.forces.proofs.Words.{held}
 use Prim.Native.Nat.{_*_}
 use mathlib.Core.Path.{refl}
 use native.Mathlib.Omega.{arith}
 use lib.Dec.{lit<}
-use lib.IntN.{pos, _-ℤ_}
-use lib.Signed.{quotZ}
-use mir.Syntax.{w64}
-use mir.ValLaws.{toZ-ofZ}
 use Rattle.arith.proofs.Sizes.{fits64}
 use Rattle.arith.proofs.Ceilings.{divisor}
 use Rattle.forces.proofs.LevelLaws.{spring-le, difference, racking-small}
@@ -13,43 +10,40 @@ use Rattle.forces.proofs.levels.racking_part.Statement.{statement}
 use Rattle.forces.proofs.levels.racking_part.Tie as tie
 
 mul-result : tie.Need-mul-result
-mul-result c = omega (arith, spring-le _ _ _ (c .pre .0) (c .pre .1) (c .pre .2))
+mul-result c = omega (arith, spring-le (c .pre .0) (c .pre .1) (c .pre .2))
 
 cast-result : tie.Need-cast-result
-cast-result c = omega (arith, spring-le _ _ _ (c .pre .0) (c .pre .1) (c .pre .2))
+cast-result c = omega (arith, spring-le (c .pre .0) (c .pre .1) (c .pre .2))
 
 mul-result-2 : tie.Need-mul-result-2
-mul-result-2 c = omega (arith, spring-le _ _ _ (c .pre .0) (c .pre .1) (c .pre .2))
+mul-result-2 c = omega (arith, spring-le (c .pre .0) (c .pre .1) (c .pre .2))
 
 cast-result-2 : tie.Need-cast-result-2
-cast-result-2 c = omega (arith, spring-le _ _ _ (c .pre .0) (c .pre .1) (c .pre .2))
+cast-result-2 c = omega (arith, spring-le (c .pre .0) (c .pre .1) (c .pre .2))
 
 sub-result : tie.Need-sub-result
 sub-result c =
-    let b = spring-le _ _ _ (c .pre .0) (c .pre .1) (c .pre .2) in
+    let b = spring-le (c .pre .0) (c .pre .1) (c .pre .2) in
     rw (divisor (c .args .k * c .args .upper) (omega arith), divisor (c .args .k * c .args .lower) (omega arith))
-    (fits64 (difference _ _ _ (c .pre .0) (c .pre .1) (c .pre .2)) (lit< tt))
+    (fits64 (difference (c .pre .0) (c .pre .1) (c .pre .2)) (lit< tt))
 
 div-result : tie.Need-div-result
 div-result c =
     let a = c .args in
-    let b = spring-le (a .k) (a .upper) (a .lower) (c .pre .0) (c .pre .1) (c .pre .2) in
-    let f = fits64 (difference (a .k) (a .upper) (a .lower) (c .pre .0) (c .pre .1) (c .pre .2)) (lit< tt) in
-    simp
-    (divisor (a .k * a .upper) (omega arith), divisor (a .k * a .lower) (omega arith), toZ-ofZ w64 (pos (a .k * a .upper) -ℤ pos (a .k * a .lower)) f)
-    (lit< tt, fits64 (racking-small (a .k) (a .upper) (a .lower) (c .pre .0) (c .pre .1) (c .pre .2)) (lit< tt))
+    let b = spring-le (c .pre .0) (c .pre .1) (c .pre .2) in
+    simp (divisor (a .k * a .upper) (omega arith), divisor (a .k * a .lower) (omega arith), held (difference (c .pre .0) (c .pre .1) (c .pre .2)) (lit< tt))
+    (lit< tt, fits64 (racking-small (c .pre .0) (c .pre .1) (c .pre .2)) (lit< tt))
 
 returns : tie.Need-returns
 returns c =
     let a = c .args in
-    let b = spring-le (a .k) (a .upper) (a .lower) (c .pre .0) (c .pre .1) (c .pre .2) in
-    let f = fits64 (difference (a .k) (a .upper) (a .lower) (c .pre .0) (c .pre .1) (c .pre .2)) (lit< tt) in
-    let s = racking-small (a .k) (a .upper) (a .lower) (c .pre .0) (c .pre .1) (c .pre .2) in
+    let b = spring-le (c .pre .0) (c .pre .1) (c .pre .2) in
+    let s = racking-small (c .pre .0) (c .pre .1) (c .pre .2) in
     simp (
       divisor (a .k * a .upper) (omega arith),
       divisor (a .k * a .lower) (omega arith),
-      toZ-ofZ w64 (pos (a .k * a .upper) -ℤ pos (a .k * a .lower)) f,
-      toZ-ofZ w64 (quotZ (pos (a .k * a .upper) -ℤ pos (a .k * a .lower)) (pos 1024)) (fits64 s (lit< tt)),
+      held (difference (c .pre .0) (c .pre .1) (c .pre .2)) (lit< tt),
+      held s (lit< tt),
     )
     (refl, s)
 

@@ -2,7 +2,7 @@ use lib.Dec.{lit<}
 use mir.Syntax.{w64}
 use mir.ValLaws.{toZ-ofZ}
 use Rattle.arith.proofs.Sizes.{small-neg, natAbs-neg}
-use Rattle.forces.proofs.LevelLaws.{held, neg-size, pos-size, size-fits}
+use Rattle.forces.proofs.Words.{held, below-neg, from-pos, size-fits}
 use borrow.Author.Needs.{needs}
 use Rattle.forces.proofs.levels.size.Statement.{statement}
 use Rattle.forces.proofs.levels.size.Tie as tie
@@ -16,7 +16,7 @@ cast-result c =
     let x = b .args .x in
     let h = toZ-ofZ w64 x (b .fits .x) in
     let e = simp h at (c .before .if1 .taken) in
-    rw (simp h at (c .negative .ensures), held (small-neg (b .pre)) (lit< tt), neg-size x e) (tt, size-fits x (b .fits .x))
+    rw (simp h at (c .negative .ensures), held (small-neg (b .pre)) (lit< tt), below-neg x e) (tt, size-fits x (b .fits .x))
 
 returns : tie.Need-returns
 returns c =
@@ -29,7 +29,7 @@ cast-result-2 c =
     let x = c .before .args .x in
     let f = c .before .fits .x in
     let e = simp (toZ-ofZ w64 x f) at (c .if1 .left) in
-    rw (toZ-ofZ w64 x f, pos-size x e) (tt, size-fits x f)
+    rw (toZ-ofZ w64 x f, from-pos x e) (tt, size-fits x f)
 
 returns-2 : tie.Need-returns-2
 returns-2 c = search needs

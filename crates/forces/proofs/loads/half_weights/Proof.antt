@@ -1,7 +1,8 @@
-use Prim.Native.Nat.{_<_, _≤_, _-_}
+use mathlib.Core.Path.{_≡_}
+use lib.ListN.{getD, length, take}
+use lib.Seq.{getD-take, length-take-le}
+use Prim.Native.Nat.{_-_}
 use native.Mathlib.Omega.{arith}
-use lib.ListN.{getD, length}
-use lib.Seq.{getD-take}
 use Rattle.forces.specs.Facts.{TierFacts}
 use Rattle.forces.specs.Fixed.{noTier}
 use borrow.Author.Needs.{needs}
@@ -10,25 +11,25 @@ use Rattle.forces.proofs.loads.half_weights.Statement.{statement}
 use Rattle.forces.proofs.loads.half_weights.Tie as tie
 
 abbrev Inv-loop : tie.InvT-loop
-Inv-loop n tiers most₀ least₀ most-lifted₀ least-lifted₀ i₀ most least most-lifted least-lifted i = Carried (λ t. t .avmax) n tiers most most-lifted i × Carried (λ t. t .avmin) n tiers least least-lifted i
+Inv-loop n tiers most₀ least₀ most-lifted₀ least-lifted₀ i₀ most least most-lifted least-lifted i = Carried (λ t. t .avmax) n (take n tiers) most most-lifted i × Carried (λ t. t .avmin) n (take n tiers) least least-lifted i
 
 abbrev μ-loop : tie.MeasureT-loop
 μ-loop n tiers most₀ least₀ most-lifted₀ least-lifted₀ i₀ most least most-lifted least-lifted i = i
 
-facts : (c : tie.In-loop Inv-loop μ-loop) → TierFacts (getD (c .before .before .args .t2) (c .before .loop .i - 1) noTier)
-facts c =
-    let b = c .before .before in
-    let l = c .before .loop in
-    let w : l .i - 1 < b .args .n = omega (arith, l .inv .0 .within) in
-    rw (getD-take (b .args .n) (b .args .t2) (l .i - 1) noTier w) at (b .pre .1 (l .i - 1) w)
+stacked : (c : tie.Start Inv-loop μ-loop) → length (take (c .args .n) (c .args .t2)) ≡ c .args .n
+stacked c = length-take-le (c .args .n) (c .args .t2) (omega (arith, c .pre .0, c .good .1 .0 .1 .0 .1))
 
-room : (c : tie.In-loop Inv-loop μ-loop) → c .before .before .args .n ≤ length (c .before .before .args .t2)
-room c = let b = c .before .before in omega (arith, b .pre .0, b .good .1 .0 .1 .0 .1)
+own : (c : tie.In-loop Inv-loop μ-loop) → getD (take (c .before .before .args .n) (c .before .before .args .t2)) (c .before .loop .i - 1) noTier ≡ getD (c .before .before .args .t2) (c .before .loop .i - 1) noTier
+own c =
+    let a = c .before .before .args in
+    let l = c .before .loop in
+    getD-take (a .n) (a .t2) (l .i - 1) noTier (omega (arith, l .inv .0 .within))
+
+facts : (c : tie.In-loop Inv-loop μ-loop) → TierFacts (getD (c .before .before .args .t2) (c .before .loop .i - 1) noTier)
+facts c = rw (own c) at (c .before .before .pre .1 (c .before .loop .i - 1) (omega (arith, c .before .loop .inv .0 .within)))
 
 loop-holds : tie.Need-loop-holds Inv-loop μ-loop
-loop-holds c =
-    let h : c .args .n ≤ length (c .args .t2) = omega (arith, c .pre .0, c .good .1 .0 .1 .0 .1) in
-    (carried-none _ _ _ h, carried-none _ _ _ h)
+loop-holds c = (carried-none (stacked c), carried-none (stacked c))
 
 sub-i : tie.Need-sub-i Inv-loop μ-loop
 sub-i c = search needs
@@ -83,24 +84,20 @@ loop-again c =
     let t = c .before .before .before .before .before in
     let l = t .before .loop in
     let b = t .before .before in
-    let a = b .args in
-    let u = t .loop-test .taken in
     let e = c .before .before .before .lift .ensures in
     let g = c .before .before .lift2 .ensures in
     let w = c .before .half-weight .ensures in
     let x = c .half-weight2 .ensures in (
-      carried-more (λ r. r .avmax) (a .n) (a .t2) (l .most) (l .most-lifted) (l .i) _ _ (b .pre .0) (room t) u (l .inv .0) (e .0) (e .1) (w .0) (w .1),
-      carried-more (λ r. r .avmin) (a .n) (a .t2) (l .least) (l .least-lifted) (l .i) _ _ (b .pre .0) (room t) u (l .inv .1) (g .0) (g .1) (x .0) (x .1),
+      carried-more (stacked b) (b .pre .0) (t .loop-test .taken) (l .inv .0) (rw (own t) (e .0)) (e .1) (w .0) (w .1),
+      carried-more (stacked b) (b .pre .0) (t .loop-test .taken) (l .inv .1) (rw (own t) (g .0)) (g .1) (x .0) (x .1),
     )
 
 returns : tie.Need-returns Inv-loop μ-loop
 returns c =
     let l = c .before .loop in
     let b = c .before .before in
-    let a = b .args in
-    let h : a .n ≤ length (a .t2) = omega (arith, b .pre .0, b .good .1 .0 .1 .0 .1) in
-    let m = carried-all (λ r. r .avmax) (a .n) (a .t2) (l .most) (l .most-lifted) (l .i) h (c .loop-test .left) (l .inv .0) in
-    let k = carried-all (λ r. r .avmin) (a .n) (a .t2) (l .least) (l .least-lifted) (l .i) h (c .loop-test .left) (l .inv .1) in
+    let m = carried-all (stacked b) (c .loop-test .left) (l .inv .0) in
+    let k = carried-all (stacked b) (c .loop-test .left) (l .inv .1) in
     record { most = λ i. m i .0; least = λ i. k i .0; most-light = λ i. m i .1; least-light = λ i. k i .1 }
 
 pub half-weights-spec : {M : Type 1} → statement M

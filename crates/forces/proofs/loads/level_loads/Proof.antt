@@ -1,6 +1,8 @@
-use Prim.Native.Nat.{_<_, _-_}
+use lib.ListN.{getD, take}
+use lib.Seq.{getD-take, length-take-le}
+use mathlib.Core.Path.{_≡_}
+use Prim.Native.Nat.{_-_}
 use native.Mathlib.Omega.{arith}
-use lib.Seq.{getD-take}
 use Rattle.forces.specs.Fixed.{noTier}
 use borrow.Author.Needs.{needs}
 use Rattle.forces.proofs.LoadLaws.{Pushed, pushed-none, pushed-more}
@@ -8,15 +10,21 @@ use Rattle.forces.proofs.loads.level_loads.Statement.{statement}
 use Rattle.forces.proofs.loads.level_loads.Tie as tie
 
 abbrev Inv-loop : tie.InvT-loop
-Inv-loop n share factor tiers loads₀ over₀ i₀ loads over i = Pushed share factor n tiers loads (over .push) (over .gust) i
+Inv-loop n share factor tiers loads₀ over₀ i₀ loads over i = Pushed share factor n (take n tiers) loads (over .push) (over .gust) i
 
 abbrev μ-loop : tie.MeasureT-loop
 μ-loop n share factor tiers loads₀ over₀ i₀ loads over i = i
 
+own : (c : tie.In-loop Inv-loop μ-loop) → getD (take (c .before .before .args .n) (c .before .before .args .t2)) (c .before .loop .i - 1) noTier ≡ getD (c .before .before .args .t2) (c .before .loop .i - 1) noTier
+own c =
+    let a = c .before .before .args in
+    let l = c .before .loop in
+    getD-take (a .n) (a .t2) (l .i - 1) noTier (omega (arith, l .inv .within))
+
 loop-holds : tie.Need-loop-holds Inv-loop μ-loop
 loop-holds c =
     let a = c .args in
-    pushed-none (a .share) (a .factor) (a .n) (a .t2) (omega (arith, c .good .1 .0 .1 .0 .1))
+    pushed-none (length-take-le (a .n) (a .t2) (omega (arith, c .good .1 .0 .1 .0 .1)))
 
 sub-i : tie.Need-sub-i Inv-loop μ-loop
 sub-i c = search needs
@@ -30,9 +38,7 @@ array-copy-out-thrust-of c = search needs
 thrust-of-requires : tie.Need-thrust-of-requires Inv-loop μ-loop
 thrust-of-requires c κs =
     let l = c .before .before .loop in
-    let b = c .before .before .before in
-    let w : l .i - 1 < b .args .n = omega (arith, l .inv .within) in
-    rw (getD-take (b .args .n) (b .args .t2) (l .i - 1) noTier w) at (b .pre .1 (l .i - 1) w)
+    rw (own (c .before)) at (c .before .before .before .pre .1 (l .i - 1) (omega (arith, l .inv .within)))
 
 level-load-requires : tie.Need-level-load-requires Inv-loop μ-loop
 level-load-requires c κs =
@@ -52,12 +58,11 @@ loop-less c = search needs
 
 loop-again : tie.Need-loop-again Inv-loop μ-loop
 loop-again c =
-    let l = c .before .before .before .before .loop in
-    let b = c .before .before .before .before .before in
-    let a = b .args in
-    let t = c .before .thrust-of .ensures in
+    let t = c .before .before .before in
+    let l = t .before .loop in
+    let e = c .before .thrust-of .ensures in
     let r = c .level-load .ensures in
-    pushed-more (a .share) (a .factor) (a .n) (a .t2) (l .loads) (l .over .push) (l .over .gust) (l .i) _ _ _ (b .pre .0 .0) (c .before .before .before .loop-test .taken) (l .inv) (t .0) (t .2) (t .1) (t .3) (r .0) (r .1)
+    pushed-more (t .before .before .pre .0 .0) (t .loop-test .taken) (l .inv) (rw (own t) (e .0)) (rw (own t) (e .2)) (e .1) (e .3) (r .0) (r .1)
 
 returns : tie.Need-returns Inv-loop μ-loop
 returns c =

@@ -1,9 +1,10 @@
 use mathlib.Core.Path.{refl}
 use lib.Dec.{lit<}
 use Rattle.arith.proofs.Sizes.{fits64}
-use Rattle.forces.proofs.LevelLaws.{held, lean-small}
-use Rattle.forces.proofs.levels.lean_of.Statement.{statement}
-use Rattle.forces.proofs.levels.lean_of.Tie as tie
+use Rattle.forces.proofs.LevelLaws.{lean-small}
+use Rattle.forces.proofs.Words.{held}
+use Rattle.forces.proofs.levels.couple_of.Statement.{statement}
+use Rattle.forces.proofs.levels.couple_of.Tie as tie
 
 div-result : tie.Need-div-result
 div-result c = rw (held (c .pre) (lit< tt)) (lit< tt, fits64 (lean-small (c .pre)) (lit< tt))
@@ -13,5 +14,5 @@ returns c =
     let l = lean-small (c .pre) in
     simp (held (c .pre) (lit< tt), held l (lit< tt)) (refl, l)
 
-pub lean-of-spec : {M : Type 1} → statement M
-lean-of-spec = tie.close (tie.spec div-result returns)
+pub couple-of-spec : {M : Type 1} → statement M
+couple-of-spec = tie.close (tie.spec div-result returns)

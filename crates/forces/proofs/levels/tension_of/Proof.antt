@@ -1,9 +1,9 @@
 use lib.Dec.{lit<, lit≤}
 use Rattle.arith.proofs.Sizes.{small-neg, small-weaken}
-use Rattle.forces.proofs.LevelLaws.{held}
+use Rattle.forces.proofs.Words.{held}
 use borrow.Author.Needs.{needs}
-use Rattle.forces.proofs.levels.tension.Statement.{statement}
-use Rattle.forces.proofs.levels.tension.Tie as tie
+use Rattle.forces.proofs.levels.tension_of.Statement.{statement}
+use Rattle.forces.proofs.levels.tension_of.Tie as tie
 
 post-sum-requires : tie.Need-post-sum-requires
 post-sum-requires c κs = search needs
@@ -48,8 +48,8 @@ returns c =
     let g = simp (e, f) at (c .post-figure .ensures) in
     simp (simp h at (s .0), y) at (simp (held (small-neg (s .1)) (lit< tt), held (small-neg (t .1)) (lit< tt)) at g)
 
-pub tension-spec : {M : Type 1} → statement M
-tension-spec =
+pub tension-of-spec : {M : Type 1} → statement M
+tension-of-spec =
     tie.close
     (tie.spec
     post-sum-requires

@@ -1,9 +1,9 @@
 use Rattle.arith.proofs.Sizes.{small-neg, small-weaken}
 use lib.Dec.{lit<, lit≤}
-use Rattle.forces.proofs.LevelLaws.{held}
+use Rattle.forces.proofs.Words.{held}
 use borrow.Author.Needs.{needs}
-use Rattle.forces.proofs.levels.compression.Statement.{statement}
-use Rattle.forces.proofs.levels.compression.Tie as tie
+use Rattle.forces.proofs.levels.compression_of.Statement.{statement}
+use Rattle.forces.proofs.levels.compression_of.Tie as tie
 
 post-sum-requires : tie.Need-post-sum-requires
 post-sum-requires c κs = search needs
@@ -30,7 +30,7 @@ returns c =
     let y = simp (held (small-neg (b .pre .1)) (lit< tt)) at (simp n at (t .0)) in
     simp (simp h at (s .0), y) at (simp (held (s .1) (lit< tt), held (t .1) (lit< tt)) at (c .post-figure .ensures))
 
-pub compression-spec : {M : Type 1} → statement M
-compression-spec =
+pub compression-of-spec : {M : Type 1} → statement M
+compression-of-spec =
     tie.close
     (tie.spec post-sum-requires negative-requires post-sum-requires-2 post-figure-requires returns)
