@@ -10,39 +10,35 @@ use Rattle.arith.proofs.Rings.{∀₁, ∀₂, ∀₃, ∀₄, ∀₆, ∀₈, 
 use Rattle.arith.proofs.Rationals.{ℚR, ℚ, _+ℚ_, _-ℚ_, _*ℚ_, int-plus, plus-zero}
 use Rattle.arith.proofs.RationalTerms.{qq}
 use Rattle.arith.proofs.FractionsInRationals.{sumℚ}
+use Rattle.springs.proofs.Chain.{natℚ}
+use Rattle.springs.proofs.Lashes.{givenℚ}
 use Rattle.sheet.specs.declared.Tier.{Tier}
 use Rattle.sheet.specs.declared.Lash.{Lash}
 use Rattle.forces.specs.Lashes.{hookLevel}
 use Rattle.forces.specs.Posts.{levelHeight}
-use Rattle.forces.proofs.Errors.{natℚ}
-
--- x where the test holds, else 0
-abbrev pub givenℚ : Bool → ℚ → ℚ
-givenℚ true x = x
-givenℚ false x = natℚ 0
 
 -- the height of the tiers, from number i on, that stand below level l
-climb : ℕ → ℕ → List Tier → ℚ
-climb i l [] = natℚ 0
-climb i l (t ∷ ts) = givenℚ (leb i l) (natℚ (t .height)) +ℚ climb (suc i) l ts
+heightTo : ℕ → ℕ → List Tier → ℚ
+heightTo i l [] = natℚ 0
+heightTo i l (t ∷ ts) = givenℚ (leb i l) (natℚ (t .height)) +ℚ heightTo (suc i) l ts
 
-climb-zero : (i : ℕ) (ts : List Tier) → climb (suc i) zero ts ≡ natℚ 0
-unfolding climb
-climb-zero i [] = refl
-climb-zero i (t ∷ ts) = ap₂ (λ b x. givenℚ b (natℚ (t .height)) +ℚ x) (leb·suc-zero i) (climb-zero (suc i) ts) ∙ plus-zero (natℚ 0)
+height-zero : (i : ℕ) (ts : List Tier) → heightTo (suc i) zero ts ≡ natℚ 0
+unfolding heightTo
+height-zero i [] = refl
+height-zero i (t ∷ ts) = ap₂ (λ b x. givenℚ b (natℚ (t .height)) +ℚ x) (leb·suc-zero i) (height-zero (suc i) ts) ∙ plus-zero (natℚ 0)
 
-climb-suc : (i l : ℕ) (ts : List Tier) → climb (suc i) (suc l) ts ≡ climb i l ts
-unfolding climb
-climb-suc i l [] = refl
-climb-suc i l (t ∷ ts) = ap₂ (λ b x. givenℚ b (natℚ (t .height)) +ℚ x) (leb·suc-suc i l) (climb-suc (suc i) l ts)
+height-suc : (i l : ℕ) (ts : List Tier) → heightTo (suc i) (suc l) ts ≡ heightTo i l ts
+unfolding heightTo
+height-suc i l [] = refl
+height-suc i l (t ∷ ts) = ap₂ (λ b x. givenℚ b (natℚ (t .height)) +ℚ x) (leb·suc-suc i l) (height-suc (suc i) l ts)
 
 -- from the deck
-climb-deck : (l : ℕ) (ts : List Tier) → climb 1 l ts ≡ natℚ (levelHeight ts l)
-unfolding climb levelHeight
-climb-deck zero ts = climb-zero 0 ts
-climb-deck (suc l) [] = refl
-climb-deck (suc l) (t ∷ ts) =
-    ap₂ (λ b x. givenℚ b (natℚ (t .height)) +ℚ x) (leb·suc-suc 0 l ∙ leb·zero l) (climb-suc 1 l ts ∙ climb-deck l ts)
+height-deck : (l : ℕ) (ts : List Tier) → heightTo 1 l ts ≡ natℚ (levelHeight ts l)
+unfolding heightTo levelHeight
+height-deck zero ts = height-zero 0 ts
+height-deck (suc l) [] = refl
+height-deck (suc l) (t ∷ ts) =
+    ap₂ (λ b x. givenℚ b (natℚ (t .height)) +ℚ x) (leb·suc-suc 0 l ∙ leb·zero l) (height-suc 1 l ts ∙ height-deck l ts)
     ∙ sym (int-plus (pos (t .height)) (pos (levelHeight ts l)))
 
 nought : (b : Bool) → natℚ 0 ≡ givenℚ b (natℚ 0 -ℚ natℚ 0)
@@ -59,25 +55,25 @@ same-foot : (h a b : ℚ) → a -ℚ b ≡ h +ℚ a -ℚ (h +ℚ b)
 same-foot = ∀₃ ℚR _ λ ρ. simp qq (by-ring tt)
 
 -- from level i
-climb-from :
+height-from :
     (i l : ℕ) (ts : List Tier) →
-    climb (suc i) l (drop i ts) ≡ givenℚ (ltb i l) (natℚ (levelHeight ts l) -ℚ natℚ (levelHeight ts i))
-unfolding climb levelHeight
-climb-from zero zero ts = climb-zero 0 ts ∙ ap (λ b. givenℚ b (natℚ 0 -ℚ natℚ 0)) (sym (leb·suc-zero 0))
-climb-from zero (suc l) ts =
-    climb-deck (suc l) ts
+    heightTo (suc i) l (drop i ts) ≡ givenℚ (ltb i l) (natℚ (levelHeight ts l) -ℚ natℚ (levelHeight ts i))
+unfolding heightTo levelHeight
+height-from zero zero ts = height-zero 0 ts ∙ ap (λ b. givenℚ b (natℚ 0 -ℚ natℚ 0)) (sym (leb·suc-zero 0))
+height-from zero (suc l) ts =
+    height-deck (suc l) ts
     ∙ less-zero (natℚ (levelHeight ts (suc l)))
     ∙ ap (λ b. givenℚ b (natℚ (levelHeight ts (suc l)) -ℚ natℚ 0)) (sym (leb·suc-suc 0 l ∙ leb·zero l))
-climb-from (suc i) zero ts =
-    climb-zero (suc i) (drop (suc i) ts)
+height-from (suc i) zero ts =
+    height-zero (suc i) (drop (suc i) ts)
     ∙ ap (λ b. givenℚ b (natℚ 0 -ℚ natℚ (levelHeight ts (suc i)))) (sym (leb·suc-zero (suc i)))
-climb-from (suc i) (suc l) [] = nought (leb (suc (suc i)) (suc l))
-climb-from (suc i) (suc l) (t ∷ ts) =
+height-from (suc i) (suc l) [] = nought (leb (suc (suc i)) (suc l))
+height-from (suc i) (suc l) (t ∷ ts) =
     let h = t .height in
     let a = levelHeight ts l in
     let b = levelHeight ts i in
     let raised = same-foot (natℚ h) (natℚ a) (natℚ b) ∙ ap₂ _-ℚ_ (sym (int-plus (pos h) (pos a))) (sym (int-plus (pos h) (pos b))) in
-    climb-suc (suc i) l (drop i ts) ∙ climb-from i l ts ∙ ap₂ givenℚ (sym (leb·suc-suc (suc i) l)) raised
+    height-suc (suc i) l (drop i ts) ∙ height-from i l ts ∙ ap₂ givenℚ (sym (leb·suc-suc (suc i) l)) raised
 
 -- F and P of a tier and the athwart part of a lash are any numbers here, s and w the shares of F and P
 module _ (F P : Tier → ℚ) (part : Lash → ℚ) (s w : ℚ) where
@@ -117,11 +113,11 @@ module _ (F P : Tier → ℚ) (part : Lash → ℚ) (s w : ℚ) where
           ≡ x *ℚ (F +ℚ P +ℚ p) +ℚ (h *ℚ (s *ℚ F +ℚ w *ℚ P +ℚ p -ℚ natℚ 0) +ℚ r)
       step = ∀₈ ℚR _ λ ρ. simp qq (by-ring tt)
 
-  -- one more lash takes its athwart part times what it climbs
+  -- one more lash takes its athwart part times its height over the level
   lashed :
       (l : Lash) (ls : List Lash) (ts : List Tier) (i : ℕ) →
-      racked (l ∷ ls) ts i ≡ racked ls ts i -ℚ part l *ℚ climb (suc i) (hookLevel l) ts
-  unfolding racked held sumℚ climb
+      racked (l ∷ ls) ts i ≡ racked ls ts i -ℚ part l *ℚ heightTo (suc i) (hookLevel l) ts
+  unfolding racked held sumℚ heightTo
   lashed l ls [] i = none (part l)
     where
       none : (a : ℚ) → natℚ 0 ≡ natℚ 0 -ℚ a *ℚ natℚ 0
@@ -129,7 +125,7 @@ module _ (F P : Tier → ℚ) (part : Lash → ℚ) (s w : ℚ) where
   lashed l ls (t ∷ ts) i =
       ap (λ y. natℚ (t .height) *ℚ (Q t ts -ℚ held (l ∷ ls) (suc i)) +ℚ y) (lashed l ls ts (suc i))
       ∙ go (leb (suc i) (hookLevel l)) (natℚ (t .height)) (Q t ts) (held ls (suc i)) (racked ls ts (suc i)) (part l)
-      (climb (suc (suc i)) (hookLevel l) ts)
+      (heightTo (suc (suc i)) (hookLevel l) ts)
     where
       go : (b : Bool) (h q A r a c : ℚ) → h *ℚ (q -ℚ (givenℚ b a +ℚ A)) +ℚ (r -ℚ a *ℚ c) ≡ h *ℚ (q -ℚ A) +ℚ r -ℚ a *ℚ (givenℚ b h +ℚ c)
       go true = ∀₆ ℚR _ λ ρ. simp qq (by-ring tt)
@@ -153,7 +149,7 @@ module _ (F P : Tier → ℚ) (part : Lash → ℚ) (s w : ℚ) where
   balance i ts (l ∷ ls) =
       go (ltb i (hookLevel l)) (turns (natℚ 0) (drop i ts)) (part l)
       (natℚ (levelHeight ts (hookLevel l)) -ℚ natℚ (levelHeight ts i)) (turned-back ls ts i)
-      ∙ ap₂ (λ y c. y -ℚ part l *ℚ c) (balance i ts ls) (sym (climb-from i (hookLevel l) ts))
+      ∙ ap₂ (λ y c. y -ℚ part l *ℚ c) (balance i ts ls) (sym (height-from i (hookLevel l) ts))
       ∙ sym (lashed l ls (drop i ts) i)
     where
       go : (b : Bool) (m a c S : ℚ) → m -ℚ (givenℚ b (a *ℚ c) +ℚ S) ≡ m -ℚ S -ℚ a *ℚ givenℚ b c

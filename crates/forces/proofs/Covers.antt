@@ -12,9 +12,10 @@ use Rattle.arith.proofs.Signs.{ge-q, ge-neg-q, absℚ-le, absℚ-neg}
 use Rattle.arith.proofs.RationalOrder.{lt-of, nat-q, above-0}
 use Rattle.arith.proofs.RationalRounding.{ceil-up, up-le, up-lt}
 use Rattle.arith.proofs.FractionsInRationals.{to-⊏, mk-abs, mk-int, mk-add}
+use Rattle.springs.proofs.Chain.{natℚ}
 use Rattle.forces.specs.Fixed.{ceil}
 use Rattle.forces.specs.Reported.{Reported}
-use Rattle.forces.proofs.Errors.{natℚ, Off, off-nn}
+use Rattle.forces.proofs.Errors.{Off, off-nn}
 use Rattle.forces.proofs.Scales.{newtons, newtons-add, newtons-nn, share-nn, share-most, share-up, share-up-close}
 
 -- n is not below X either way round, and at most b above it

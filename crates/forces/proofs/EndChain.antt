@@ -45,7 +45,7 @@ tier-facts {t} f i = go (decLt i (t .ntiers))
 
 -- the chain's tiers and lashes, entry by entry
 module _ (e : End) (share factor : Frac) where
-  chain-length : (ts : List Tier) → length (chainTiers e share factor ts) ≡ length ts
+  pub chain-length : (ts : List Tier) → length (chainTiers e share factor ts) ≡ length ts
   unfolding chainTiers
   chain-length [] = refl
   chain-length (t ∷ ts) = ap suc (chain-length ts)

@@ -1,8 +1,8 @@
 -- Every figure of an end reports its force, less than 20 N above it, from what the solver promises of the shifts.
 use mathlib.Core.Path.{_≡_, refl, ap, ap₂, subst, _∙_}
 use mathlib.Core.Bool.{Bool}
-use mathlib.Core.List.{List, [], _∷_}
-use Prim.Native.Nat.{ℕ, zero, suc, _+_, _^_, _≤_, _<_}
+use mathlib.Core.List.{List}
+use Prim.Native.Nat.{ℕ, suc, _+_, _^_, _≤_, _<_}
 use native.Mathlib.Omega.{arith}
 use lib.Dec.{lit≤}
 use lib.ListN.{drop, length, getD, length-drop}
@@ -17,23 +17,25 @@ use Rattle.springs.specs.Equations as S
 use Rattle.springs.specs.Equations.{shift}
 use Rattle.springs.specs.Promise as P
 use Rattle.springs.specs.Promise.{found}
+use Rattle.springs.proofs.Chain.{natℚ}
 use Rattle.sheet.specs.declared.Tier.{Tier}
 use Rattle.sheet.specs.declared.Lash.{Lash}
 use Rattle.sheet.specs.declared.Sheet.{Sheet}
 use Rattle.forces.specs.declared.EndFigures.{EndFigures}
 use Rattle.forces.specs.Loads.{classShare}
 use Rattle.forces.specs.Lashes.{hookLevel, pull, athwartPart, verticalPart}
-use Rattle.forces.specs.Ends.{End, springOf, tiersOf, lashesOf, chainTiers, chainLashes, routeFactor, Settled}
+use Rattle.forces.specs.Ends.{End, springOf, tiersOf, lashesOf, routeFactor, Settled}
 use Rattle.forces.specs.Posts.{weightAbove, moment, verticals, onLee, onWindward, inCompression, inTension, lee, windward, compression, tension}
 use Rattle.forces.specs.Reported.{Reported, noLash, EndReported}
 use Rattle.forces.specs.Fixed.{noTier, rackingPart, halfWeight, momentPart, upwards, leePart, windwardPart, leeFound, windwardFound, compressionFigure, tensionFigure, pullFigure, athwartFigure, verticalFigure, Computed}
 use Rattle.forces.proofs.Facts.{Facts}
-use Rattle.forces.proofs.Errors.{natℚ, Off}
+use Rattle.forces.proofs.Errors.{Off}
+use Rattle.forces.proofs.EndChain.{end-each, endTiers, endLashes, end-spring}
 use Rattle.forces.proofs.Scales.{newtons}
-use Rattle.forces.proofs.Pads.{slipBound, forceBound, roundedRackingError, tierError, postError}
+use Rattle.forces.proofs.Pads.{shiftErrorBound, forceBound, roundedRackingError, tierError, postError}
 use Rattle.forces.proofs.LashFigures.{athwart-reported, pull-reported, vertical-reported}
 use Rattle.forces.proofs.EachLash.{Each}
-use Rattle.forces.proofs.Slips.{slipq, slipAt, slips, slips-q, slip-le}
+use Rattle.forces.proofs.ShiftErrors.{shiftErrorq, shiftErrorAt, shiftErrors, shift-errors-q, shift-error-le}
 use Rattle.forces.proofs.Verticals.{verticals-off, lee-post, windward-post}
 use Rattle.forces.proofs.Weights.{weight-off}
 use Rattle.forces.proofs.Moment.{rackingMoment, moment-is}
@@ -41,18 +43,14 @@ use Rattle.forces.proofs.Racking.{racking-off, racking-reported}
 use Rattle.forces.proofs.PostSums.{moment-off, lee-off, windward-off}
 use Rattle.forces.proofs.PostFigures.{compression-reported, tension-reported}
 
--- the chain of an end, by the class rule
-abbrev pub chainOf : End → Sheet → List S.Tier
-chainOf e t = chainTiers e classShare (routeFactor t) (tiersOf t)
-
 -- the shifts d, found for an end, are close to the solution Ds of its equations
 pub record Close (e : End) (t : Sheet) (d : List ℕ) (Ds : List Frac) : Type 0 where
   pub far : (i : ℕ) → getD d i 0 ≤ 2 ^ 40
-  pub lashes : sumq (slipq d Ds) (chainLashes (lashesOf e t)) ⊑ nat 13 /q nat 100
+  pub lashes : sumq (shiftErrorq d Ds) (endLashes e t) ⊑ nat 13 /q nat 100
   pub rackings :
       (i : ℕ) →
       i < t .ntiers →
-      absq (S.tierAt (chainOf e t) i .K *q (found d (suc i) -q found d i) -q S.racking (chainOf e t) Ds i)
+      absq (S.tierAt (endTiers e t) i .K *q (found d (suc i) -q found d i) -q S.racking (endTiers e t) Ds i)
       ⊑ nat 25 /q nat 100
 
 -- the solver's promise says so, where its two constants are no more than these
@@ -61,44 +59,32 @@ pub promised-close :
     P.lashError ⊑ nat 13 /q nat 100 →
     P.rackingError ⊑ nat 25 /q nat 100 →
     P.Promised (t .ntiers) k κ ω d →
-    P.Near (t .ntiers) k κ ω (chainOf e t) (chainLashes (lashesOf e t)) →
+    P.Near (t .ntiers) k κ ω (endTiers e t) (endLashes e t) →
     Settled e t Ds →
     Close e t d Ds
 promised-close e t k κ ω d Ds a b p n s =
     record {
       far = p .far;
       lashes =
-          ⊑-trans (sumq (slipq d Ds) (chainLashes (lashesOf e t))) P.lashError (nat 13 /q nat 100)
-          (p .lashes (chainOf e t) (chainLashes (lashesOf e t)) Ds n (s .solves)) a;
+          ⊑-trans (sumq (shiftErrorq d Ds) (endLashes e t)) P.lashError (nat 13 /q nat 100)
+          (p .lashes (endTiers e t) (endLashes e t) Ds n (s .solves)) a;
       rackings =
           λ i h.
           ⊑-trans
-          (absq (S.tierAt (chainOf e t) i .K *q (found d (suc i) -q found d i) -q S.racking (chainOf e t) Ds i))
+          (absq (S.tierAt (endTiers e t) i .K *q (found d (suc i) -q found d i) -q S.racking (endTiers e t) Ds i))
           P.rackingError
           (nat 25 /q nat 100)
-          (p .rackings (chainOf e t) (chainLashes (lashesOf e t)) Ds n (s .solves) i h)
+          (p .rackings (endTiers e t) (endLashes e t) Ds n (s .solves) i h)
           b;
     }
 
-slip-bound : mk (nat 13 /q nat 100) ≡ slipBound
+shift-error-bound : mk (nat 13 /q nat 100) ≡ shiftErrorBound
 unfolding _*ℚ_ recipℚ int
-slip-bound = refl
+shift-error-bound = refl
 
 force-bound : mk (nat 25 /q nat 100) ≡ forceBound
 unfolding _*ℚ_ recipℚ int
 force-bound = refl
-
-chain-spring :
-    (e : End) (share factor : Frac) (ts : List Tier) (i : ℕ) →
-    i < length ts →
-    S.tierAt (chainTiers e share factor ts) i .K ≡ nat (springOf e)
-unfolding chainTiers
-chain-spring e share factor [] i h = absurd (never h)
-  where
-    never : i < 0 → ⊥
-    never x = omega arith
-chain-spring e share factor (t ∷ ts) zero h = refl
-chain-spring e share factor (t ∷ ts) (suc i) h = chain-spring e share factor ts i (omega arith)
 
 module _
     (e : End) (t : Sheet) (d : List ℕ) (Ds : List Frac) (facts : Facts t) (settled : Settled e t Ds) (near : Close e t d Ds) where
@@ -109,7 +95,7 @@ module _
   ls = lashesOf e t
 
   abbrev R : ℕ → Frac
-  R i = S.racking (chainOf e t) Ds i
+  R i = S.racking (endTiers e t) Ds i
 
   abbrev M : ℕ → Frac
   M i = moment classShare (routeFactor t) ts ls Ds i
@@ -118,17 +104,17 @@ module _
   momentFound i = momentPart (springOf e) d (drop i ts) i
 
   each : Each (t .ntiers) ls
-  each = record { at = facts .ends e .each }
+  each = end-each e facts
 
-  slips-small : slips d Ds ls ≤ℚ slipBound
-  slips-small =
-      rw (slips-q d Ds ls, slip-bound) at (of-⊑ (sumq (slipq d Ds) (chainLashes ls)) (nat 13 /q nat 100) (near .lashes))
+  shift-errors-small : shiftErrors d Ds ls ≤ℚ shiftErrorBound
+  shift-errors-small =
+      rw (shift-errors-q d Ds ls, shift-error-bound) at (of-⊑ (sumq (shiftErrorq d Ds) (endLashes e t)) (nat 13 /q nat 100) (near .lashes))
 
   racking-near : (i : ℕ) → i < t .ntiers → Off roundedRackingError (newtons (rackingPart (springOf e) d i)) (mk (R i))
   racking-near i h =
-      let K = S.tierAt (chainOf e t) i .K in
+      let K = S.tierAt (endTiers e t) i .K in
       let x = found d (suc i) -q found d i in
-      let spring = ap mk (chain-spring e classShare (routeFactor t) ts i (rw (facts .tiers) h)) ∙ mk-int (pos (springOf e)) in
+      let spring = ap mk (end-spring e t facts i h) ∙ mk-int (pos (springOf e)) in
       let force = mk-mul K x ∙ ap₂ _*ℚ_ spring (mk-sub (found d (suc i)) (found d i)) in
       let error = mk-abs (K *q x -q R i) ∙ ap absℚ (mk-sub (K *q x) (R i) ∙ ap (λ y. y -ℚ mk (R i)) force) in
       racking-off (springOf e) d i (mk (R i))
@@ -163,7 +149,7 @@ module _
           lee-off (length (drop i ts)) half (upwards leePart (counts i) d ls) (momentFound i)
           (weightAbove acceleration ts i) (M i) (verticals onLee (counts i) ls Ds)
           few-above (weight-off acceleration ts i) turned
-          (verticals-off d Ds (near .far) lee-post (counts i) ls each (facts .ends e .few) slips-small)
+          (verticals-off d Ds (near .far) lee-post (counts i) ls each (facts .ends e .few) shift-errors-small)
 
       windward-near :
           Off postError
@@ -173,7 +159,7 @@ module _
           windward-off (length (drop i ts)) half (upwards windwardPart (counts i) d ls) (momentFound i)
           (weightAbove acceleration ts i) (M i) (verticals onWindward (counts i) ls Ds)
           few-above (weight-off acceleration ts i) turned
-          (verticals-off d Ds (near .far) windward-post (counts i) ls each (facts .ends e .few) slips-small)
+          (verticals-off d Ds (near .far) windward-post (counts i) ls each (facts .ends e .few) shift-errors-small)
 
     compressed : Reported 20 (compression classShare (routeFactor t) ts ls Ds i) (compressionFigure (springOf e) ts ls d i)
     unfolding compression compressionFigure
@@ -192,17 +178,17 @@ module _
     abbrev D : Frac
     D = shift Ds (hookLevel lash)
 
-    slip-small : slipAt d Ds lash ≤ℚ slipBound
-    slip-small = ≤ℚ-trans (slipAt d Ds lash) (slips d Ds ls) slipBound (slip-le d Ds ls each j h) slips-small
+    shift-error-small : shiftErrorAt d Ds lash ≤ℚ shiftErrorBound
+    shift-error-small = ≤ℚ-trans (shiftErrorAt d Ds lash) (shiftErrors d Ds ls) shiftErrorBound (shift-error-le d Ds ls each j h) shift-errors-small
 
     pulled : Reported 20 (pull lash D) (pullFigure d lash)
-    pulled = pull-reported d lash D (each .at j h) (near .far (hookLevel lash)) slip-small 20 (lit≤ tt)
+    pulled = pull-reported d lash D (each .at j h) (near .far (hookLevel lash)) shift-error-small 20 (lit≤ tt)
 
     athwart : Reported 20 (athwartPart lash D) (athwartFigure d lash)
-    athwart = athwart-reported d lash D (each .at j h) (near .far (hookLevel lash)) slip-small 20 (lit≤ tt)
+    athwart = athwart-reported d lash D (each .at j h) (near .far (hookLevel lash)) shift-error-small 20 (lit≤ tt)
 
     upright : Reported 20 (verticalPart lash D) (verticalFigure d lash)
-    upright = vertical-reported d lash D (each .at j h) (near .far (hookLevel lash)) slip-small 20 (lit≤ tt)
+    upright = vertical-reported d lash D (each .at j h) (near .far (hookLevel lash)) shift-error-small 20 (lit≤ tt)
 
   pub reported : (f : EndFigures) → Computed e t d f → EndReported 20 e t Ds f
   reported f c =

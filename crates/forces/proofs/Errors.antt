@@ -1,13 +1,9 @@
 -- A number beside the exact one: how far off it may be, through sums, products and shares.
-use Prim.Native.Nat.{ℕ}
-use lib.IntN.{pos}
 use Rattle.arith.proofs.Rings.{∀₁, ∀₂, ∀₃, ∀₄, ∀₅, ∀₆, ∀₇, by-cert, to, part, _⊞_, _⊠_}
-use Rattle.arith.proofs.Rationals.{ℚR, ℚ, int, _+ℚ_, _-ℚ_, _*ℚ_, negℚ, absℚ, _≤ℚ_}
+use Rattle.arith.proofs.Rationals.{ℚR, ℚ, _+ℚ_, _-ℚ_, _*ℚ_, negℚ, absℚ, _≤ℚ_}
 use Rattle.arith.proofs.RationalTerms.{qq}
 use Rattle.arith.proofs.Signs.{ge-q, ge-neg-q}
-
-abbrev pub natℚ : ℕ → ℚ
-natℚ n = int (pos n)
+use Rattle.springs.proofs.Chain.{natℚ}
 
 pub turn-le : (p q : ℚ) → p ≤ℚ q → negℚ q ≤ℚ negℚ p
 turn-le = ∀₂ ℚR _ λ ρ. simp qq λ h. by-cert (to h) tt

@@ -15,6 +15,7 @@ use Rattle.arith.proofs.Signs.{ge-q, ge-neg-q, nn-q}
 use Rattle.arith.proofs.RationalOrder.{nat-q}
 use Rattle.arith.proofs.RationalRounding.{div-down, down-low, down-high}
 use Rattle.springs.specs.Promise.{found}
+use Rattle.springs.proofs.Chain.{natℚ}
 use Rattle.sheet.specs.declared.Lash.{Lash}
 use Rattle.forces.specs.Lashes.{hookLevel, lashLength, pull, athwartPart, verticalPart}
 use Rattle.forces.specs.Fixed as F
@@ -22,23 +23,23 @@ use Rattle.forces.specs.Fixed.{stiffnessOf, upward, lashPad, athwartFigu
 use Rattle.forces.specs.Reported.{Reported}
 use Rattle.forces.proofs.Facts.{LashFacts}
 use Rattle.forces.proofs.LashLength.{length-above, length-ratio, vertical-ratio}
-use Rattle.forces.proofs.Errors.{natℚ, Off, off-more, off-share}
+use Rattle.forces.proofs.Errors.{Off, off-more, off-share}
 use Rattle.forces.proofs.Scales.{found-times, newtons, newtons-times, newtons-nn, share-nn, share-most, share-off}
-use Rattle.forces.proofs.Pads.{slipBound, partError, verticalError, lash-pad, lash-lift, turned-lift}
+use Rattle.forces.proofs.Pads.{shiftErrorBound, partError, verticalError, lash-pad, lash-lift, turned-lift}
 use Rattle.forces.proofs.Covers.{covers-reported, padded-covers, turned-covers}
 use Rattle.forces.proofs.LashForces.{stiffness, stiffness-low, stiffness-high, stiffness-nn, athwart-is, pull-is, vertical-is}
 
--- the slip of a lash: what the error of its level's shift is worth in the athwart part, D being the exact shift
-abbrev pub slip : List ℕ → Lash → Frac → ℚ
-slip d l D = stiffness l *ℚ absℚ (mk (found d (hookLevel l)) -ℚ mk D)
+-- the shift error of a lash, in N: its stiffness × the error of its level's shift, D being the exact shift
+abbrev pub shiftError : List ℕ → Lash → Frac → ℚ
+shiftError d l D = stiffness l *ℚ absℚ (mk (found d (hookLevel l)) -ℚ mk D)
 
 module _ (d : List ℕ) (l : Lash) (D : Frac) (long : 0 < lashLength l) where
-  pub slip-nn : natℚ 0 ≤ℚ slip d l D
-  slip-nn =
+  pub shift-error-nn : natℚ 0 ≤ℚ shiftError d l D
+  shift-error-nn =
       nn-times (stiffness l) (absℚ (mk (found d (hookLevel l)) -ℚ mk D)) (stiffness-nn l long) (nn-q (mk (found d (hookLevel l)) -ℚ mk D))
 
   -- the athwart part found: rounding costs a unit, and a unit of stiffness times the shift, at most 2^40
-  part-off : getD d (hookLevel l) 0 ≤ 2 ^ 40 → Off (partError (slip d l D)) (newtons (pos (F.part d l))) (stiffness l *ℚ mk D)
+  part-off : getD d (hookLevel l) 0 ≤ 2 ^ 40 → Off (partError (shiftError d l D)) (newtons (pos (F.part d l))) (stiffness l *ℚ mk D)
   unfolding F.part
   part-off far =
       let k = stiffness l in
@@ -103,7 +104,7 @@ module _ {n : ℕ} (d : List ℕ) (l : Lash) (D : Frac) (f : LashFacts n l) (far
   steep = omega (arith, vertical-ratio f)
 
   -- in the post sums
-  pub upward-off : Off (verticalError (slip d l D)) (newtons (pos (upward d l))) (mk (verticalPart l D))
+  pub upward-off : Off (verticalError (shiftError d l D)) (newtons (pos (upward d l))) (mk (verticalPart l D))
   unfolding upward
   upward-off =
       rw (vertical-is l (length-above f) wide D)
@@ -111,9 +112,9 @@ module _ {n : ℕ} (d : List ℕ) (l : Lash) (D : Frac) (f : LashFacts n l) (far
       (part-off d l D (length-above f) far) (share-off (l .lz) (l .ly) wide (F.part d l)))
 
   -- the figures
-  module _ (small : slip d l D ≤ℚ slipBound) (m : ℕ) (margin : 13 < m) where
-    off : Off (partError slipBound) (newtons (pos (F.part d l))) (stiffness l *ℚ mk D)
-    off = off-more (go (slip d l D) slipBound (newtons (pos 257)) small) (part-off d l D (length-above f) far)
+  module _ (small : shiftError d l D ≤ℚ shiftErrorBound) (m : ℕ) (margin : 13 < m) where
+    off : Off (partError shiftErrorBound) (newtons (pos (F.part d l))) (stiffness l *ℚ mk D)
+    off = off-more (go (shiftError d l D) shiftErrorBound (newtons (pos 257)) small) (part-off d l D (length-above f) far)
       where
         go : (x y c : ℚ) → x ≤ℚ y → x +ℚ c ≤ℚ y +ℚ c
         go = ∀₃ ℚR _ λ ρ. simp qq λ h. by-cert (to h) tt

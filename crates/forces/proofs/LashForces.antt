@@ -13,10 +13,10 @@ use Rattle.arith.proofs.RationalOrder.{above-0}
 use Rattle.arith.proofs.RationalRounding.{scaled-down, scaled-low, scaled-high}
 use Rattle.arith.proofs.FractionsInRationals.{toℚ}
 use Rattle.springs.specs.Promise.{Rounded}
+use Rattle.springs.proofs.Chain.{natℚ}
 use Rattle.sheet.specs.declared.Lash.{Lash}
 use Rattle.forces.specs.Lashes.{lashLength, pull, athwartPart, verticalPart}
 use Rattle.forces.specs.Fixed.{stiffnessOf}
-use Rattle.forces.proofs.Errors.{natℚ}
 use Rattle.forces.proofs.Scales.{recip-nat}
 
 -- the athwart stiffness: the athwart part at a shift of 1 mm

@@ -24,7 +24,7 @@ pub mod Scales
 pub mod Pads
 pub mod Covers
 pub mod LashFigures
-pub mod Slips
+pub mod ShiftErrors
 pub mod Verticals
 pub mod Weights
 pub mod Arms

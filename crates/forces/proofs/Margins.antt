@@ -8,11 +8,12 @@ use Rattle.arith.proofs.Rationals.{ℚR, ℚ, mk, _+ℚ_, _≤ℚ_, to-⊑}
 use Rattle.arith.proofs.RationalTerms.{qq}
 use Rattle.arith.proofs.RationalOrder.{lt-of, lt-not, nat-q}
 use Rattle.arith.proofs.FractionsInRationals.{mk-int, mk-neg, mk-add, of-⊏, to-⊏}
+use Rattle.springs.proofs.Chain.{natℚ}
 use Rattle.sheet.specs.declared.Sheet.{Sheet}
 use Rattle.forces.specs.declared.EndFigures.{EndFigures}
 use Rattle.forces.specs.Ends.{End}
 use Rattle.forces.specs.Reported.{Reported, ReportedRacking, EndReported, EndFigured}
-use Rattle.forces.proofs.Errors.{natℚ, turn-le}
+use Rattle.forces.proofs.Errors.{turn-le}
 use mathlib.Core.List.{List}
 
 module _ {m n : ℕ} (wider : m ≤ n) where

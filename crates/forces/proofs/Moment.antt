@@ -12,15 +12,17 @@ use Rattle.arith.proofs.Rationals.{ℚ, mk, int, _+ℚ_, _-ℚ_, _*ℚ_, negℚ
 use Rattle.arith.proofs.FractionsInRationals.{sumℚ, mk-sum, mk-sub, mk-add, mk-mul, to-≈, of-≈}
 use Rattle.springs.specs.Equations as S
 use Rattle.springs.specs.Equations.{given, shift}
+use Rattle.springs.proofs.Chain.{natℚ}
+use Rattle.springs.proofs.Lashes.{givenℚ}
 use Rattle.sheet.specs.declared.Tier.{Tier}
 use Rattle.sheet.specs.declared.Lash.{Lash}
 use Rattle.forces.specs.Loads.{half, transverse, wind, load}
 use Rattle.forces.specs.Lashes.{hookLevel, athwartPart}
 use Rattle.forces.specs.Ends.{End, chainTiers, chainLash, chainLashes}
 use Rattle.forces.specs.Posts.{levelHeight, turning, athwartOf, moment}
-use Rattle.forces.proofs.Errors.{natℚ}
+use Rattle.forces.proofs.EndChain.{chain-length}
 use Rattle.forces.proofs.LashForces.{athwart-is}
-use Rattle.forces.proofs.Arms.{givenℚ, Q, held, turns, racked, turned-back, balance}
+use Rattle.forces.proofs.Arms.{Q, held, turns, racked, turned-back, balance}
 
 -- height × racking, summed over the tiers from number i + 1 on
 unfoldable pub rackingMoment : (ℕ → Frac) → List Tier → ℕ → Frac
@@ -108,11 +110,6 @@ module _ (share factor : Frac) (Ds : List Frac) where
         ∙ sym (mk-add (h *q R i) rest ∙ ap (λ y. y +ℚ mk rest) (mk-mul h (R i)))
 
 module _ (e : End) (share factor : Frac) where
-  chain-length : (ts : List Tier) → length (chainTiers e share factor ts) ≡ length ts
-  unfolding chainTiers
-  chain-length [] = refl
-  chain-length (t ∷ ts) = ap suc (chain-length ts)
-
   chain-drop : (i : ℕ) (ts : List Tier) → chainTiers e share factor (drop i ts) ≡ drop i (chainTiers e share factor ts)
   unfolding chainTiers
   chain-drop zero ts = refl
@@ -131,7 +128,7 @@ module _ (e : End) (share factor : Frac) where
         ∙ ap (λ (t : S.Tier). mk (t .Q -q S.athwartFrom (chainLashes ls) Ds (suc k))) (sym here)
       where
         inside : k < length chain
-        inside = rw (chain-length ts) (omega (arith, rw length-drop at l))
+        inside = rw (chain-length e share factor ts) (omega (arith, rw length-drop at l))
 
         here : S.tierAt (chainTiers e share factor (drop i ts)) j ≡ S.tierAt chain k
         here = ap (λ c. S.tierAt c j) (chain-drop i ts) ∙ getD-drop i chain j S.noTier ∙ ap (S.tierAt chain) h

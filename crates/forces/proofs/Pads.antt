@@ -2,19 +2,19 @@
 use lib.IntN.{pos}
 use Rattle.arith.specs.Fractions.{recip}
 use Rattle.arith.proofs.Rationals.{ℚ, int, _+ℚ_, _*ℚ_, recipℚ, _≤ℚ_, leℚ}
+use Rattle.springs.proofs.Chain.{natℚ}
 use Rattle.forces.specs.Posts.{postSpacing}
 use Rattle.forces.specs.Fixed.{lashPad, rackingPad, postPad}
-use Rattle.forces.proofs.Errors.{natℚ}
 use Rattle.forces.proofs.Scales.{cent, newtons}
 
 -- the bounds on the shifts found: stiffness × shift error, summed over the lashes; and the error of a racking
-abbrev pub slipBound : ℚ
-slipBound = cent 13
+abbrev pub shiftErrorBound : ℚ
+shiftErrorBound = cent 13
 
 abbrev pub forceBound : ℚ
 forceBound = cent 25
 
--- a lash's athwart part, for its slip s: stiffness, shift and product are rounded
+-- a lash's athwart part, for its shift error s: stiffness, shift and product are rounded
 abbrev pub partError : ℚ → ℚ
 partError s = s +ℚ newtons (pos 257)
 
@@ -45,7 +45,7 @@ pub racking-room : newtons (pos 1) +ℚ forceBound ≤ℚ roundedRackingError
 unfolding leℚ _+ℚ_ _*ℚ_ recipℚ recip int
 racking-room = record { le = tt }
 
-pub verticals-room : natℚ 40 *ℚ slipBound +ℚ natℚ 8 *ℚ verticalError (natℚ 0) ≤ℚ verticalsError
+pub verticals-room : natℚ 40 *ℚ shiftErrorBound +ℚ natℚ 8 *ℚ verticalError (natℚ 0) ≤ℚ verticalsError
 unfolding leℚ _+ℚ_ _*ℚ_ recipℚ recip int
 verticals-room = record { le = tt }
 
@@ -54,15 +54,15 @@ unfolding leℚ _+ℚ_ _*ℚ_ recipℚ recip int
 post-room = record { le = tt }
 
 -- the pads cover the errors, and lift a figure by little
-pub lash-pad : partError slipBound ≤ℚ newtons (pos lashPad)
+pub lash-pad : partError shiftErrorBound ≤ℚ newtons (pos lashPad)
 unfolding leℚ _+ℚ_ _*ℚ_ recipℚ recip int
 lash-pad = record { le = tt }
 
-pub lash-lift : partError slipBound +ℚ newtons (pos lashPad) ≤ℚ natℚ 1
+pub lash-lift : partError shiftErrorBound +ℚ newtons (pos lashPad) ≤ℚ natℚ 1
 unfolding leℚ _+ℚ_ _*ℚ_ recipℚ recip int
 lash-lift = record { le = tt }
 
-pub turned-lift : natℚ 42 *ℚ (partError slipBound +ℚ newtons (pos lashPad)) +ℚ newtons (pos 1) ≤ℚ natℚ 12
+pub turned-lift : natℚ 42 *ℚ (partError shiftErrorBound +ℚ newtons (pos lashPad)) +ℚ newtons (pos 1) ≤ℚ natℚ 12
 unfolding leℚ _+ℚ_ _*ℚ_ recipℚ recip int
 turned-lift = record { le = tt }
 

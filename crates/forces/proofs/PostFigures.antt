@@ -14,10 +14,11 @@ use Rattle.arith.proofs.RationalTerms.{qq}
 use Rattle.arith.proofs.Signs.{same-le}
 use Rattle.arith.proofs.RationalOrder.{≤ℚ-trans}
 use Rattle.arith.proofs.FractionsInRationals.{mk-int, mk-neg}
+use Rattle.springs.proofs.Chain.{natℚ}
 use Rattle.forces.specs.Posts.{atMost, greater, lower}
 use Rattle.forces.specs.Fixed.{ceil, postPad, notBelow, postFigure}
 use Rattle.forces.specs.Reported.{Reported}
-use Rattle.forces.proofs.Errors.{natℚ, turn-le, Off, off-neg}
+use Rattle.forces.proofs.Errors.{turn-le, Off, off-neg}
 use Rattle.forces.proofs.Scales.{newtons, newtons-add, newtons-neg, newtons-zero, newtons-le}
 use Rattle.forces.proofs.Pads.{postError, post-pad, post-lift}
 use Rattle.forces.proofs.Covers.{Covers, covers-reported, ceil-low, ceil-high}

@@ -15,10 +15,11 @@ use Rattle.arith.proofs.RationalTerms.{qq}
 use Rattle.arith.proofs.Signs.{same-le}
 use Rattle.arith.proofs.RationalOrder.{nat-q}
 use Rattle.arith.proofs.FractionsInRationals.{mk-add, mk-mul, mk-int}
+use Rattle.springs.proofs.Chain.{natℚ}
 use Rattle.sheet.specs.declared.Tier.{Tier}
 use Rattle.forces.specs.Posts.{leeSum, windwardSum}
 use Rattle.forces.specs.Fixed.{noTier, rackingPart, momentPart, leeFound, windwardFound}
-use Rattle.forces.proofs.Errors.{natℚ, Off, off-neg, off-add, off-more, off-times, off-share}
+use Rattle.forces.proofs.Errors.{Off, off-neg, off-add, off-more, off-times, off-share}
 use Rattle.forces.proofs.Scales.{newtons, newtons-add, newtons-neg, newtons-scale, nothing-off, quot-off}
 use Rattle.forces.proofs.Pads.{roundedRackingError, tierError, verticalsError, sumError, postError, post-room}
 use Rattle.forces.proofs.Moment.{rackingMoment}

@@ -19,9 +19,10 @@ use Rattle.arith.proofs.RationalOrder.{above-0, nat-q}
 use Rattle.arith.proofs.RationalRounding.{ceil-up}
 use Rattle.arith.proofs.FractionsInRationals.{mk-int, mk-neg}
 use Rattle.springs.specs.Promise.{found}
+use Rattle.springs.proofs.Chain.{natℚ}
 use Rattle.forces.specs.Fixed.{ceil, rackingPart, rackingPad, rackingFigure}
 use Rattle.forces.specs.Reported.{ReportedRacking}
-use Rattle.forces.proofs.Errors.{natℚ, turn-le, Off, off-abs, off-neg, off-more, off-trans}
+use Rattle.forces.proofs.Errors.{turn-le, Off, off-abs, off-neg, off-more, off-trans}
 use Rattle.forces.proofs.Scales.{found-times, newtons, newtons-nn, newtons-neg, quot-off}
 use Rattle.forces.proofs.Pads.{forceBound, roundedRackingError, racking-room, racking-pad, racking-lift}
 use Rattle.forces.proofs.Covers.{covers-reported, back-reported, padded-covers}

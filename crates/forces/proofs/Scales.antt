@@ -18,8 +18,9 @@ use Rattle.arith.proofs.RationalOrder.{above-0, unit, unit-times, nat-q, div-le
 use Rattle.arith.proofs.RationalRounding.{div-down, down-le, down-lt, ceil-up, up-le, up-lt}
 use Rattle.arith.proofs.FractionsInRationals.{mk-int}
 use Rattle.springs.specs.Promise.{found}
+use Rattle.springs.proofs.Chain.{natℚ}
 use Rattle.forces.specs.Fixed.{ceil}
-use Rattle.forces.proofs.Errors.{natℚ, Off, off-neg, off-zero}
+use Rattle.forces.proofs.Errors.{Off, off-neg, off-zero}
 
 pub found-times : (d : List ℕ) (i : ℕ) → natℚ (2 ^ 28) *ℚ mk (found d i) ≡ natℚ (getD d i 0)
 unfolding _*ℚ_ recipℚ int

@@ -13,6 +13,7 @@ use Rattle.arith.proofs.RationalTerms.{qq}
 use Rattle.arith.proofs.RationalOrder.{nat-q}
 use Rattle.arith.proofs.FractionsInRationals.{sumℚ, mk-add}
 use Rattle.springs.specs.Equations.{given, shift}
+use Rattle.springs.proofs.Chain.{natℚ}
 use Rattle.sheet.specs.declared.Lash.{Lash}
 use Rattle.sheet.specs.declared.Lashing.{Lashing}
 use Rattle.sheet.specs.declared.Lashing.the-variants.{Cross, Side}
@@ -21,12 +22,12 @@ use Rattle.forces.specs.Lashes.{hookLevel, verticalPart}
 use Rattle.forces.specs.Posts.{onLee, onWindward, verticals}
 use Rattle.forces.specs.Fixed.{upward, upwards, leePart, windwardPart}
 use Rattle.forces.proofs.Facts.{LashFacts}
-use Rattle.forces.proofs.Errors.{natℚ, Off, off-nn, off-add, off-more}
+use Rattle.forces.proofs.Errors.{Off, off-nn, off-add, off-more}
 use Rattle.forces.proofs.Scales.{newtons, newtons-add, newtons-nn, nothing-off}
-use Rattle.forces.proofs.Pads.{slipBound, verticalError, verticalsError, verticals-room}
+use Rattle.forces.proofs.Pads.{shiftErrorBound, verticalError, verticalsError, verticals-room}
 use Rattle.forces.proofs.LashFigures.{upward-off}
 use Rattle.forces.proofs.EachLash.{Each, each-first, each-rest}
-use Rattle.forces.proofs.Slips.{slipAt, slips}
+use Rattle.forces.proofs.ShiftErrors.{shiftErrorAt, shiftErrors}
 
 -- a post takes the same lashes found and exact
 abbrev Takes : (Lashing → ℕ → ℕ) → (Lashing → Frac → Frac) → Type 0
@@ -70,7 +71,7 @@ cost-nn =
     (nn-times (natℚ 40) (natℚ 0 +ℚ newtons (pos 257)) (nn-int 40) (nn-plus (natℚ 0) (newtons (pos 257)) (nn-int 0) (newtons-nn 257)))
     (newtons-nn 1)
 
--- of n lashes with slips s
+-- of n lashes whose shift errors sum to s
 abbrev error : ℚ → ℕ → ℚ
 error s n = natℚ 40 *ℚ s +ℚ natℚ n *ℚ cost
 
@@ -96,35 +97,35 @@ module _
   abbrev addedq : Lash → Frac
   addedq l = given (counts l) (force (lashingOf l) (verticalPart l (shift Ds (hookLevel l))))
 
-  added-off : {n : ℕ} (l : Lash) → LashFacts n l → Off (verticalError (slipAt d Ds l)) (newtons (pos (added l))) (mk (addedq l))
+  added-off : {n : ℕ} (l : Lash) → LashFacts n l → Off (verticalError (shiftErrorAt d Ds l)) (newtons (pos (added l))) (mk (addedq l))
   added-off l f =
       let D = shift Ds (hookLevel l) in
       counted-off (counts l) (part (lashingOf l) (upward d l)) (force (lashingOf l) (verticalPart l D))
-      (post .takes (verticalError (slipAt d Ds l)) (upward d l) (verticalPart l D) (lashingOf l) (upward-off d l D f (far (hookLevel l))))
+      (post .takes (verticalError (shiftErrorAt d Ds l)) (upward d l) (verticalPart l D) (lashingOf l) (upward-off d l D f (far (hookLevel l))))
 
   all-off :
       {n : ℕ} (ls : List Lash) →
       Each n ls →
-      Off (error (slips d Ds ls) (length ls)) (newtons (pos (upwards part counts d ls))) (mk (verticals force counts ls Ds))
+      Off (error (shiftErrors d Ds ls) (length ls)) (newtons (pos (upwards part counts d ls))) (mk (verticals force counts ls Ds))
   unfolding upwards sumq sumℚ
   all-off [] f =
       nothing-off
       (nn-plus (natℚ 40 *ℚ natℚ 0) (natℚ 0 *ℚ cost) (nn-times (natℚ 40) (natℚ 0) (nn-int 40) (nn-int 0)) (nn-times (natℚ 0) cost (nn-int 0) cost-nn))
   all-off (l ∷ ls) f =
       let rest = upwards part counts d ls in
-      rw (mk-add (addedq l) (verticals force counts ls Ds), newtons-add (pos (added l)) (pos rest), one-more (slipAt d Ds l) (slips d Ds ls) (length ls))
+      rw (mk-add (addedq l) (verticals force counts ls Ds), newtons-add (pos (added l)) (pos rest), one-more (shiftErrorAt d Ds l) (shiftErrors d Ds ls) (length ls))
       (off-add (added-off l (each-first f)) (all-off ls (each-rest f)))
 
   pub verticals-off :
       {n : ℕ} (ls : List Lash) →
       Each n ls →
       length ls ≤ 8 →
-      slips d Ds ls ≤ℚ slipBound →
+      shiftErrors d Ds ls ≤ℚ shiftErrorBound →
       Off verticalsError (newtons (pos (upwards part counts d ls))) (mk (verticals force counts ls Ds))
   unfolding cost
   verticals-off ls f few small =
       off-more
-      (go (slips d Ds ls) slipBound (natℚ (length ls)) cost verticalsError small (nat-q (length ls) 8 few) cost-nn verticals-room)
+      (go (shiftErrors d Ds ls) shiftErrorBound (natℚ (length ls)) cost verticalsError small (nat-q (length ls) 8 few) cost-nn verticals-room)
       (all-off ls f)
     where
       go :

@@ -13,11 +13,12 @@ use Rattle.arith.proofs.RationalTerms.{qq}
 use Rattle.arith.proofs.Signs.{div-eq}
 use Rattle.arith.proofs.RationalOrder.{above-0}
 use Rattle.arith.proofs.FractionsInRationals.{mk-add, mk-int}
+use Rattle.springs.proofs.Chain.{natℚ}
 use Rattle.sheet.specs.declared.Tier.{Tier}
 use Rattle.forces.specs.Loads.{weight, upright}
 use Rattle.forces.specs.Posts.{weightAbove}
 use Rattle.forces.specs.Fixed.{lifted, halfWeight}
-use Rattle.forces.proofs.Errors.{natℚ, Off}
+use Rattle.forces.proofs.Errors.{Off}
 use Rattle.forces.proofs.Scales.{recip-nat, newtons, newtons-whole, quot-off}
 
 -- F_V of 1 kg and a thousandth of g

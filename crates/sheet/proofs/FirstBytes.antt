@@ -1,6 +1,6 @@
 -- Only the first 452 bytes of an input count: a taken sheet has 451 at most, and of a longer input 2 tells the first spare byte, which is
 -- one of the 452.
-use Prim.Native.Nat.{ℕ, zero, suc, _+_, _*_, _<_, _≤_}
+use Prim.Native.Nat.{ℕ, zero, suc, _+_, _<_, _≤_}
 use mathlib.Core.Bool.{Bool, true, false}
 use mathlib.Core.List.{List, [], _∷_, _++_, flatMap}
 use mathlib.Core.Path.{_≡_, refl, sym, ap, _∙_}
@@ -15,7 +15,7 @@ use Rattle.sheet.specs.declared.Reading.{Reading}
 use Rattle.sheet.specs.declared.Reading.the-variants.{Taken, Refused}
 use Rattle.sheet.specs.declared.Sheet.{Sheet}
 use Rattle.sheet.specs.Layout.{byteAt, headOf, tierOf, lashOf, tierCount, tierPlace, lashPlace, doorPlace, closedPlace, sparePlace, from, below, sheetOf}
-use Rattle.sheet.specs.Refusals.{Row, row1, row2, row3, row4, row5, row6, row7, row8, row9, row10, row11, row12, row13, notLater, first, headRows, tierCountRows, tierRows, tiersRows, lashCountRows, lashRows, endRows, doorRows, closedRows, endsRows, sheetRows, unlessRefused, decoded, refusal}
+use Rattle.sheet.specs.Refusals.{Row, row1, row2, row3, row4, row5, row6, row7, row8, row9, row10, row11, row12, row13, notLater, first, headRows, tierCountRows, tierRows, tiersRows, lashCountRows, lashRows, endRows, doorRows, closedRows, sheetRows, unlessRefused, decoded, refusal}
 use Rattle.sheet.proofs.Items.{count-fits}
 use Rattle.sheet.proofs.Rows.{orElse, first-append}
 use Rattle.sheet.proofs.Clear.{clear, few-tiers, few-lashes}

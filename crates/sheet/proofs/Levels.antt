@@ -8,10 +8,9 @@ use mathlib.Core.Path.{_≡_, refl, sym, _∙_}
 use native.Mathlib.Omega.{arith}
 use borrow.Author.Tests.{ltb-true, eqb-true, eq-eqb, ne-eqb}
 use lib.Dec.{ltb, eqb}
-use lib.ListN.{length, getD, take}
+use lib.ListN.{length, take}
 use Rattle.sheet.specs.declared.Lash.{Lash}
-use Rattle.sheet.specs.Layout.{blankLash, lashFits}
-use Rattle.sheet.specs.Refusals.{later, offTiers}
+use Rattle.sheet.specs.Refusals.{later}
 use Rattle.sheet.specs.Lashings.{levelOf, atLevel}
 use Rattle.sheet.specs.Fits.{EndFits, lashAt}
 use Rattle.sheet.proofs.Bools.{and-true, or-true}

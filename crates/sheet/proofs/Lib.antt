@@ -1,15 +1,18 @@
-pub mod Bools
-pub mod Rows
-pub mod Arrays
-pub mod Items
-pub mod Routes
-pub mod Clear
+-- Theorems for the reader and for the crates above.
 pub mod Limits
 pub mod Taken
 pub mod Levels
 pub mod Refusal
+pub mod Routes
 pub mod FirstBytes
-pub mod ReadBack
+pub mod Numbers
 pub mod RoundTrip
 pub mod WrittenBytes
-pub mod Examples
+-- What they and the functions' proofs rest on.
+pub mod Rows
+mod Bools
+mod Items
+mod Arrays
+mod Clear
+mod ReadBack
+mod Examples

@@ -1,7 +1,7 @@
 -- What the tests of a tier and of a lash say in numbers.
 use Prim.Native.Nat.{ℕ, zero, suc, _-_, _≤_}
-use mathlib.Core.Bool.{Bool, true, false, _&&_, _||_, false≢true, true≢false}
-use mathlib.Core.Logic.{_⊎_, inl, inr}
+use mathlib.Core.Bool.{Bool, true, false, _&&_, _||_, true≢false}
+use mathlib.Core.Logic.{_⊎_, inl, inr, ⊎-elim}
 use mathlib.Core.Path.{_≡_, refl, sym, _∙_}
 use native.Mathlib.Omega.{arith}
 use borrow.Author.Tests.{ltb-false, leb-true, eqb-true, eqb-false, eq-eqb}
@@ -11,7 +11,7 @@ use Rattle.sheet.specs.declared.Lash.{Lash}
 use Rattle.sheet.specs.Layout.{within, upTo, tierFits, breakingFits, lashFits}
 use Rattle.sheet.specs.Refusals.{offTiers}
 use Rattle.sheet.specs.Lashings.{levelOf}
-use Rattle.sheet.proofs.Bools.{and-true, or-false}
+use Rattle.sheet.proofs.Bools.{and-true, or-true, or-false}
 
 least : (lo hi x : ℕ) → within lo hi x ≡ true → lo ≤ x
 least lo hi x e = leb-true lo x (and-true (leb lo x) (leb x hi) e .0)
@@ -27,8 +27,13 @@ pub breaking-limits : (x : ℕ) → breakingFits x ≡ true → BreakingLimits x
 unfolding breakingFits
 breaking-limits x e = record { least = least 1 2000000 x e; most = most 1 2000000 x e }
 
+-- a box's size, in feet, and the heights that go with it, in mm
+abbrev pub Box : ℕ → ℕ → Type 0
+Box size height =
+    ((size ≡ 20) × ((height ≡ 2438) ⊎ (height ≡ 2591))) ⊎ ((size ≡ 40) × ((height ≡ 2591) ⊎ (height ≡ 2896)))
+
 pub record TierLimits (t : Tier) : Type 0 where
-  pub sized : (t .size ≡ 20) ⊎ (t .size ≡ 40)
+  pub box : Box (t .size) (t .height)
   pub heightLeast : 2438 ≤ t .height
   pub heightMost : t .height ≤ 2896
   pub wind : t .wind ≤ 1
@@ -39,35 +44,19 @@ pub record TierLimits (t : Tier) : Type 0 where
   pub avmin : t .avmin ≤ 1000
   pub order : t .avmin ≤ t .avmax
 
-module _ (s h : ℕ) where
-  box : Bool → Bool → Bool → Bool → Bool → Bool
-  box a b d e f = a && (d || e) || b && (e || f)
+sized : (s h z a b : ℕ) → eqb s z && (eqb h a || eqb h b) ≡ true → (s ≡ z) × ((h ≡ a) ⊎ (h ≡ b))
+sized s h z a b e =
+    let p = and-true (eqb s z) (eqb h a || eqb h b) e in
+    (eqb-true s z (p .0), ⊎-elim (λ q. inl (eqb-true h a q)) (λ q. inr (eqb-true h b q)) (or-true (eqb h a) (eqb h b) (p .1)))
 
-  tall : box (eqb s 20) (eqb s 40) (eqb h 2438) (eqb h 2591) (eqb h 2896) ≡ true → ((s ≡ 20) ⊎ (s ≡ 40)) × (2438 ≤ h) × (h ≤ 2896)
-  unfolding box
-  tall = go (eqb s 20) (eqb s 40) (eqb h 2438) (eqb h 2591) (eqb h 2896) refl refl refl refl refl
-    where
-      go :
-          (a b d e f : Bool) →
-          eqb s 20 ≡ a →
-          eqb s 40 ≡ b →
-          eqb h 2438 ≡ d →
-          eqb h 2591 ≡ e →
-          eqb h 2896 ≡ f →
-          box a b d e f ≡ true →
-          ((s ≡ 20) ⊎ (s ≡ 40)) × (2438 ≤ h) × (h ≤ 2896)
-      go true b true e f p q r t u v = (inl (eqb-true s 20 p), omega (arith, eqb-true h 2438 r), omega (arith, eqb-true h 2438 r))
-      go true b false true f p q r t u v = (inl (eqb-true s 20 p), omega (arith, eqb-true h 2591 t), omega (arith, eqb-true h 2591 t))
-      go true true false false true p q r t u v = (inl (eqb-true s 20 p), omega (arith, eqb-true h 2896 u), omega (arith, eqb-true h 2896 u))
-      go true true false false false p q r t u v = absurd (false≢true v)
-      go true false false false f p q r t u v = absurd (false≢true v)
-      go false true d true f p q r t u v = (inr (eqb-true s 40 q), omega (arith, eqb-true h 2591 t), omega (arith, eqb-true h 2591 t))
-      go false true d false true p q r t u v = (inr (eqb-true s 40 q), omega (arith, eqb-true h 2896 u), omega (arith, eqb-true h 2896 u))
-      go false true d false false p q r t u v = absurd (false≢true v)
-      go false false d e f p q r t u v = absurd (false≢true v)
+heights : (s h : ℕ) → Box s h → (2438 ≤ h) × (h ≤ 2896)
+heights s h (inl (p, inl q)) = (omega arith, omega arith)
+heights s h (inl (p, inr q)) = (omega arith, omega arith)
+heights s h (inr (p, inl q)) = (omega arith, omega arith)
+heights s h (inr (p, inr q)) = (omega arith, omega arith)
 
 pub tier-limits : (t : Tier) → tierFits t ≡ true → TierLimits t
-unfolding tierFits box
+unfolding tierFits
 tier-limits t e =
     let order = and-true _ _ e in
     let avmin = and-true _ _ (order .0) in
@@ -75,11 +64,14 @@ tier-limits t e =
     let at = and-true _ _ (avmax .0) in
     let mass = and-true _ _ (at .0) in
     let wind = and-true _ _ (mass .0) in
-    let size = tall (t .size) (t .height) (wind .0) in
+    let box : Box (t .size) (t .height) =
+    ⊎-elim (λ q. inl (sized (t .size) (t .height) 20 2438 2591 q)) (λ q. inr (sized (t .size) (t .height) 40 2591 2896 q))
+    (or-true _ _ (wind .0)) in
+    let tall = heights (t .size) (t .height) box in
     record {
-      sized = size .0;
-      heightLeast = size .1;
-      heightMost = size .2;
+      box = box;
+      heightLeast = tall .0;
+      heightMost = tall .1;
       wind = leb-true _ _ (wind .1);
       massLeast = least 1 30480 _ (mass .1);
       massMost = most 1 30480 _ (mass .1);

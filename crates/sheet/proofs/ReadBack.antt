@@ -1,7 +1,7 @@
 -- An entry that was written reads back, wherever it stands in a list of bytes.
-use Prim.Native.Nat.{ℕ, zero, suc, _+_, _*_, _<_, _≤_}
+use Prim.Native.Nat.{ℕ, zero, suc, _+_, _*_, _<_}
 use mathlib.Core.List.{List, [], _∷_, _++_, flatMap, append-assoc}
-use mathlib.Core.Path.{_≡_, refl, sym, ap, _∙_}
+use mathlib.Core.Path.{_≡_, refl, ap, _∙_}
 use native.Mathlib.Nat.{add-zero}
 use native.Mathlib.Omega.{arith}
 use lib.ListN.{length, getD, length-append}
@@ -10,9 +10,9 @@ use Rattle.arith.proofs.ByteLaws.{getD-behind, le2-back, le4-back}
 use Rattle.sheet.specs.declared.Head.{Head}
 use Rattle.sheet.specs.declared.Tier.{Tier}
 use Rattle.sheet.specs.declared.Lash.{Lash}
-use Rattle.sheet.specs.Layout.{headOf, tierOf, lashOf}
+use Rattle.sheet.specs.Layout.{headOf, tierOf, lashOf, blankTier, blankLash}
 use Rattle.sheet.specs.Written.{headBytes, tierBytes, lashBytes}
-use Rattle.sheet.proofs.Limits.{BreakingLimits, TierLimits, LashLimits}
+use Rattle.sheet.proofs.Limits.{TierLimits, LashLimits}
 
 -- a field behind the bytes a and p
 module _ (a p b : List ℕ) (at : ℕ) (e : length a ≡ at) where
@@ -81,35 +81,69 @@ module _ (a b : List ℕ) (at : ℕ) (e : length a ≡ at) where
         four-back a p16 b at e (l .breaking) (omega arith),
       )
 
--- entries of one size in a row
-module _ {A : Type 0} (bytes : A → List ℕ) (size : ℕ) (sized : (x : A) → length (bytes x) ≡ size) where
-  pub entries-length : (l : List A) → length (flatMap bytes l) ≡ size * length l
+-- a kind of entry: its bytes, of one size, and that they read back
+pub record Entry (A : Type 0) : Type 1 where
+  pub bytes : A → List ℕ
+  pub size : ℕ
+  pub sized : (x : A) → length (bytes x) ≡ size
+  pub read : List ℕ → ℕ → A
+  pub blank : A
+  pub Limits : A → Type 0
+  pub back : (a b : List ℕ) (at : ℕ) → length a ≡ at → (x : A) → Limits x → read (a ++ (bytes x ++ b)) at ≡ x
+
+abbrev pub tierEntry : Entry Tier
+tierEntry =
+    record {
+      bytes = tierBytes;
+      size = 12;
+      sized = λ t. refl;
+      read = tierOf;
+      blank = blankTier;
+      Limits = TierLimits;
+      back = tier-back;
+    }
+
+abbrev pub lashEntry : Entry Lash
+lashEntry =
+    record {
+      bytes = lashBytes;
+      size = 20;
+      sized = λ l. refl;
+      read = lashOf;
+      blank = blankLash;
+      Limits = LashLimits;
+      back = lash-back;
+    }
+
+-- entries in a row
+module _ {A : Type 0} (E : Entry A) where
+  pub entries-length : (l : List A) → length (flatMap (E .bytes) l) ≡ E .size * length l
   unfolding flatMap
   entries-length [] = omega arith
-  entries-length (x ∷ l) = simp (length-append, sized x, entries-length l) (omega arith)
+  entries-length (x ∷ l) = simp (length-append, E .sized x, entries-length l) (omega arith)
 
-  -- where each of them reads back, entry k does
-  module _ (read : List ℕ → ℕ → A) (Good : A → Type 0) (back : (a b : List ℕ) (at : ℕ) → length a ≡ at → (x : A) → Good x → read (a ++ (bytes x ++ b)) at ≡ x) (d : A) where
-    pub entry-back :
-        (l : List A) (k : ℕ) →
-        k < length l →
-        ((i : ℕ) → i < length l → Good (getD l i d)) →
-        (a b : List ℕ) (at : ℕ) →
-        length a ≡ at →
-        read (a ++ (flatMap bytes l ++ b)) (at + size * k) ≡ getD l k d
-    unfolding flatMap
-    entry-back [] k h g a b at e = absurd (omega (arith, h))
-    entry-back (x ∷ l) zero h g a b at e =
-        rw (append-assoc (bytes x) (flatMap bytes l) b, here) (back a (flatMap bytes l ++ b) at e x (g 0 (omega arith)))
-      where
-        here : at + size * 0 ≡ at
-        here = omega arith
-    entry-back (x ∷ l) (suc k) h g a b at e =
-        rw (append-assoc (bytes x) (flatMap bytes l) b, ← append-assoc a (bytes x) (flatMap bytes l ++ b), further)
-        (entry-back l k (omega (arith, h)) (λ i q. g (suc i) (omega (arith, q))) (a ++ bytes x) b (at + size) longer)
-      where
-        further : at + size * suc k ≡ at + size + size * k
-        further = omega arith
+  pub entry-back :
+      (l : List A) (k : ℕ) →
+      k < length l →
+      ((i : ℕ) → i < length l → E .Limits (getD l i (E .blank))) →
+      (a b : List ℕ) (at : ℕ) →
+      length a ≡ at →
+      E .read (a ++ (flatMap (E .bytes) l ++ b)) (at + E .size * k) ≡ getD l k (E .blank)
+  unfolding flatMap
+  entry-back [] k h g a b at e = absurd (omega (arith, h))
+  entry-back (x ∷ l) zero h g a b at e =
+      rw (append-assoc (E .bytes x) (flatMap (E .bytes) l) b, here)
+      (E .back a (flatMap (E .bytes) l ++ b) at e x (g 0 (omega arith)))
+    where
+      here : at + E .size * 0 ≡ at
+      here = omega arith
+  entry-back (x ∷ l) (suc k) h g a b at e =
+      let more = flatMap (E .bytes) l in
+      rw (append-assoc (E .bytes x) more b, ← append-assoc a (E .bytes x) (more ++ b), further)
+      (entry-back l k (omega (arith, h)) (λ i q. g (suc i) (omega (arith, q))) (a ++ E .bytes x) b (at + E .size) longer)
+    where
+      further : at + E .size * suc k ≡ at + E .size + E .size * k
+      further = omega arith
 
-        longer : length (a ++ bytes x) ≡ at + size
-        longer = length-append a (bytes x) ∙ rw (e, sized x)
+      longer : length (a ++ E .bytes x) ≡ at + E .size
+      longer = length-append a (E .bytes x) ∙ rw (e, E .sized x)

@@ -1,6 +1,6 @@
 -- A taken sheet is within its limits.
 use Prim.Native.Nat.{ℕ, suc, _-_, _<_, _≤_}
-use mathlib.Core.Bool.{false, not, _||_}
+use mathlib.Core.Bool.{false, not}
 use mathlib.Core.List.{List, map}
 use mathlib.Core.Path.{_≡_, refl, sym, ap}
 use native.Mathlib.Omega.{arith}
@@ -8,12 +8,11 @@ use borrow.Author.Tests.{ltb-false, eqb-true, not-false}
 use lib.Dec.{ltb, eqb}
 use lib.ListN.{length, getD, take, replicate}
 use lib.Seq.{take-at}
-use Rattle.sheet.specs.declared.Tier.{Tier}
-use Rattle.sheet.specs.declared.Lash.{Lash}
 use Rattle.sheet.specs.declared.Reading.{Reading}
 use Rattle.sheet.specs.declared.Reading.the-variants.{Taken, Refused}
+use Rattle.sheet.specs.declared.Decoded.{Decoded}
 use Rattle.sheet.specs.Layout.{headOf, byteAt, tierCount, tierIn, lashIn, doorPlace, closedPlace, sparePlace, breakingFits, below, padded, blankTier, blankLash, tiersIn, lashesIn, sheetOf}
-use Rattle.sheet.specs.Refusals.{notLater, first, headRows, tiersRows, endRows, sheetRows, unlessRefused, decoded}
+use Rattle.sheet.specs.Refusals.{notLater, first, endRows, sheetRows, unlessRefused, decoded}
 use Rattle.sheet.specs.Fits.{EndFits, Fits, Padded}
 use Rattle.sheet.proofs.Arrays.{length-entries, held}
 use Rattle.sheet.proofs.Bools.{or-false}
@@ -97,14 +96,14 @@ module _ (s : List ℕ) (e : first (sheetRows s) ≡ Taken) where
       (omega (arith, taken-length), omega (arith, taken-length))
 
 -- what a caller of `decode` has where the sheet is taken
-pub decoded-fits : (s : List ℕ) → decoded s .reading ≡ Taken → Fits (decoded s .sheet)
+pub decoded-fits : (s : List ℕ) (d : Decoded) → d ≡ decoded s → d .reading ≡ Taken → Fits (d .sheet)
 unfolding decoded
-decoded-fits s = go (first (sheetRows s)) refl
+decoded-fits s d e = rw e (go (first (sheetRows s)) refl)
   where
     go :
         (r : Reading) →
         first (sheetRows s) ≡ r →
         unlessRefused r (sheetOf s) .reading ≡ Taken →
         Fits (unlessRefused r (sheetOf s) .sheet)
-    go Taken q e = taken-fits s q
-    go (Refused n p) q e = not-taken n p e
+    go Taken q h = taken-fits s q
+    go (Refused n p) q h = not-taken n p h

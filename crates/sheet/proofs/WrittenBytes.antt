@@ -1,18 +1,16 @@
 -- What is written of a sheet within its limits are bytes.
 use Prim.Native.Nat.{ℕ, zero, suc, _<_, _≤_}
 use mathlib.Core.List.{List, [], _∷_, _++_, flatMap}
-use mathlib.Core.Logic.{_⊎_, inl, inr}
-use mathlib.Core.Path.{_≡_}
+use mathlib.Core.Logic.{inl, inr}
 use native.Mathlib.Omega.{arith}
 use lib.ListN.{getD, take}
-use Rattle.sheet.specs.declared.Head.{Head}
 use Rattle.sheet.specs.declared.Tier.{Tier}
 use Rattle.sheet.specs.declared.Lash.{Lash}
 use Rattle.sheet.specs.declared.Sheet.{Sheet}
 use Rattle.sheet.specs.Layout.{blankTier, blankLash}
-use Rattle.sheet.specs.Fits.{EndFits, Fits, tierAt, lashAt}
+use Rattle.sheet.specs.Fits.{EndFits, Fits, lashAt}
 use Rattle.sheet.specs.Written.{headBytes, tierBytes, lashBytes, counted, written}
-use Rattle.sheet.proofs.Limits.{TierLimits, tier-limits, LashLimits, lash-limits, LashPlaced, lash-placed}
+use Rattle.sheet.proofs.Limits.{Box, TierLimits, tier-limits, LashLimits, lash-limits, lash-placed}
 
 abbrev Bytes : List ℕ → Type 0
 Bytes [] = Unit {0}
@@ -38,9 +36,9 @@ each bytes d (x ∷ l) (suc n) h =
     join (bytes x) (flatMap bytes (take n l)) (h 0 (omega arith)) (each bytes d l n (λ k q. h (suc k) (omega (arith, q))))
 
 tier-bytes : (t : Tier) → TierLimits t → Bytes (tierBytes t)
-tier-bytes t l = (size (l .sized), (omega arith, omega (arith, l)))
+tier-bytes t l = (size (l .box), (omega arith, omega (arith, l)))
   where
-    size : (t .size ≡ 20) ⊎ (t .size ≡ 40) → t .size < 256
+    size : Box (t .size) (t .height) → t .size < 256
     size (inl e) = omega arith
     size (inr e) = omega arith
 

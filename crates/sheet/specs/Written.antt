@@ -1,6 +1,6 @@
 -- The bytes of a sheet that holds given fields: document 01's layout, written out.
 use Prim.Native.Nat.{ℕ}
-use mathlib.Core.List.{List, [], _∷_, _++_, flatMap}
+use mathlib.Core.List.{List, _∷_, _++_, flatMap}
 use lib.ListN.{take}
 use Rattle.arith.specs.Bytes.{bytes2, bytes4}
 use Rattle.sheet.specs.declared.Head.{Head}

@@ -1,4 +1,4 @@
-// A stack sheet: what its bytes hold, or why it is turned back. Tiers and lashes are counted from 0 here, bottom tier first.
+// A stack sheet: what its bytes hold, or why it is turned back. Entries of the arrays are counted from 0, bottom tier first.
 
 mod fields; // fields.rt: the fields and entries of a sheet, read from its bytes
 mod tests; // tests.rt: the tests of a sheet's items, in the order of reading
@@ -9,7 +9,8 @@ ghost use Rattle.sheet.specs.Lashings.{lashingOf};
 ghost use Rattle.sheet.specs.Refusals.{decoded};
 ghost use Rattle.sheet.specs.Routes.{routePercent};
 
-// The head: rule number, route, lock material, a zero byte, lock breaking load in N.
+// The head: rule number, route, lock material (0 ordinary steel, 1 higher strength, 2 nodular iron), a zero byte,
+// lock breaking load in N.
 pub struct Head {
     pub rule: u64,
     pub route: u64,
@@ -18,7 +19,8 @@ pub struct Head {
     pub breaking: u64,
 }
 
-// A tier: size in feet, wind, height in mm, mass in kg; A_T, A_Vmax and A_Vmin in thousandths of g.
+// A tier: size in feet, wind (0 sheltered, 1 exposed), height in mm, mass in kg; A_T, A_Vmax and A_Vmin in thousandths
+// of g.
 pub struct Tier {
     pub size: u64,
     pub wind: u64,
@@ -29,7 +31,8 @@ pub struct Tier {
     pub avmin: u64,
 }
 
-// A lash: tier (from 1), hook, kind, material; LX, LY, LZ in mm, area in mm², modulus in N/mm², breaking load in N.
+// A lash: tier (from 1), hook (0 top corner, 1 bottom corner), kind (0 cross, 1 side), material (0 ordinary rod, 1 higher
+// strength rod, 2 wire, 3 chain); LX, LY, LZ in mm, area in mm², modulus in N/mm², breaking load in N.
 pub struct Lash {
     pub tier: u64,
     pub hook: u64,

@@ -55,7 +55,7 @@ low-law = ∀₁₂ ℚR _ λ ρ. simp qq λ e0 e1 e2 g hk hq hd. by-cert (to g 
 found-is : (d : List ℕ) (j : ℕ) → natℚ shiftScale *ℚ mk (found d j) ≡ natℚ (getD d j 0)
 found-is d j = ap (λ z. natℚ shiftScale *ℚ z) (mk-div (nat (getD d j 0)) (nat shiftScale) ∙ ap₂ _/ℚ_ (mk-int (pos (getD d j 0))) (mk-int (pos shiftScale))) ∙ div-times (natℚ (getD d j 0)) (natℚ shiftScale) (above-0 shiftScale (lit< tt))
 
-module _ (n : ℕ) (k κ ω x y d : List ℕ) (s : Solvable n k κ ω) (h : HandedDown 0 n k κ ω x y) (u : Climbed n k κ ω x y d) where
+module _ (n : ℕ) (k κ ω x y d : List ℕ) (s : Solvable n k κ ω) (h : HandedDown 1 n k κ ω x y) (u : Climbed n k κ ω x y d) where
   -- the shift of a level in units
   abbrev units : ℕ → ℚ
   units j = natℚ (getD d j 0)
@@ -64,12 +64,12 @@ module _ (n : ℕ) (k κ ω x y d : List ℕ) (s : Solvable n k κ ω) (h : Hand
     spring : (j : ℕ) → j < n → springs ts j ≡ natℚ (getD k j 0)
     spring j l = of-≈ (tierAt ts j .K) (nat (getD k j 0)) (near .spring j l) ∙ mk-int (pos (getD k j 0))
 
-    handed-at : (j : ℕ) → j ≤ n → Handed (force (springs ts) units j) (springs ts j) (units j) (natℚ (getD x j 0)) (natℚ (getD y j 0))
-    handed-at j b = go (decLe (suc j) n)
+    handed-at : (j : ℕ) → 1 ≤ j → j ≤ n → Handed (force (springs ts) units j) (springs ts j) (units j) (natℚ (getD x j 0)) (natℚ (getD y j 0))
+    handed-at j a b = go (decLe (suc j) n)
       where
         go : Dec (suc j ≤ n) → Handed (force (springs ts) units j) (springs ts j) (units j) (natℚ (getD x j 0)) (natℚ (getD y j 0))
         go (yes l) =
-            rw (spring j l, h .stiffness j (omega arith) l, h .load j (omega arith) l, u .shifts j l)
+            rw (spring j l, h .stiffness j a l, h .load j a l, u .shifts j l)
             (handed (getD k j 0) (getD κ j 0) (getD ω j 0) (getD x (suc j) 0) (getD y (suc j) 0) (getD d j 0) (omega (arith, s .springs j l)))
         go (no l) =
             let here : n ≡ j = omega arith in
@@ -85,11 +85,11 @@ module _ (n : ℕ) (k κ ω x y d : List ℕ) (s : Solvable n k κ ω) (h : Hand
     G i = S *ℚ (springs ts i *ℚ (units (suc i) -ℚ units i)) -ℚ S *ℚ force (springs ts) units (suc i) +ℚ natℚ (getD κ i 0) *ℚ units (suc i) -ℚ S *ℚ natℚ (getD ω i 0)
 
     handed-up : (i : ℕ) (l : i < n) → Handed (force (springs ts) units (suc i)) (springs ts (suc i)) (natℚ (shiftUp (getD k i 0) (getD κ i 0) (getD ω i 0) (getD x (suc i) 0) (getD y (suc i) 0) (getD d i 0))) (natℚ (getD x (suc i) 0)) (natℚ (getD y (suc i) 0))
-    handed-up i l = subst (λ (z : ℕ). Handed (force (springs ts) units (suc i)) (springs ts (suc i)) (natℚ z) (natℚ (getD x (suc i) 0)) (natℚ (getD y (suc i) 0))) (u .shifts i l) (handed-at (suc i) l)
+    handed-up i l = subst (λ (z : ℕ). Handed (force (springs ts) units (suc i)) (springs ts (suc i)) (natℚ z) (natℚ (getD x (suc i) 0)) (natℚ (getD y (suc i) 0))) (u .shifts i l) (handed-at (suc i) (omega arith) l)
 
     low : (i : ℕ) → i < n → negℚ (natℚ (widest + stiffnessScale)) ≤ℚ G i
     low i l =
-        let range = in-range n k κ ω x y s i l (later 0 (suc i) n k κ ω x y (omega arith) h) in
+        let range = in-range n k κ ω x y s i l (later 1 (suc i) n k κ ω x y (omega arith) h) in
         less (natℚ (divisor (getD k i 0) (getD κ i 0) (getD x (suc i) 0))) (G i)
         (nat-q (divisor (getD k i 0) (getD κ i 0) (getD x (suc i) 0)) widest (omega (arith, range .high, range .held, range .above)))
         (rw (← (spring i l), ← (u .shifts i l)) at (balance-low (getD k i 0) (getD κ i 0) (getD ω i 0) (getD x (suc i) 0) (getD y (suc i) 0) (getD d i 0) (omega (arith, s .springs i l)) (force (springs ts) units (suc i)) (springs ts (suc i)) (handed-up i l)))

@@ -6,6 +6,7 @@ pub mod Growth
 pub mod OneSolution
 pub mod Stability
 pub mod Ranges
+pub mod Unheld
 pub mod Inputs
 pub mod Residuals
 pub mod Kept

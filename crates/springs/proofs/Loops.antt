@@ -91,13 +91,13 @@ up-start n k κ ω x y = record { within = omega arith; long = refl; done = reco
 
 -- a turn at the entry i, for level j
 module _ (n : ℕ) (k κ ω x y d : List ℕ) (i j : ℕ) (next : j ≡ suc i) (inside : i < n) (s : Solvable n k κ ω) (t : Up n k κ ω x y d i) where
-  pub up-ready : HandedDown 0 n k κ ω x y → InRange (getD k i 0) (getD κ i 0) (getD x j 0) × (getD ω i 0 + getD y j 0 ≤ mostLoad) × (getD d i 0 ≤ farthest)
+  pub up-ready : HandedDown 1 n k κ ω x y → InRange (getD k i 0) (getD κ i 0) (getD x j 0) × (getD ω i 0 + getD y j 0 ≤ mostLoad) × (getD d i 0 ≤ farthest)
   up-ready h =
       subst (λ (z : ℕ). InRange (getD k i 0) (getD κ i 0) (getD x z 0) × (getD ω i 0 + getD y z 0 ≤ mostLoad) × (getD d i 0 ≤ farthest)) (sym next)
       (in-range n k κ ω x y s i inside from-here, load-in-range n k κ ω x y s i inside from-here, far-at n k κ ω x y s h i d (t .done) i (omega arith) (omega arith))
     where
       from-here : HandedDown (suc i) n k κ ω x y
-      from-here = later 0 (suc i) n k κ ω x y (omega arith) h
+      from-here = later 1 (suc i) n k κ ω x y (omega arith) h
 
   pub up-next : (u : ℕ) → u ≡ shiftUp (getD k i 0) (getD κ i 0) (getD ω i 0) (getD x j 0) (getD y j 0) (getD d i 0) → Up n k κ ω x y (set d j u) j
   up-next u e = record {

@@ -100,11 +100,11 @@ module _ (n : ℕ) (k κ ω x y : List ℕ) (s : Solvable n k κ ω) where
     pub load-in-range : getD ω j 0 + getD y (suc j) 0 ≤ mostLoad
     load-in-range = omega (arith, s .loaded j l, load-at (suc j) (suc j) (n - suc j) h (omega arith) (omega arith), s .few)
 
-  module _ (h : HandedDown 0 n k κ ω x y) (c : ℕ) (d : List ℕ) (u : Climbed c k κ ω x y d) where
+  module _ (h : HandedDown 1 n k κ ω x y) (c : ℕ) (d : List ℕ) (u : Climbed c k κ ω x y d) where
     climb : (j m : ℕ) → j ≤ c → j + m ≡ n → softest * getD d j 0 + triangle m * mostLoaded ≤ triangle n * mostLoaded
     climb zero m b e = subst (λ (z : ℕ). softest * getD d 0 0 + triangle z * mostLoaded ≤ triangle n * mostLoaded) {x = n} {y = m} (omega arith) (omega (arith, u .deck))
     climb (suc j) m b e =
-        omega (arith, climb j (suc m) (omega arith) (omega arith), u .shifts j b, shift-le (getD k j 0) (getD κ j 0) (getD ω j 0) (getD x (suc j) 0) (getD y (suc j) 0) (getD d j 0) (s .springs j (omega arith) .0), s .loaded j (omega arith), load-at 0 (suc j) m h (omega arith) e, add-one m)
+        omega (arith, climb j (suc m) (omega arith) (omega arith), u .shifts j b, shift-le (getD k j 0) (getD κ j 0) (getD ω j 0) (getD x (suc j) 0) (getD y (suc j) 0) (getD d j 0) (s .springs j (omega arith) .0), s .loaded j (omega arith), load-at 1 (suc j) m h (omega arith) e, add-one m)
 
     -- a shift is at most 2^12 mm
     pub far-at : (j : ℕ) → j ≤ c → c ≤ n → getD d j 0 ≤ farthest

@@ -6,7 +6,7 @@ ghost use Rattle.springs.specs.Promise.{farthest, Solvable, Promised};
 ghost use Rattle.springs.specs.Steps.{stiffnessDown, loadDown, shiftUp, InRange, mostLoad, HandedDown, Climbed};
 use arith::rounding::scaled;
 
-// Stiffnesses are in 2^-22 N/mm.
+// Stiffnesses are in 2^-22 N/mm. At a level that nothing holds, above the uppermost lash, the scale cancels: that spares divisions.
 const SCALE: u64 = 4194304;
 
 // The stiffness that a level hands down by the spring k under it, of its lashes kappa and the stiffness x handed to it.
@@ -15,6 +15,9 @@ fn stiffness_down(k: u64, kappa: u64, x: u64) -> u64
     ensures { λ r. ⌜ r ≡ stiffnessDown k kappa x ⌝ }
 {
     let held = kappa + x;
+    if held == 0 {
+        return 0;
+    }
     scaled(k * held, SCALE, k * SCALE + held)
 }
 
@@ -23,7 +26,12 @@ fn load_down(k: u64, kappa: u64, omega: u64, x: u64, y: u64) -> u64
     requires { ⌜ InRange k kappa x × (omega + y ≤ mostLoad) ⌝ }
     ensures { λ r. ⌜ r ≡ loadDown k kappa omega x y ⌝ }
 {
-    scaled(k * (omega + y), SCALE, k * SCALE + (kappa + x))
+    let held = kappa + x;
+    let load = omega + y;
+    if held == 0 {
+        return load;
+    }
+    scaled(k * load, SCALE, k * SCALE + held)
 }
 
 // Its shift, where the level under it has the shift p.
@@ -31,10 +39,15 @@ fn shift_up(k: u64, kappa: u64, omega: u64, x: u64, y: u64, p: u64) -> u64
     requires { ⌜ InRange k kappa x × (omega + y ≤ mostLoad) × (p ≤ farthest) ⌝ }
     ensures { λ r. ⌜ r ≡ shiftUp k kappa omega x y p ⌝ }
 {
-    scaled(omega + y + k * p, SCALE, k * SCALE + (kappa + x))
+    let held = kappa + x;
+    let load = omega + y;
+    if held == 0 {
+        return p + load / k;
+    }
+    scaled(load + k * p, SCALE, k * SCALE + held)
 }
 
-// What is handed down to each level, 0 to n.
+// What is handed down to each level, 1 to n. The deck needs nothing.
 struct Handed {
     stiffness: [u64; 11],
     load: [u64; 11],
@@ -42,12 +55,12 @@ struct Handed {
 
 fn hand_down(n: usize, k: [u64; 10], kappa: [u64; 10], omega: [u64; 10]) -> Handed
     requires { ⌜ Solvable n k kappa omega ⌝ }
-    ensures { λ r. ⌜ HandedDown 0 n k kappa omega (r .stiffness) (r .load) ⌝ }
+    ensures { λ r. ⌜ HandedDown 1 n k kappa omega (r .stiffness) (r .load) ⌝ }
 {
     let mut x = [0u64; 11];
     let mut y = [0u64; 11];
     let mut i = n;
-    while 0 < i {
+    while 1 < i {
         let j = i - 1;
         let stiffness = stiffness_down(k[j], kappa[j], x[i]);
         let load = load_down(k[j], kappa[j], omega[j], x[i], y[i]);
@@ -70,7 +83,7 @@ fn climb(
     x: [u64; 11],
     y: [u64; 11],
 ) -> [u64; 11]
-    requires { ⌜ Solvable n k kappa omega × HandedDown 0 n k kappa omega x y ⌝ }
+    requires { ⌜ Solvable n k kappa omega × HandedDown 1 n k kappa omega x y ⌝ }
     ensures { λ r. ⌜ Climbed n k kappa omega x y r ⌝ }
 {
     let mut d = [0u64; 11];

@@ -1,9 +1,8 @@
 -- `springs::hand_down` meets its contract: at each turn the levels from i up have what is handed down to them (Loops).
 use borrow.Author.Needs.{needs}
-use mathlib.Core.Path.{subst}
-use Prim.Native.Nat.{ℕ, _-_}
+use Prim.Native.Nat.{_-_}
 use native.Mathlib.Omega.{arith}
-use Rattle.springs.specs.Steps.{HandedDown}
+use Rattle.springs.proofs.Ranges.{later}
 use Rattle.springs.proofs.Loops.{Down, down-start, down-ready, down-next}
 use Rattle.springs.proofs.hand_down.Statement.{statement}
 use Rattle.springs.proofs.hand_down.Tie as tie
@@ -93,7 +92,7 @@ loop-again : tie.Need-loop-again Inv-loop μ-loop
 loop-again c = let b = c .before .before .before .before in let l = c .before .before .before .loop in let g = b .args in down-next (g .n) (g .t2) (g .t3) (g .t4) (l .x) (l .y) (l .i) (l .i - 1) (omega arith) (b .pre) (l .inv) (c .before .stiffness-down .result) (c .load-down .result) (c .before .stiffness-down .ensures) (c .load-down .ensures)
 
 returns : tie.Need-returns Inv-loop μ-loop
-returns c = let b = c .before .before in let l = c .before .loop in let g = b .args in subst (λ (z : ℕ). HandedDown z (g .n) (g .t2) (g .t3) (g .t4) (l .x) (l .y)) {x = l .i} {y = 0} (omega arith) (l .inv .done)
+returns c = let b = c .before .before in let l = c .before .loop in let g = b .args in later (l .i) 1 (g .n) (g .t2) (g .t3) (g .t4) (l .x) (l .y) (omega arith) (l .inv .done)
 
 pub hand-down-spec : {M : Type 1} → statement M
 hand-down-spec =

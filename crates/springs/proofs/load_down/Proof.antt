@@ -1,36 +1,50 @@
--- `springs::load_down` meets its contract: its product and its divisor are in range by Ranges.
+-- `springs::load_down` meets its contract: where nothing is held, by Unheld; else its product and its divisor are in range by Ranges.
+use mathlib.Core.Path.{sym}
 use Prim.Native.Nat.{_+_, _*_}
 use native.Mathlib.Nat.{mul-le-mul-right}
 use native.Mathlib.Omega.{arith}
 use Rattle.springs.specs.Steps.{loadDown}
 use Rattle.springs.proofs.Ranges.{scalable, load-fits}
+use Rattle.springs.proofs.Unheld.{load-unheld}
 use borrow.Author.Needs.{needs}
 use Rattle.springs.proofs.load_down.Statement.{statement}
 use Rattle.springs.proofs.load_down.Tie as tie
 
-add-scaled : tie.Need-add-scaled
-add-scaled c = search needs
+add-held : tie.Need-add-held
+add-held c = search needs
+
+add-load : tie.Need-add-load
+add-load c = search needs
+
+returns : tie.Need-returns
+returns c = let a = c .before .args in sym (load-unheld (a .k) (a .kappa) (a .x) (omega arith) (c .if1 .taken) (a .omega) (a .y))
 
 mul-scaled : tie.Need-mul-scaled
-mul-scaled c = omega (arith, mul-le-mul-right (c .args .omega + c .args .y) (c .pre .0 .high))
+mul-scaled c = let a = c .before .args in omega (arith, mul-le-mul-right (a .omega + a .y) (c .before .pre .0 .high))
 
 mul-scaled-2 : tie.Need-mul-scaled-2
 mul-scaled-2 c = search needs
 
-add-scaled-2 : tie.Need-add-scaled-2
-add-scaled-2 c = search needs
-
-add-scaled-3 : tie.Need-add-scaled-3
-add-scaled-3 c = search needs
+add-scaled : tie.Need-add-scaled
+add-scaled c = search needs
 
 scaled-requires : tie.Need-scaled-requires
-scaled-requires c κs = let a = c .args in scalable (a .k) (a .kappa) (a .x) (c .pre .0) (a .k * (a .omega + a .y)) (load-fits (a .k) (a .kappa) (a .x) (c .pre .0) (a .omega + a .y) (c .pre .1))
+scaled-requires c κs =
+    let b = c .before in let a = b .args in scalable (a .k) (a .kappa) (a .x) (b .pre .0) (a .k * (a .omega + a .y)) (load-fits (a .k) (a .kappa) (a .x) (b .pre .0) (a .omega + a .y) (b .pre .1))
 
-returns : tie.Need-returns
+returns-2 : tie.Need-returns-2
 unfolding loadDown
-returns c = search needs
+returns-2 c = search needs
 
 pub load-down-spec : {M : Type 1} → statement M
 load-down-spec =
     tie.close
-    (tie.spec add-scaled mul-scaled mul-scaled-2 add-scaled-2 add-scaled-3 scaled-requires returns)
+    (tie.spec
+    add-held
+    add-load
+    returns
+    mul-scaled
+    mul-scaled-2
+    add-scaled
+    scaled-requires
+    returns-2)

@@ -1,9 +1,11 @@
--- `springs::stiffness_down` meets its contract: its product and its divisor are in range by Ranges.
+-- `springs::stiffness_down` meets its contract: where nothing is held, by Unheld; else its product and its divisor are in range by Ranges.
+use mathlib.Core.Path.{sym}
 use Prim.Native.Nat.{_+_, _*_}
 use native.Mathlib.Nat.{mul-le-mul-right}
 use native.Mathlib.Omega.{arith}
 use Rattle.springs.specs.Steps.{stiffnessDown}
 use Rattle.springs.proofs.Ranges.{scalable, stiffness-fits}
+use Rattle.springs.proofs.Unheld.{stiffness-unheld}
 use borrow.Author.Needs.{needs}
 use Rattle.springs.proofs.stiffness_down.Statement.{statement}
 use Rattle.springs.proofs.stiffness_down.Tie as tie
@@ -11,8 +13,11 @@ use Rattle.springs.proofs.stiffness_down.Tie as tie
 add-held : tie.Need-add-held
 add-held c = search needs
 
+returns : tie.Need-returns
+returns c = let a = c .before .args in sym (stiffness-unheld (a .k) (a .kappa) (a .x) (omega arith) (c .if1 .taken))
+
 mul-scaled : tie.Need-mul-scaled
-mul-scaled c = omega (arith, mul-le-mul-right (c .args .kappa + c .args .x) (c .pre .high))
+mul-scaled c = let a = c .before .args in omega (arith, mul-le-mul-right (a .kappa + a .x) (c .before .pre .high))
 
 mul-scaled-2 : tie.Need-mul-scaled-2
 mul-scaled-2 c = search needs
@@ -21,12 +26,14 @@ add-scaled : tie.Need-add-scaled
 add-scaled c = search needs
 
 scaled-requires : tie.Need-scaled-requires
-scaled-requires c κs = let a = c .args in scalable (a .k) (a .kappa) (a .x) (c .pre) (a .k * (a .kappa + a .x)) (stiffness-fits (a .k) (a .kappa) (a .x) (c .pre))
+scaled-requires c κs =
+    let b = c .before in let a = b .args in scalable (a .k) (a .kappa) (a .x) (b .pre) (a .k * (a .kappa + a .x)) (stiffness-fits (a .k) (a .kappa) (a .x) (b .pre))
 
-returns : tie.Need-returns
+returns-2 : tie.Need-returns-2
 unfolding stiffnessDown
-returns c = search needs
+returns-2 c = search needs
 
 pub stiffness-down-spec : {M : Type 1} → statement M
 stiffness-down-spec =
-    tie.close (tie.spec add-held mul-scaled mul-scaled-2 add-scaled scaled-requires returns)
+    tie.close
+    (tie.spec add-held returns mul-scaled mul-scaled-2 add-scaled scaled-requires returns-2)

@@ -28,7 +28,12 @@ returns-3 : tie.Need-returns-3
 unfolding first
 returns-3 c =
     let b = c .before .before in
-    simp (le-ltb _ _ (b .before .if1 .left), ← b .byte-at .ensures .0, le-ltb _ _ (c .before .if2 .left)) (c .test-each-lash .ensures)
+    simp (
+      le-ltb _ _ (b .before .if1 .left),
+      ← b .byte-at .ensures .0,
+      le-ltb _ _ (c .before .if2 .left),
+    )
+    (c .test-each-lash .ensures)
 
 pub test-end-spec : {M : Type 1} → statement M
 test-end-spec =

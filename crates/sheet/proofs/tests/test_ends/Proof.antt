@@ -31,7 +31,9 @@ returns-2 : tie.Need-returns-2
 returns-2 c =
     let f = c .before .before .before in
     let d = f .before .before .before in
-    sym (closed-refused (d .before .before .args .s .now) (sym (d .test-door .ensures) ∙ f .before .enum-told .given .1) (sym (f .test-closed .ensures) ∙ c .before .number2 .given .1))
+    let door = sym (d .test-door .ensures) ∙ f .before .enum-told .given .1 in
+    let closed = sym (f .test-closed .ensures) ∙ c .before .number2 .given .1 in
+    sym (closed-refused (d .before .before .args .s .now) door closed)
 
 enum-told-2 : tie.Need-enum-told-2
 enum-told-2 c = search needs
@@ -45,8 +47,9 @@ returns-3 c =
     let t = c .before .before in
     let f = t .before .before in
     let d = f .before .before .before in
-    rw (ends-taken (d .before .before .args .s .now) (sym (d .test-door .ensures) ∙ f .before .enum-told .given .1) (sym (f .test-closed .ensures) ∙ t .enum-told2 .given .1))
-    (simp (← c .before .spare-place .ensures, lt-ltb _ _ (c .if1 .taken)))
+    let door = sym (d .test-door .ensures) ∙ f .before .enum-told .given .1 in
+    let closed = sym (f .test-closed .ensures) ∙ t .enum-told2 .given .1 in
+    rw (ends-taken (d .before .before .args .s .now) door closed) (simp (← c .before .spare-place .ensures, lt-ltb _ _ (c .if1 .taken)))
 
 returns-4 : tie.Need-returns-4
 unfolding first
@@ -54,8 +57,9 @@ returns-4 c =
     let t = c .before .before in
     let f = t .before .before in
     let d = f .before .before .before in
-    rw (ends-taken (d .before .before .args .s .now) (sym (d .test-door .ensures) ∙ f .before .enum-told .given .1) (sym (f .test-closed .ensures) ∙ t .enum-told2 .given .1))
-    (simp (← c .before .spare-place .ensures, le-ltb _ _ (c .if1 .left)))
+    let door = sym (d .test-door .ensures) ∙ f .before .enum-told .given .1 in
+    let closed = sym (f .test-closed .ensures) ∙ t .enum-told2 .given .1 in
+    rw (ends-taken (d .before .before .args .s .now) door closed) (simp (← c .before .spare-place .ensures, le-ltb _ _ (c .if1 .left)))
 
 pub test-ends-spec : {M : Type 1} → statement M
 test-ends-spec =

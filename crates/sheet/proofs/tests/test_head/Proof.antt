@@ -35,7 +35,14 @@ returns-4 c =
     let r = f .before .before in
     let e = r .before .before in
     let h = e .before .before .before in
-    simp (le-ltb _ _ (h .before .if1 .left), ← h .head-of .ensures, e .if2 .left, le-ltb _ _ (r .if3 .left), ← f .breaking-fits .ensures, c .if4 .taken)
+    simp (
+      le-ltb _ _ (h .before .if1 .left),
+      ← h .head-of .ensures,
+      e .if2 .left,
+      le-ltb _ _ (r .if3 .left),
+      ← f .breaking-fits .ensures,
+      c .if4 .taken,
+    )
 
 returns-5 : tie.Need-returns-5
 unfolding first
@@ -44,7 +51,14 @@ returns-5 c =
     let r = f .before .before in
     let e = r .before .before in
     let h = e .before .before .before in
-    simp (le-ltb _ _ (h .before .if1 .left), ← h .head-of .ensures, e .if2 .left, le-ltb _ _ (r .if3 .left), ← f .breaking-fits .ensures, c .if4 .left)
+    simp (
+      le-ltb _ _ (h .before .if1 .left),
+      ← h .head-of .ensures,
+      e .if2 .left,
+      le-ltb _ _ (r .if3 .left),
+      ← f .breaking-fits .ensures,
+      c .if4 .left,
+    )
 
 pub test-head-spec : {M : Type 1} → statement M
 test-head-spec =

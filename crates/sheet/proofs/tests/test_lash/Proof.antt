@@ -42,7 +42,14 @@ unfolding first
 returns-3 c =
     let o = c .before in
     let f = o .before .before in
-    simp (le-ltb _ _ (f .before .before .if1 .left), ← f .before .lash-of .ensures, ← f .lash-fits .ensures, o .before .if2 .left, ← o .off-tiers .ensures, c .if3 .taken)
+    simp (
+      le-ltb _ _ (f .before .before .if1 .left),
+      ← f .before .lash-of .ensures,
+      ← f .lash-fits .ensures,
+      o .before .if2 .left,
+      ← o .off-tiers .ensures,
+      c .if3 .taken,
+    )
 
 sub-lash-of : tie.Need-sub-lash-of
 sub-lash-of c = search needs
@@ -60,7 +67,19 @@ returns-4 c =
     let b = w .before .before in
     let o = b .before .before in
     let f = o .before .before in
-    simp (le-ltb _ _ (f .before .before .if1 .left), not-later-next, b .if4 .taken, ← f .before .lash-of .ensures, ← f .lash-fits .ensures, o .before .if2 .left, ← o .off-tiers .ensures, b .before .if3 .left, ← w .before .lash-of2 .ensures, ← w .later .ensures, c .if5 .taken)
+    simp (
+      le-ltb _ _ (f .before .before .if1 .left),
+      not-later-next,
+      b .if4 .taken,
+      ← f .before .lash-of .ensures,
+      ← f .lash-fits .ensures,
+      o .before .if2 .left,
+      ← o .off-tiers .ensures,
+      b .before .if3 .left,
+      ← w .before .lash-of2 .ensures,
+      ← w .later .ensures,
+      c .if5 .taken,
+    )
 
 returns-5 : tie.Need-returns-5
 unfolding first
@@ -69,14 +88,35 @@ returns-5 c =
     let b = w .before .before in
     let o = b .before .before in
     let f = o .before .before in
-    simp (le-ltb _ _ (f .before .before .if1 .left), not-later-next, b .if4 .taken, ← f .before .lash-of .ensures, ← f .lash-fits .ensures, o .before .if2 .left, ← o .off-tiers .ensures, b .before .if3 .left, ← w .before .lash-of2 .ensures, ← w .later .ensures, c .if5 .left)
+    simp (
+      le-ltb _ _ (f .before .before .if1 .left),
+      not-later-next,
+      b .if4 .taken,
+      ← f .before .lash-of .ensures,
+      ← f .lash-fits .ensures,
+      o .before .if2 .left,
+      ← o .off-tiers .ensures,
+      b .before .if3 .left,
+      ← w .before .lash-of2 .ensures,
+      ← w .later .ensures,
+      c .if5 .left,
+    )
 
 returns-6 : tie.Need-returns-6
 unfolding first
 returns-6 c =
     let o = c .before .before in
     let f = o .before .before in
-    simp (le-ltb _ _ (f .before .before .if1 .left), ← f .before .lash-of .ensures, ← f .lash-fits .ensures, o .before .if2 .left, ← o .off-tiers .ensures, c .before .if3 .left, not-later-first, c .if4 .left)
+    simp (
+      le-ltb _ _ (f .before .before .if1 .left),
+      ← f .before .lash-of .ensures,
+      ← f .lash-fits .ensures,
+      o .before .if2 .left,
+      ← o .off-tiers .ensures,
+      c .before .if3 .left,
+      not-later-first,
+      c .if4 .left,
+    )
 
 pub test-lash-spec : {M : Type 1} → statement M
 test-lash-spec =

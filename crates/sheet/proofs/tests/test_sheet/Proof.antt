@@ -29,7 +29,9 @@ returns-2 : tie.Need-returns-2
 returns-2 c =
     let t = c .before .before .before in
     let h = t .before .before .before in
-    sym (tiers-refused (h .before .before .args .s .now) (sym (h .test-head .ensures) ∙ t .before .enum-told .given .1) (sym (t .test-tiers .ensures) ∙ c .before .number2 .given .1))
+    let head = sym (h .test-head .ensures) ∙ t .before .enum-told .given .1 in
+    let tiers = sym (t .test-tiers .ensures) ∙ c .before .number2 .given .1 in
+    sym (tiers-refused (h .before .before .args .s .now) head tiers)
 
 enum-told-2 : tie.Need-enum-told-2
 enum-told-2 c = search needs
@@ -41,7 +43,9 @@ returns-3 : tie.Need-returns-3
 returns-3 c =
     let t = c .before .before .before in
     let h = t .before .before .before in
-    c .test-ends .ensures ∙ sym (tiers-taken (h .before .before .args .s .now) (sym (h .test-head .ensures) ∙ t .before .enum-told .given .1) (sym (t .test-tiers .ensures) ∙ c .before .enum-told2 .given .1))
+    let head = sym (h .test-head .ensures) ∙ t .before .enum-told .given .1 in
+    let tiers = sym (t .test-tiers .ensures) ∙ c .before .enum-told2 .given .1 in
+    c .test-ends .ensures ∙ sym (tiers-taken (h .before .before .args .s .now) head tiers)
 
 pub test-sheet-spec : {M : Type 1} → statement M
 test-sheet-spec =

@@ -39,14 +39,30 @@ unfolding first
 returns-3 c =
     let b = c .before .before in
     let f = b .before .before in
-    simp (le-ltb _ _ (f .before .before .if1 .left), tier-size (f .before .before .before .before .args .s .now) 9, ← f .before .tier-of .ensures, ← f .tier-fits .ensures, b .before .if2 .left, ← b .byte-at .ensures .0, ne-eqb _ _ (c .if3 .taken))
+    simp (
+      le-ltb _ _ (f .before .before .if1 .left),
+      tier-size (f .before .before .before .before .args .s .now) 9,
+      ← f .before .tier-of .ensures,
+      ← f .tier-fits .ensures,
+      b .before .if2 .left,
+      ← b .byte-at .ensures .0,
+      ne-eqb _ _ (c .if3 .taken),
+    )
 
 returns-4 : tie.Need-returns-4
 unfolding first
 returns-4 c =
     let b = c .before .before in
     let f = b .before .before in
-    simp (le-ltb _ _ (f .before .before .if1 .left), tier-size (f .before .before .before .before .args .s .now) 9, ← f .before .tier-of .ensures, ← f .tier-fits .ensures, b .before .if2 .left, ← b .byte-at .ensures .0, eq-eqb _ _ (c .if3 .left))
+    simp (
+      le-ltb _ _ (f .before .before .if1 .left),
+      tier-size (f .before .before .before .before .args .s .now) 9,
+      ← f .before .tier-of .ensures,
+      ← f .tier-fits .ensures,
+      b .before .if2 .left,
+      ← b .byte-at .ensures .0,
+      eq-eqb _ _ (c .if3 .left),
+    )
 
 pub test-tier-spec : {M : Type 1} → statement M
 test-tier-spec =

@@ -1,0 +1,1 @@
+"""The proved check timed against the same check in doubles."""

@@ -1,0 +1,135 @@
+/* Times the proved check and the same check in doubles, interleaved in one run. Reads a corpus (bench/corpus.py) and prints a line
+   a group: its number, its sheets, then medians in ns a sheet: whole check proved, in doubles, decode proved, in doubles. */
+#include "../include/lash_check.h"
+#include "doubles.h"
+
+#include <stdio.h>
+#include <stdlib.h>
+#include <time.h>
+
+enum { ROUNDS = 61, GROUPS = 256, MEASURES = 4 };
+
+typedef uint64_t check_call(const uint8_t *, size_t, uint8_t *, size_t);
+
+/* A buffer one byte short is refused after the whole sheet was decoded: that times decode alone. */
+static const struct measure {
+    check_call *call;
+    size_t room;
+} measures[MEASURES] = {
+    {lash_check, LASH_ANSWER_SIZE},
+    {doubles_check, LASH_ANSWER_SIZE},
+    {lash_check, LASH_ANSWER_SIZE - 1},
+    {doubles_check, LASH_ANSWER_SIZE - 1},
+};
+
+struct item {
+    const uint8_t *bytes;
+    size_t length;
+};
+
+struct group {
+    struct item *items;
+    size_t count;
+    double times[MEASURES][ROUNDS];
+};
+
+static volatile uint64_t sink;
+
+static double now(void)
+{
+    struct timespec t;
+    clock_gettime(CLOCK_MONOTONIC, &t);
+    return (double)t.tv_sec * 1e9 + (double)t.tv_nsec;
+}
+
+/* The mean of one pass over a group; the answer buffer is not cleared between sheets. */
+static double pass(const struct measure *m, const struct group *g)
+{
+    static uint8_t answer[LASH_ANSWER_SIZE];
+    uint64_t sum = 0;
+    double start = now();
+    for (size_t i = 0; i < g->count; i++)
+        sum += m->call(g->items[i].bytes, g->items[i].length, answer, m->room);
+    double spent = now() - start;
+    sink = sum + answer[0];
+    return spent / (double)g->count;
+}
+
+/* Every measure in turn, in the other order every second round; the pass before each timed one warms the caches for it. */
+static void time_round(struct group *g, int round)
+{
+    for (int i = 0; i < MEASURES; i++) {
+        int m = round % 2 ? MEASURES - 1 - i : i;
+        pass(&measures[m], g);
+        g->times[m][round] = pass(&measures[m], g);
+    }
+}
+
+static int by_size(const void *a, const void *b)
+{
+    double x = *(const double *)a, y = *(const double *)b;
+    return x < y ? -1 : x > y;
+}
+
+static void print_medians(int number, struct group *g)
+{
+    printf("%d %zu", number, g->count);
+    for (int m = 0; m < MEASURES; m++) {
+        qsort(g->times[m], ROUNDS, sizeof *g->times[m], by_size);
+        printf(" %.1f", g->times[m][ROUNDS / 2]);
+    }
+    printf("\n");
+}
+
+static uint8_t *read_all(const char *path, size_t *size)
+{
+    FILE *f = fopen(path, "rb");
+    uint8_t *bytes = NULL;
+    long end = -1;
+    if (f && fseek(f, 0, SEEK_END) == 0 && (end = ftell(f)) > 0 && fseek(f, 0, SEEK_SET) == 0)
+        bytes = malloc((size_t)end);
+    *size = bytes ? fread(bytes, 1, (size_t)end, f) : 0;
+    if (f)
+        fclose(f);
+    return bytes;
+}
+
+/* Whether the corpus was well formed and there was memory for it. */
+static int sort_into_groups(const uint8_t *bytes, size_t size, struct group *groups)
+{
+    for (size_t at = 0; at < size;) {
+        size_t length = at + 3 <= size ? bytes[at + 1] | (size_t)bytes[at + 2] << 8 : size;
+        if (at + 3 + length > size)
+            return 0;
+        struct group *g = &groups[bytes[at]];
+        struct item *items = realloc(g->items, (g->count + 1) * sizeof *items);
+        if (!items)
+            return 0;
+        g->items = items;
+        g->items[g->count++] = (struct item){bytes + at + 3, length};
+        at += 3 + length;
+    }
+    return 1;
+}
+
+int main(int argc, char **argv)
+{
+    static struct group groups[GROUPS];
+    size_t size;
+    uint8_t *bytes = argc == 2 ? read_all(argv[1], &size) : NULL;
+    if (!bytes || !sort_into_groups(bytes, size, groups)) {
+        fprintf(stderr, "bench: usage: bench CORPUS, a file that bench/run writes\n");
+        return 2;
+    }
+    for (int round = 0; round < ROUNDS; round++)
+        for (int i = 0; i < GROUPS; i++)
+            if (groups[i].count)
+                time_round(&groups[i], round);
+    for (int i = 0; i < GROUPS; i++) {
+        if (groups[i].count)
+            print_medians(i, &groups[i]);
+        free(groups[i].items);
+    }
+    free(bytes);
+    return 0;
+}

@@ -1,0 +1,20 @@
+-- `answer::limits::safe_load`, by the test of the material.
+use borrow.Author.Needs.{needs}
+use borrow.Author.Tests.{eq-eqb, ne-eqb}
+use Rattle.answer.specs.Limits.{safeLoad}
+use Rattle.answer.proofs.limits.safe_load.Statement.{statement}
+use Rattle.answer.proofs.limits.safe_load.Tie as tie
+
+scaled-requires : tie.Need-scaled-requires
+scaled-requires c κs = search needs
+
+returns : tie.Need-returns
+unfolding safeLoad
+returns c = simp (eq-eqb _ _ (c .before .if1 .taken)) (c .scaled .ensures)
+
+returns-2 : tie.Need-returns-2
+unfolding safeLoad
+returns-2 c = simp (ne-eqb _ _ (c .if1 .left))
+
+pub safe-load-spec : {M : Type 1} → statement M
+safe-load-spec = tie.close (tie.spec scaled-requires returns returns-2)

@@ -1,0 +1,26 @@
+-- Document 01, "Permissible loads": the limits of CR Table 2-3 and the safe working loads, in whole newtons.
+use mathlib.Core.Bool.{Bool, true, false, cond}
+use Prim.Native.Nat.{ℕ, _*_, _/_}
+use lib.Dec.{eqb}
+
+abbrev pub rackingLimit : ℕ
+rackingLimit = 150000
+
+-- checked at levels 1 to n; level 0 is reported only
+abbrev pub compressionLimit : ℕ
+compressionLimit = 848000
+
+abbrev pub cornerTensionLimit : ℕ
+cornerTensionLimit = 250000
+
+-- a lash on a corner
+abbrev pub lashVerticalLimit : ℕ
+lashVerticalLimit = 300000
+
+abbrev pub lashAthwartLimit : ℕ
+lashAthwartLimit = 150000
+
+-- breaking load / factor, rounded down; factor 1.67 for higher strength steel, 2 for all else (CR Table 3-3).
+-- Code 1 is higher strength steel, for a lash and for a lock
+unfoldable pub safeLoad : ℕ → ℕ → ℕ
+safeLoad material breaking = cond (eqb material 1) (breaking * 100 / 167) (breaking / 2)

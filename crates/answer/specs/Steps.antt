@@ -1,0 +1,74 @@
+-- Contracts of inner functions; nothing here need be believed.
+use mathlib.Core.Path.{_≡_}
+use mathlib.Core.Bool.{cond}
+use mathlib.Core.List.{List, [], _∷_, _++_, flatMap}
+use Prim.Native.Nat.{ℕ, _+_, _≤_}
+use lib.Dec.{ltb}
+use lib.IntN.{pos, natAbs}
+use lib.ListN.{getD, length}
+use lib.Seq.{sets}
+use Rattle.arith.specs.Bytes.{bytes4, twos}
+use Rattle.sheet.specs.declared.Lash.{Lash}
+use Rattle.sheet.specs.declared.Sheet.{Sheet}
+use Rattle.forces.specs.declared.EndFigures.{EndFigures}
+use Rattle.forces.specs.declared.Figures.{Figures}
+use Rattle.forces.specs.Ends.{door, closed, lashesOf}
+use Rattle.forces.specs.Reported.{noLash}
+use Rattle.answer.specs.Limits.{rackingLimit, compressionLimit, cornerTensionLimit, lashVerticalLimit, lashAthwartLimit, safeLoad}
+use Rattle.answer.specs.Findings.{findings}
+use Rattle.answer.specs.Answers.{below, counted, findingBytes}
+
+-- `bytes` stored in a buffer from `at` on, and the place behind them
+pub record Wrote (before : List ℕ) (at : ℕ) (bytes after : List ℕ) (next : ℕ) : Type 0 where
+  pub stored : after ≡ sets before at bytes
+  pub place : next ≡ at + length bytes
+  pub room : length after ≡ length before
+
+-- the counts of a sheet fit its arrays
+pub record Sized (t : Sheet) : Type 0 where
+  pub tiers : t .ntiers ≤ 10
+  pub door-few : t .ndoor ≤ 8
+  pub closed-few : t .nclosed ≤ 8
+  pub door-lashes : length (lashesOf door t) ≡ t .ndoor
+  pub closed-lashes : length (lashesOf closed t) ≡ t .nclosed
+
+-- the safe load of lash j
+abbrev pub lashLimit : List Lash → ℕ → ℕ
+lashLimit ls j = safeLoad (getD ls j noLash .material) (getD ls j noLash .breaking)
+
+-- the bytes of a finding where the size exceeds the limit, else none
+unfoldable pub findingWhere : ℕ → ℕ → ℕ → ℕ → ℕ → List ℕ
+findingWhere end kind index size limit = cond (ltb limit size) (end ∷ kind ∷ index ∷ []) []
+
+-- the bytes of the findings of one kind: of n sizes and limits, the first of which has the index `first`
+unfoldable pub findingsOver : ℕ → ℕ → ℕ → (ℕ → ℕ) → (ℕ → ℕ) → ℕ → List ℕ
+findingsOver end kind first size limit n = flatMap (λ k. findingWhere end kind (first + k) (size k) (limit k)) (below n)
+
+-- the bytes of an end's findings: kinds 1 to 4, of its tiers and levels, and kinds 5 to 7, of its lashes
+unfoldable pub tierFindings : ℕ → ℕ → ℕ → EndFigures → List ℕ
+tierFindings end n lock f =
+    findingsOver end 1 1 (λ k. natAbs (getD (f .racking) k (pos 0))) (λ k. rackingLimit) n
+    ++ findingsOver end 2 1 (λ k. getD (f .compression) (1 + k) 0) (λ k. compressionLimit) n
+    ++ findingsOver end 3 0 (λ k. getD (f .tension) k 0) (λ k. cornerTensionLimit) n
+    ++ findingsOver end 4 0 (λ k. getD (f .tension) k 0) (λ k. lock) n
+
+unfoldable pub lashFindings : ℕ → List Lash → ℕ → EndFigures → List ℕ
+lashFindings end ls m f =
+    findingsOver end 5 0 (λ j. getD (f .pull) j 0) (lashLimit ls) m
+    ++ findingsOver end 6 0 (λ j. getD (f .vertical) j 0) (λ j. lashVerticalLimit) m
+    ++ findingsOver end 7 0 (λ j. getD (f .athwart) j 0) (λ j. lashAthwartLimit) m
+
+-- the bytes of a lash's three forces, and of an end of n tiers and m lashes
+abbrev pub lashBytes : ℕ → ℕ → ℕ → List ℕ
+lashBytes pull athwart vertical = bytes4 pull ++ bytes4 athwart ++ bytes4 vertical
+
+unfoldable pub endBytesOf : ℕ → ℕ → EndFigures → List ℕ
+endBytesOf n m f =
+    counted n (λ i. bytes4 (twos (getD (f .racking) i (pos 0))))
+    ++ counted (n + 1) (λ i. bytes4 (getD (f .compression) i 0))
+    ++ counted n (λ i. bytes4 (getD (f .tension) i 0))
+    ++ counted m (λ j. lashBytes (getD (f .pull) j 0) (getD (f .athwart) j 0) (getD (f .vertical) j 0))
+
+-- the bytes of the findings, behind their count
+unfoldable pub findingsBytes : Sheet → Figures → List ℕ
+findingsBytes t f = length (findings t f) ∷ flatMap findingBytes (findings t f)

@@ -1,0 +1,102 @@
+-- A text copied into a part of a buffer, and the line that two numbers make.
+use Prim.Native.Nat.{ℕ, suc, _+_, _-_, _^_, _<_, _≤_}
+use mathlib.Core.Bool.{Bool, true, false}
+use mathlib.Core.List.{List, [], _∷_, _++_, append-assoc, append-nil}
+use mathlib.Core.Path.{_≡_, refl, sym, ap, _∙_}
+use native.Mathlib.Nat.{pow-le-pow-right}
+use native.Mathlib.Numerals.{add-one}
+use native.Mathlib.Omega.{arith}
+use borrow.Author.Tests.{ltb-true, ltb-false}
+use borrow.Rule.Slice.PartMut.{midOf, putMid}
+use lib.Dec.{ltb}
+use lib.ListN.{length, take, drop, set, length-append, length-drop, drop-of-length-le}
+use lib.Seq.{length-take-le, take-all, take-at, take-length, drop-drop, take-suc-set}
+use Rattle.io.specs.Counts.{Counts}
+use Rattle.io.specs.Digits.{digits, Fewest}
+use Rattle.lashcheck.specs.Lines.{Line, Put}
+
+-- a number of 64 bits has at most 20 digits
+pub few-digits : (n k : ℕ) → n < 2 ^ 64 → Fewest 10 1 n k → k ≤ 20
+few-digits n k h f = go (ltb 20 k) refl
+  where
+    go : (b : Bool) → ltb 20 k ≡ b → k ≤ 20
+    go false e = ltb-false 20 k e
+    go true e =
+        let long : 20 < k = ltb-true 20 k e in
+        let large : 10 ^ 20 ≤ 10 ^ (k - 1) = pow-le-pow-right {n = 10} (omega arith) {i = 20} {j = k - 1} (omega arith) in
+        let there : 10 ^ (k - 1) ≤ n = f .2 (omega arith) in
+        omega arith
+
+-- a text of k bytes, copied to the start of the part of xs from `at` on
+pub part-put :
+    (xs text : List ℕ) (at k : ℕ) →
+    k ≡ length text →
+    at + k ≤ length xs →
+    putMid at (length xs - at) xs (text ++ drop k (midOf at (length xs - at) xs)) ≡ take at xs ++ text ++ drop (at + k) xs
+part-put xs text at k e h =
+    rw (
+      take-all (length xs - at) (drop at xs) (rw length-drop (omega arith)),
+      drop-of-length-le (drop at xs) {i = length xs - at} (rw length-drop (omega arith)),
+      append-nil,
+      drop-drop k at xs,
+      append-assoc,
+    )
+
+-- the first k bytes of `text`, the digits of n, copied there
+pub put-of :
+    (n at k : ℕ) (text before copied : List ℕ) →
+    n < 2 ^ 64 →
+    Counts k text →
+    Fewest 10 1 n k →
+    take k text ≡ digits 10 k n →
+    at + 20 ≤ length before →
+    copied ≡ take (length (take k text)) (take k text) ++ drop (length (take k text)) (midOf at (length before - at) before) →
+    Put n at (at + k) before (putMid at (length before - at) before copied)
+put-of n at k text before copied small counts fewest spelled room held =
+    record {
+      text = take k text;
+      in-decimal = record { count = k; fewest = fewest; spelled = spelled };
+      ends = ap (λ l. at + l) (counts .1);
+      short = omega (arith, few);
+      held =
+          ap (putMid at (length before - at) before) (rw (take-length (take k text), ← counts .1) at held)
+          ∙ part-put before (take k text) at k (counts .1) (omega (arith, few));
+    }
+  where
+    few : k ≤ 20
+    few = few-digits n k small fewest
+
+-- a count within a buffer, as io::count gives it
+pub counts-of : (n : ℕ) (xs : List ℕ) → n ≤ length xs → Counts n xs
+counts-of n xs h = (h, sym (length-take-le n xs h))
+
+-- a number at the start of a buffer, a blank behind it, then a second number and a line end
+module _
+    (number second a b : ℕ) (xs held whole : List ℕ)
+    (first : Put number 0 a xs held) (inside : a < length held)
+    (next : Put second (a + 1) b (set held a 32) whole) (room : b < length whole)
+  where
+    abbrev left : List ℕ
+    left = first .text
+
+    abbrev right : List ℕ
+    right = next .text
+
+    abbrev behind : List ℕ
+    behind = drop b (set held a 32)
+
+    blanked : take (a + 1) (set held a 32) ≡ left ++ (32 ∷ [])
+    blanked =
+        rw (add-one a, take-suc-set held a 32 inside)
+        (ap (λ l. l ++ (32 ∷ [])) (ap (take a) (first .held) ∙ take-at left (drop a xs) a (omega (arith, first .ends))))
+
+    ended : take (b + 1) (set whole b 10) ≡ left ++ (32 ∷ []) ++ right ++ (10 ∷ [])
+    ended =
+        rw (add-one b, take-suc-set whole b 10 room)
+        (ap (λ l. l ++ (10 ∷ []))
+        (ap (take b) (next .held ∙ ap (λ l. l ++ right ++ behind) blanked)
+        ∙ take-at (left ++ (32 ∷ []) ++ right) behind b (simp length-append (omega (arith, first .ends, next .ends)))))
+
+    pub line-of : Line number second (take (b + 1) (set whole b 10))
+    line-of =
+        record { left = left; right = right; left-in = first .in-decimal; right-in = next .in-decimal; whole = ended }

@@ -1,0 +1,126 @@
+-- The two numbers of a refusal: a number of the table, 1 to 13, and a second number of at most 451; with 13 it is 834.
+use Prim.Native.Nat.{ℕ, zero, suc, _+_, _<_, _≤_}
+use mathlib.Core.Bool.{Bool, true, false, cond}
+use mathlib.Core.List.{List, [], _∷_, _++_, flatMap}
+use mathlib.Core.Path.{_≡_, refl, subst}
+use native.Mathlib.Omega.{arith}
+use borrow.Author.Tests.{ltb-true, ltb-false}
+use lib.ListN.{length}
+use Rattle.sheet.specs.declared.Reading.{Reading}
+use Rattle.sheet.specs.declared.Reading.the-variants.{Taken, Refused}
+use Rattle.sheet.specs.Layout.{byteAt, tierCount, tierPlace, lashPlace, doorPlace, closedPlace, sparePlace, from, below}
+use Rattle.sheet.specs.Refusals.{Row, row1, row13, first, headRows, tierCountRows, tierRows, tiersRows, lashCountRows, lashRows, endRows, doorRows, closedRows, sheetRows, refusal}
+use Rattle.sheet.proofs.Rows.{orElse, first-append}
+use Rattle.sheet.proofs.Clear.{clear, few-tiers, few-lashes}
+use Rattle.sheet.proofs.Items.{count-fits}
+
+-- a refusal with a number from 1 to c and a second number of at most p
+abbrev Within : ℕ → ℕ → Reading → Type 0
+Within c p Taken = Unit {0}
+Within c p (Refused number second) = (1 ≤ number) × (number ≤ c) × (second ≤ p)
+
+module _ (c p : ℕ) where
+  row-within : (r : Row) (rs : List Row) → (r .holds ≡ true → Within c p (Refused (r .number) (r .second))) → Within c p (first rs) → Within c p (first (r ∷ rs))
+  unfolding first
+  row-within r rs h k = go (r .holds) refl
+    where
+      go : (b : Bool) → r .holds ≡ b → Within c p (cond b (Refused (r .number) (r .second)) (first rs))
+      go true e = h e
+      go false e = k
+
+  parts-within : (a b : List Row) → Within c p (first a) → (first a ≡ Taken → Within c p (first b)) → Within c p (first (a ++ b))
+  parts-within a b h k = rw (first-append a b) (go (first a) refl h)
+    where
+      go : (q : Reading) → first a ≡ q → Within c p q → Within c p (orElse q (first b))
+      go Taken e w = k e
+      go (Refused n m) e w = w
+
+  each-within : (f : ℕ → List Row) (i left n : ℕ) → i + left ≤ n → ((k : ℕ) → k < n → Within c p (first (f k))) → Within c p (first (flatMap f (from i left)))
+  unfolding first flatMap from
+  each-within f i zero n b h = tt
+  each-within f i (suc left) n b h =
+      parts-within (f i) (flatMap f (from (suc i) left)) (h i (omega (arith, b)))
+      (λ _. each-within f (suc i) left n (omega (arith, b)) h)
+
+module _ (s : List ℕ) where
+  abbrev Small : List Row → Type 0
+  Small rs = Within 12 451 (first rs)
+
+  none : Small []
+  unfolding first
+  none = tt
+
+  -- a row whose number is n and whose second number is at most 451
+  plain : (r : Row) (rs : List Row) → 1 ≤ r .number → r .number ≤ 12 → r .second ≤ 451 → Small rs → Small (r ∷ rs)
+  plain r rs a b d k = row-within 12 451 r rs (λ _. (a, b, d)) k
+
+  -- 1 is told of a sheet of fewer bytes than the item's end
+  short : (at size : ℕ) (rs : List Row) → at + size ≤ 452 → Small rs → Small (row1 s at size ∷ rs)
+  short at size rs h k =
+      row-within 12 451 (row1 s at size) rs (λ e. (omega arith, omega arith, omega (arith, ltb-true (length s) (at + size) e))) k
+
+  head-small : Small (headRows s)
+  head-small =
+      short 0 8 _ (omega arith)
+      (plain _ _ (omega arith) (omega arith) (omega arith)
+      (plain _ _ (omega arith) (omega arith) (omega arith) (plain _ [] (omega arith) (omega arith) (omega arith) none)))
+
+  tier-small : (k : ℕ) → k < 10 → Small (tierRows s k)
+  tier-small k h =
+      short (tierPlace k) 12 _ (omega arith)
+      (plain _ _ (omega arith) (omega arith) (omega arith) (plain _ [] (omega arith) (omega arith) (omega arith) none))
+
+  tiers-small : Small (tiersRows s)
+  tiers-small =
+      parts-within 12 451 (tierCountRows s) (flatMap (tierRows s) (below (tierCount s)))
+      (short 8 1 _ (omega arith) (plain _ [] (omega arith) (omega arith) (omega arith) none))
+      (λ e.
+      let few : tierCount s ≤ 10 = count-fits (tierCount s) (clear (tierCountRows s) e .1 .0) .1 in
+      each-within 12 451 (tierRows s) 0 (tierCount s) 10 (omega arith) tier-small)
+
+  -- an end whose count stands at 290 or before, as the closed end's does at the latest
+  module _ (n at : ℕ) (place : at ≤ 290) where
+    lash-small : (k : ℕ) → k < 8 → Small (lashRows n s at k)
+    lash-small k h =
+        short (lashPlace at k) 20 _ (omega arith)
+        (plain _ _ (omega arith) (omega arith) (omega arith)
+        (plain _ _ (omega arith) (omega arith) (omega arith) (plain _ [] (omega arith) (omega arith) (omega arith) none)))
+
+    end-small : Small (endRows n s at)
+    end-small =
+        parts-within 12 451 (lashCountRows s at) (flatMap (lashRows n s at) (below (byteAt s at)))
+        (short at 1 _ (omega arith) (plain _ [] (omega arith) (omega arith) (omega arith) none))
+        (λ e.
+        let few : byteAt s at ≤ 8 = ltb-false 8 (byteAt s at) (clear (lashCountRows s at) e .1 .0) in
+        each-within 12 451 (lashRows n s at) 0 (byteAt s at) 8 (omega arith) lash-small)
+
+  sheet-small : Small (sheetRows s)
+  sheet-small =
+      parts-within 12 451 (headRows s) _ head-small
+      (λ _.
+      parts-within 12 451 (tiersRows s) _ tiers-small
+      (λ t.
+      let tiers : tierCount s ≤ 10 = few-tiers s (clear (tiersRows s) t) in
+      parts-within 12 451 (doorRows s) _ (end-small (tierCount s) (doorPlace s) (omega arith))
+      (λ d.
+      let door : byteAt s (doorPlace s) ≤ 8 = few-lashes (tierCount s) s (doorPlace s) (clear (doorRows s) d) in
+      parts-within 12 451 (closedRows s) _ (end-small (tierCount s) (closedPlace s) (omega arith))
+      (λ c.
+      let closed : byteAt s (closedPlace s) ≤ 8 = few-lashes (tierCount s) s (closedPlace s) (clear (closedRows s) c) in
+      plain _ [] (omega arith) (omega arith) (omega arith) none))))
+
+-- of a sheet
+pub sheet-numbers : (s : List ℕ) {number second : ℕ} → first (sheetRows s) ≡ Refused number second → (1 ≤ number) × (number ≤ 12) × (second ≤ 451)
+sheet-numbers s e = subst (Within 12 451) e (sheet-small s)
+
+wider : (q : Reading) → Within 12 451 q → Within 13 834 q
+wider Taken w = tt
+wider (Refused number second) w = (w .0, omega (arith, w .1), omega (arith, w .2))
+
+-- of a check with an answer buffer of `room` bytes
+pub check-numbers : (s : List ℕ) (room : ℕ) {number second : ℕ} → refusal s room ≡ Refused number second → (1 ≤ number) × (number ≤ 13) × (second ≤ 834)
+unfolding refusal first
+check-numbers s room e =
+    subst (Within 13 834) e
+    (parts-within 13 834 (sheetRows s) (row13 room ∷ []) (wider (first (sheetRows s)) (sheet-small s))
+    (λ _. row-within 13 834 (row13 room) [] (λ _. (omega arith, omega arith, omega arith)) tt))

@@ -1,0 +1,184 @@
+"""Reads a stack's description in TOML into a sheet."""
+
+import tomllib
+from dataclasses import dataclass
+from difflib import get_close_matches
+
+from lashtool.fields import ENDS, HEAD_FIELDS, LASH_FIELDS, LOCK_FIELDS, TIER_FIELDS
+from reference.sheet import (
+    HEIGHTS, MOST_LASHES, MOST_TIERS, Head, Lash, Sheet, Tier, sheet_order,
+)
+
+
+class BadDescription(Exception):
+    """A description that makes no sheet, with the field and the reason."""
+
+
+@dataclass(frozen=True)
+class Description:
+    title: str
+    sheet: Sheet
+    assumed: list  # what was not given and what it was taken as, in words
+
+
+TABLES = {"lock": dict, "box": dict, "gear": dict, "tier": list, "lash": list}
+TOP_NAMES = ("title", *(field.name for field in HEAD_FIELDS), *TABLES)
+
+
+def describe(data):
+    """The stack that the bytes of a description tell of."""
+    try:
+        table = tomllib.loads(data.decode())
+    except UnicodeDecodeError:
+        raise BadDescription("this is no text") from None
+    except ValueError as error:
+        raise BadDescription(f"this is no TOML: {error}") from None
+    except RecursionError:
+        raise BadDescription("this is no TOML: it is nested too deeply") from None
+    check_names("the stack", table, TOP_NAMES)
+    sections = {name: section(table, name) for name in TABLES}
+    reader = FieldReader()
+    head = read_head(reader, table, sections["lock"])
+    tiers = read_tiers(reader, sections["tier"], sections["box"])
+    door, closed = read_lashes(reader, sections["lash"], sections["gear"])
+    return Description(read_title(table), Sheet(head, tiers, door, closed), reader.assumed())
+
+
+def section(table, name):
+    """A table, or a list of tables; empty if there is none."""
+    kind = TABLES[name]
+    value = table.get(name, kind())
+    written = f"[[{name}]]" if kind is list else f"[{name}]"
+    parts = value if kind is list and isinstance(value, list) else [value]
+    if not isinstance(value, kind) or not all(isinstance(part, dict) for part in parts):
+        raise BadDescription(f"{name}: has to be written as {written}")
+    return value
+
+
+def read_title(table):
+    title = table.get("title", "")
+    if not isinstance(title, str):
+        raise BadDescription("title: has to be text")
+    return "".join(letter if letter.isprintable() else " " for letter in title).strip()
+
+
+def check_names(where, table, names):
+    for name in table:
+        if name not in names:
+            close = get_close_matches(name, names, 1, 0.5)
+            hint = f'did you mean "{close[0]}"?' if close else f"known are {', '.join(names)}"
+            raise BadDescription(f"{where}: unknown field {shown(name)}; {hint}")
+
+
+def shown(value):
+    """A value of the description as a message names it, on one short line."""
+    try:
+        text = f'"{value}"' if isinstance(value, str) else str(value)
+    except ValueError:
+        text = "of very many digits"
+    text = "".join(letter if letter.isprintable() else "?" for letter in text)
+    return text if len(text) <= 40 else f"{text[:37]}..."
+
+
+class FieldReader:
+    """Reads fields and keeps in mind what was not given."""
+
+    def __init__(self):
+        self.taken = {}
+
+    def assumed(self):
+        return list(self.taken)
+
+    def values(self, what, fields, places):
+        """The fields' values by attribute, each from the first place (name, table) that has it."""
+        return {field.attribute: self.value(what, field, places) for field in fields}
+
+    def value(self, what, field, places):
+        for where, table in places:
+            if field.name in table:
+                return checked(where, field, table[field.name])
+        if field.default is None:
+            raise BadDescription(f"{places[0][0]}: {field.name} is missing ({field.allowed()})")
+        self.taken[f"{what} {field.name} {field.shown(field.default)}".strip()] = True
+        return field.default
+
+
+def checked(where, field, value):
+    """A given value as the sheet's number."""
+    if field.words:
+        if value not in field.words:
+            raise BadDescription(f"{where}: {field.name} is {shown(value)}; it has to be {field.allowed()}")
+        return field.words.index(value)
+    if type(value) is not int:
+        raise BadDescription(f"{where}: {field.name} is {shown(value)}; it has to be a whole number")
+    if field.choices:
+        if value not in field.choices:
+            raise BadDescription(f"{where}: {field.name} {shown(value)} has to be {field.allowed()}")
+        return value
+    least, greatest = field.limits
+    if not least <= value <= greatest:
+        raise BadDescription(f"{where}: {field.name} {shown(value)} is outside {field.allowed()}")
+    return value
+
+
+def names(fields):
+    return tuple(field.name for field in fields)
+
+
+def read_head(reader, table, lock):
+    check_names("[lock]", lock, names(LOCK_FIELDS))
+    values = {
+        **reader.values("", HEAD_FIELDS, [("the stack", table)]),
+        **reader.values("lock", LOCK_FIELDS, [("[lock]", lock)]),
+    }
+    return Head(zero=0, **values)
+
+
+def read_tiers(reader, tables, box):
+    check_names("[box]", box, names(TIER_FIELDS))
+    if not 1 <= len(tables) <= MOST_TIERS:
+        raise BadDescription(f"tier: a stack has 1 to {MOST_TIERS} of [[tier]], not {len(tables)}")
+    tiers = []
+    for number, table in enumerate(tables, 1):
+        where = f"tier {number}"
+        check_names(where, table, names(TIER_FIELDS))
+        tier = Tier(**reader.values("box", TIER_FIELDS, [(where, table), ("[box]", box)]))
+        check_box(where, tier)
+        tiers.append(tier)
+    return tuple(tiers)
+
+
+def check_box(where, tier):
+    """What a box's fields must be together."""
+    if tier.height not in HEIGHTS[tier.size]:
+        low, high = HEIGHTS[tier.size]
+        due = f"{low:,} or {high:,} mm at {tier.size} feet"
+        raise BadDescription(f"{where}: height {tier.height:,} has to be {due}")
+    if tier.a_vmin > tier.a_vmax:
+        raise BadDescription(f"{where}: A_Vmin {tier.a_vmin} is above A_Vmax {tier.a_vmax}")
+
+
+def read_lashes(reader, tables, gear):
+    """The lashes of both ends, put in sheet order."""
+    lash_names = names(LASH_FIELDS)
+    check_names("[gear]", gear, lash_names)
+    ends = ([], [])
+    for number, table in enumerate(tables, 1):
+        where = f"lash {number}"
+        check_names(where, table, ("end", *lash_names))
+        lash = Lash(**reader.values("lash", LASH_FIELDS, [(where, table), ("[gear]", gear)]))
+        for end in read_ends(where, table):
+            ends[end].append(lash)
+    for name, lashes in zip(ENDS, ends):
+        if len(lashes) > MOST_LASHES:
+            raise BadDescription(f"lash: the {name} end has {len(lashes)}, at most {MOST_LASHES} are allowed")
+    return [tuple(sorted(lashes, key=sheet_order)) for lashes in ends]
+
+
+def read_ends(where, table):
+    value = table.get("end", "both")
+    if value == "both":
+        return range(len(ENDS))
+    if value not in ENDS:
+        raise BadDescription(f'{where}: end is {shown(value)}; it has to be "door", "closed" or "both"')
+    return [ENDS.index(value)]

@@ -1,0 +1,216 @@
+#!/usr/bin/env python3
+"""Prints named sheets and what must come out of each: document 01's list and its plausible slips.
+
+A case is a block of lines, ended by an empty one:
+
+    case NAME
+    why TEXT
+    room BYTES                     the answer buffer's length
+    sheet HEX                      nothing after the word for an empty sheet
+    refused NUMBER SECOND          or, for a sheet that is taken, `taken` and
+    END FORCE WHERE exact FRACTION reported LEAST to MOST
+    finding END KIND INDEX         a finding that stands in every right answer
+    open END KIND INDEX            one that hangs on the last 100 N
+    verdict 0|1|open
+
+END is 0 (door) or 1 (closed). WHERE is the tier, level or lash. A reported force r is right exactly
+if exact <= r < exact + 100 in size; LEAST and MOST are the first and last such whole number, negative
+for a racking to windward. `either` after MOST: the racking may also have the other sign.
+"""
+
+import sys
+from dataclasses import dataclass, replace
+from math import ceil
+from pathlib import Path
+
+sys.path.insert(0, str(Path(__file__).resolve().parent.parent))
+
+from reference.judge import MARGIN, figures
+from reference.script import finish
+from reference.sheet import (
+    ANSWER_ROOM, BOTTOM, CROSS, SIDE, TOP, Head, Lash, Refused, Sheet, Tier, pack, parse,
+)
+from reference.stack import checks, exact
+
+HEAD = Head(1, 0, 1, 0, 500_000)
+BOX_B = Tier(40, 0, 2591, 20_000, 500, 1_500, 800)
+ROD_S = Lash(1, TOP, CROSS, 1, 0, 1950, 2600, 500, 130_000, 490_000)
+
+
+@dataclass(frozen=True)
+class Case:
+    name: str
+    why: str
+    data: bytes
+    room: int = ANSWER_ROOM
+
+
+def stack(tiers, door=(), closed=(), **head):
+    return pack(Sheet(replace(HEAD, **head), tuple(tiers), tuple(door), tuple(closed)))
+
+
+def box(**changes):
+    return replace(BOX_B, **changes)
+
+
+def rod(tier=1, hook=TOP, kind=CROSS, **changes):
+    return replace(ROD_S, tier=tier, hook=hook, kind=kind, **changes)
+
+
+def rods(count):
+    """Rods on the lowest places in sheet order."""
+    places = [(t, h, k) for t in range(1, 4) for h in (TOP, BOTTOM) for k in (CROSS, SIDE)]
+    return [rod(*place) for place in places if place[:2] != (1, BOTTOM)][:count]
+
+
+B = BOX_B
+EIGHT_HIGH = [box(mass=m, wind=1) for m in (24_000, 22_000, 20_000, 16_000, 12_000, 9_000, 6_000, 4_000)]
+PULLED_BACK = [
+    box(mass=m, a_t=800, a_vmax=1_000, a_vmin=1_000)
+    for m in (10_000, 10_000, 10_000, 20_000, 30_480, 2_000)
+]
+FLAT = {"ly": 4_000, "lz": 3_000}
+OVERLOADED = [box(mass=30_480, a_t=900, a_vmax=2_000, a_vmin=0)] * 9
+
+RUN_BY_A_PROGRAM = [
+    Case("empty", "an empty sheet", b""),
+    Case("tiers-10", "ten tiers are taken", stack([B] * 10)),
+    Case("tiers-11", "eleven are not", stack([B] * 11)),
+    Case("mass-30480", "the heaviest box", stack([box(mass=30_480)])),
+    Case("mass-30481", "one kilogram more", stack([box(mass=30_481)])),
+    Case("a-vmin-1000", "the greatest A_Vmin", stack([box(a_vmin=1_000)])),
+    Case("a-vmin-1001", "one thousandth more", stack([box(a_vmin=1_001)])),
+    Case("lashes-8", "eight lashes at each end", stack([B] * 3, rods(8), rods(8))),
+    Case("lashes-9-door", "nine at the door end", stack([B] * 3, rods(9))),
+    Case("lashes-9-closed", "nine at the closed end", stack([B] * 3, rods(1), rods(9))),
+    Case("room-833", "an answer buffer one byte short", stack([B]), 833),
+    Case("room-834", "one that is long enough", stack([B]), 834),
+    Case("same-twice", "the same tier, hook and kind twice", stack([B], [rod(), rod()])),
+    Case("cross-then-side", "a cross, then a side lash on one hook", stack([B], [rod(), rod(kind=SIDE)])),
+]
+
+FIGURES = [
+    Case("figure-a-c", "(a) and (c): B alone", stack([B])),
+    Case("figure-b", "(b): two B", stack([B, B])),
+    Case("figure-d", "(d): B with S at level 1", stack([B], [rod()])),
+    Case("figure-e", "(e): S at level 2 pulls a light box back", stack([B, box(mass=2_000)], [rod(2)])),
+    Case("eight-high", "wind, four rods an end", stack(EIGHT_HIGH, rods(4), rods(4))),
+]
+
+SLIPS = [
+    Case("slip-nearest", "rounded to nearest, its racking falls below", stack([box(mass=20_005)])),
+    Case(
+        "slip-windward",
+        "the one finding is a racking to windward",
+        stack(
+            PULLED_BACK,
+            [rod(6, area=300, **FLAT), rod(6, kind=SIDE, area=300, **FLAT)],
+            [rod(4, **FLAT), rod(5, **FLAT)],
+        ),
+    ),
+    Case("slip-cross-post", "a cross lash presses the lee post", stack([B, B], [rod()], [rod()])),
+    Case(
+        "slip-side-post",
+        "a side lash presses the windward post",
+        stack([B, B], [rod(kind=SIDE)], [rod(kind=SIDE)]),
+    ),
+    Case(
+        "slip-own-top-hook",
+        "a level's top hook does not count in its tension",
+        stack([B, box(a_vmin=0)], [rod(kind=SIDE)], [rod(kind=SIDE)]),
+    ),
+    Case(
+        "slip-own-bottom-hook",
+        "a level's bottom hook does not count in its tension",
+        stack([B, box(a_vmin=0)], [rod(2, BOTTOM, SIDE)], [rod(2, BOTTOM, SIDE)]),
+    ),
+    Case("slip-route-vertical", "the route does not touch A_Vmax", stack([B, B], route=7)),
+    Case(
+        "slip-route-tension", "nor A_Vmin", stack([box(a_t=1_000), box(a_t=1_000, a_vmin=100)], route=7)
+    ),
+    Case("slip-route-wind", "nor the wind", stack([box(wind=1), box(wind=1)], route=7)),
+    Case(
+        "slip-copied-tier",
+        "each tier has its own racking",
+        stack([box(mass=m) for m in (9_000, 20_000, 3_000)]),
+    ),
+    Case(
+        "slip-every-kind",
+        "a finding of every kind",
+        stack(OVERLOADED, [rod(), rod(2, ly=700, lz=5_000)], [rod(area=1_000), rod(2, BOTTOM, **FLAT)]),
+    ),
+]
+
+ORDER = [
+    Case("order-early-12", "12 of an early lash before 1 of a later one", stack([B], [rod()] * 3)[:-20]),
+    Case("order-10-11", "a lash with tier 0 and LY 0", stack([B], [rod(0, ly=0)])),
+    Case("order-11-12", "a lash with tier 0 after another", stack([B], [rod(), rod(0)])),
+    Case("order-7-8", "a height that its size does not have", stack([B, box(size=20, height=2_896)])),
+    Case("order-8", "one that it has, but not tier 1's size", stack([B, box(size=20, height=2_438)])),
+    Case("order-9-1", "nine lashes counted and none there", stack([B])[:-2] + b"\x09"),
+    Case("order-3-4-5", "every fault of a head", stack([B], route=13, zero=1, lock_material=3)),
+    Case("order-2-13", "a spare byte and a short buffer", stack([B]) + b"\0", 833),
+    Case("order-11-bottom", "the bottom corner of tier 1", stack([B], [rod(1, BOTTOM)])),
+    Case("order-12-anew", "the closed end's order starts anew", stack([B, B], [rod(2)], [rod()])),
+    Case("longest", "the longest sheet, 451 bytes", stack([B] * 10, rods(8), rods(8))),
+    Case("longest-and-one", "a byte more", stack([B] * 10, rods(8), rods(8)) + b"\0"),
+]
+
+CASES = RUN_BY_A_PROGRAM + FIGURES + SLIPS + ORDER
+
+
+def reported_range(kind, force):
+    """The first and last whole number that may be reported, and whether its sign is open."""
+    least = ceil(abs(force))
+    most = least + MARGIN - 1
+    if kind == "racking" and force < 0:
+        return -most, -least, -force < MARGIN
+    return least, most, kind == "racking" and force < MARGIN
+
+
+def force_lines(ends):
+    for index, end in enumerate(ends):
+        for kind, where, force in figures(end):
+            least, most, either = reported_range(kind, force)
+            place = where.split()[1]
+            text = f"{index} {kind.replace(' ', '-')} {place} exact {force} reported {least} to {most}"
+            yield text + (" either" if either else "")
+
+
+def stands(check):
+    """Whether every right answer has a finding there; None where it hangs on the last 100 N."""
+    if check.size > check.limit:
+        return True
+    return None if ceil(check.size) + MARGIN - 1 > check.limit else False
+
+
+def finding_lines(sheet, ends):
+    """Findings that stand whatever the last 100 N are, those that hang on them, and the verdict."""
+    found = [(stands(check), f"{check.end} {check.kind} {check.index}") for check in checks(sheet, ends)]
+    for standing, where in found:
+        if standing is not False:
+            yield f"{'finding' if standing else 'open'} {where}"
+    seen = {standing for standing, _ in found}
+    yield f"verdict {1 if True in seen else 'open' if None in seen else 0}"
+
+
+def case_lines(case):
+    yield from (f"case {case.name}", f"why {case.why}", f"room {case.room}", f"sheet {case.data.hex()}")
+    try:
+        sheet = parse(case.data, case.room)
+    except Refused as refused:
+        yield f"refused {refused}"
+        return
+    ends = exact(sheet)
+    yield "taken"
+    yield from force_lines(ends)
+    yield from finding_lines(sheet, ends)
+
+
+def main():
+    for case in CASES:
+        print("\n".join(case_lines(case)), end="\n\n")
+
+
+if __name__ == "__main__":
+    finish(main)

@@ -1,0 +1,120 @@
+"""Holds what a program wrote for a sheet to what must come out: refusals, bytes, figures, findings."""
+
+from dataclasses import dataclass, field
+from re import fullmatch
+
+from reference.answer import BadAnswer, counts, counts_due, read_answer
+from reference.sheet import Refused, parse
+from reference.stack import exact, findings
+
+# A reported force is at least the exact one in size and less than this above it, N.
+# From this size on a racking's sign is the exact one's.
+MARGIN = 100
+
+END_NAMES = ("door", "closed")
+
+
+@dataclass(frozen=True)
+class Expected:
+    """What must come out of a sheet: a refusal, or answers within reach of the exact forces."""
+
+    refusal: tuple = None  # (number, second number)
+    sheet: object = None
+    ends: tuple = None  # exact forces
+
+
+@dataclass
+class Judgement:
+    faults: list = field(default_factory=list)
+    distances: dict = field(default_factory=dict)  # kind of force: largest distance above the exact
+    verdict: int = None  # of a taken sheet
+
+
+def expected(data):
+    try:
+        sheet = parse(data)
+    except Refused as refused:
+        return Expected(refusal=(refused.number, refused.second))
+    return Expected(sheet=sheet, ends=exact(sheet))
+
+
+def judge(due, output):
+    """Every fault of a program's output, and how far its forces lie above the exact ones."""
+    judgement = Judgement()
+    if due.refusal:
+        text = b"%d %d\n" % due.refusal
+        if output != text:
+            judgement.faults.append(f"refusal: {output[:40]!r}, {text!r} is due")
+        return judgement
+    if fullmatch(rb"\d+ \d+\n", output):
+        judgement.faults.append(f"refusal: {output!r} for a sheet that is taken")
+        return judgement
+    try:
+        answer = read_answer(output)
+    except BadAnswer as reason:
+        judgement.faults.append(f"answer: {reason}")
+        return judgement
+    judgement.verdict = answer.verdict
+    judgement.faults += layout_faults(due.sheet, answer, len(output))
+    if not judgement.faults:
+        judge_figures(due, answer, judgement)
+        judgement.faults += finding_faults(due.sheet, answer)
+    return judgement
+
+
+def layout_faults(sheet, answer, length):
+    faults = []
+    for end, name in enumerate(END_NAMES):
+        found, due = counts(answer.ends[end]), counts_due(sheet, end)
+        if found != due:
+            faults.append(f"layout: {name} end has counts {found}, {due} are due")
+    if answer.length != length:
+        faults.append(f"layout: {length - answer.length} bytes after the answer")
+    return faults
+
+
+def figures(end):
+    """(kind of force, where, force) of one end."""
+    for tier, force in enumerate(end.racking, 1):
+        yield "racking", f"tier {tier}", force
+    for level, force in enumerate(end.compression):
+        yield "compression", f"level {level}", force
+    for level, force in enumerate(end.tension):
+        yield "tension", f"level {level}", force
+    for index, forces in enumerate(end.lashes):
+        yield "lash tension", f"lash {index}", forces.tension
+        yield "lash athwart", f"lash {index}", forces.athwart
+        yield "lash vertical", f"lash {index}", forces.vertical
+
+
+def judge_figures(due, answer, judgement):
+    for name, exact_end, end in zip(END_NAMES, due.ends, answer.ends):
+        for (kind, where, force), (_, _, reported) in zip(figures(exact_end), figures(end)):
+            distance = abs(reported) - abs(force)
+            fault = figure_fault(kind, force, reported)
+            if fault:
+                text = f"{fault}: {name} end, {kind}, {where}: {reported}, exact {float(force):.6f}"
+                judgement.faults.append(text)
+            judgement.distances[kind] = max(distance, judgement.distances.get(kind, distance))
+
+
+def figure_fault(kind, force, reported):
+    distance = abs(reported) - abs(force)
+    if distance < 0:
+        return "below the exact force"
+    if distance >= MARGIN:
+        return f"{MARGIN} N or more above the exact force"
+    if kind == "racking" and abs(force) >= MARGIN and (reported > 0) != (force > 0):
+        return "wrong sign"
+    return None
+
+
+def finding_faults(sheet, answer):
+    """Findings and verdict are what the rule gives from the reported figures."""
+    faults = []
+    due = findings(sheet, answer.ends)
+    if answer.findings != due:
+        faults.append(f"findings: {answer.findings}, {due} are due")
+    if answer.verdict != (1 if answer.findings else 0):
+        faults.append(f"verdict: {answer.verdict} with {len(answer.findings)} findings")
+    return faults

@@ -1,0 +1,35 @@
+"""Sheets by seed: one number gives one sheet, so that a fault can be had again."""
+
+from dataclasses import dataclass
+from random import Random
+
+from reference import faults, samples
+from reference.sheet import pack
+
+
+@dataclass(frozen=True)
+class Made:
+    seed: int
+    kind: str
+    name: str
+    data: bytes
+
+
+def make(seed):
+    """The kinds take turns, so a run of seeds has each alike and goes through all edges."""
+    kind, turn = list(KINDS)[seed % len(KINDS)], seed // len(KINDS)
+    name, data = KINDS[kind](Random(seed), turn)
+    return Made(seed, kind, name, data)
+
+
+def legal(build):
+    return lambda random, turn: ("", pack(build(random, turn)))
+
+
+KINDS = {
+    "realistic": legal(lambda random, turn: samples.realistic(random)),
+    "extreme": legal(lambda random, turn: samples.extreme(random)),
+    "near a limit": legal(samples.near),
+    "edge": faults.edge,
+    "damaged": faults.damaged,
+}

@@ -1,0 +1,230 @@
+"""Legal stacks drawn at random: realistic ones, ones of extreme values, ones close to a limit."""
+
+from dataclasses import replace
+from fractions import Fraction
+from math import ceil
+
+from reference.sheet import (
+    BOTTOM, CLOSED, CROSS, DOOR, HEAD_LIMITS, HEIGHTS, LASH_LIMITS, MOST_LASHES, MOST_TIERS, SIDE,
+    TIER_LIMITS, TOP, Head, Lash, Sheet, Tier,
+)
+from reference.stack import (
+    COMPRESSION_LIMIT, CORNER_LIMIT, HIGHER_STRENGTH, LASH_ATHWART_LIMIT, LASH_VERTICAL_LIMIT,
+    RACKING_LIMIT, exact, exact_end,
+)
+
+
+def hooks(tier_count):
+    """Every place for a lash, in sheet order."""
+    return [
+        (tier, hook, kind)
+        for tier in range(1, tier_count + 1)
+        for hook in (TOP, BOTTOM)
+        for kind in (CROSS, SIDE)
+        if (tier, hook) != (1, BOTTOM)
+    ]
+
+
+# Realistic
+
+
+def realistic(random):
+    size = random.choice((20, 40, 40))
+    count = random.choice((1, 2, 3, 4, 5, 6, 7, 8, 8, 8, 9, 10))
+    tiers = realistic_tiers(random, size, count)
+    door = realistic_lashes(random, tiers)
+    closed = door if random.random() < 0.7 else realistic_lashes(random, tiers)
+    head = Head(1, random.choice((0, random.randint(0, 12))), random.choice((1, 1, 0, 2)), 0, 500_000)
+    return Sheet(head, tiers, door, closed)
+
+
+def realistic_tiers(random, size, count):
+    """Heavy boxes below, accelerations that grow upward, wind on the upper tiers or on all."""
+    sheltered = random.choice((0, count, random.randint(0, count)))
+    heaviest = random.choice((12_000, 20_000, 30_480))
+    a_t, step = random.randint(250, 600), random.randint(0, 25)
+    a_vmax, a_vmin = random.randint(1_050, 1_600), random.randint(400, 950)
+    tiers = []
+    for index in range(count):
+        most = heaviest if random.random() < 0.1 else heaviest * (count - index) // count
+        mass = random.randint(min(2_200, most), most)
+        wind = 1 if index >= sheltered else 0
+        height = random.choice(HEIGHTS[size])
+        tiers.append(Tier(size, wind, height, mass, a_t + index * step, a_vmax, a_vmin))
+    return tuple(tiers)
+
+
+def realistic_lashes(random, tiers):
+    """Cross lashes and some side lashes from the deck, or from a lashing bridge one to three tiers high."""
+    bridge = min(random.choice((0, 0, 1, 2, 3)), len(tiers) - 1)
+    within = [place for place in hooks(min(len(tiers), bridge + 3)) if place[0] > bridge]
+    places = [place for place in within if place[2] == CROSS or random.random() < 0.25]
+    chosen = sorted(random.sample(places, min(len(places), random.choice((0, 1, 2, 2, 4, 8)))))
+    area, material = random.choice((380, 490, 531)), random.choice((1, 1, 1, 0, 2, 3))
+    return tuple(realistic_lash(random, tiers, bridge, place, area, material) for place in chosen)
+
+
+def realistic_lash(random, tiers, bridge, place, area, material):
+    tier, hook, kind = place
+    level = tier if hook == TOP else tier - 1
+    lz = max(1_000, sum(box.height for box in tiers[bridge:level]) - random.randint(0, 400))
+    ly = random.randint(1_900, 2_300) if kind == CROSS else random.randint(600, 1_500)
+    modulus = 97_100 if lz < 4_500 else 176_600
+    breaking = random.choice((490_000, 490_000, 360_000))
+    return Lash(tier, hook, kind, material, random.randint(0, 450), ly, lz, area, modulus, breaking)
+
+
+# Extreme
+
+
+def extreme(random):
+    size = random.choice((20, 40))
+    count = random.choice((1, 2, 3, MOST_TIERS, MOST_TIERS, random.randint(1, MOST_TIERS)))
+    tiers = tuple(extreme_tier(random, size) for _ in range(count))
+    head = Head(
+        1, random.randint(0, 12), random.randint(0, 2), 0, corner(random, HEAD_LIMITS, "lock_breaking")
+    )
+    return Sheet(head, tiers, extreme_lashes(random, count), extreme_lashes(random, count))
+
+
+def corner(random, limits, name):
+    """Mostly one of a field's two limits."""
+    least, greatest = limits[name]
+    return random.choice((least, greatest, greatest, random.randint(least, greatest)))
+
+
+def extreme_tier(random, size):
+    a_vmax = corner(random, TIER_LIMITS, "a_vmax")
+    return Tier(
+        size,
+        random.randint(0, 1),
+        random.choice(HEIGHTS[size]),
+        corner(random, TIER_LIMITS, "mass"),
+        corner(random, TIER_LIMITS, "a_t"),
+        a_vmax,
+        min(corner(random, TIER_LIMITS, "a_vmin"), a_vmax),
+    )
+
+
+def extreme_lashes(random, tier_count):
+    """Up to eight lashes anywhere, or crowded on the highest or the lowest hooks."""
+    places = hooks(tier_count)
+    count = min(len(places), random.choice((0, 1, 2, 4, MOST_LASHES, MOST_LASHES)))
+    chosen = random.choice((sorted(random.sample(places, count)), places[-count:], places[:count]))
+    steep = random.random() < 0.3
+    return tuple(extreme_lash(random, place, steep) for place in chosen[:count])
+
+
+def extreme_lash(random, place, steep):
+    names = [name for name in LASH_LIMITS if name not in ("hook", "kind")]
+    fields = {name: corner(random, LASH_LIMITS, name) for name in names}
+    if steep:
+        fields.update(ly=LASH_LIMITS["ly"][0], lz=LASH_LIMITS["lz"][1])
+    return Lash(*place, **fields)
+
+
+# Close to a limit
+
+LIMITED = {
+    "racking": RACKING_LIMIT,
+    "compression": COMPRESSION_LIMIT,
+    "tension": CORNER_LIMIT,
+    "vertical": LASH_VERTICAL_LIMIT,
+    "athwart": LASH_ATHWART_LIMIT,
+}
+ATTEMPTS = 20
+
+
+def near(random, turn):
+    """A stack with a force within some newtons of its limit."""
+    names = (*LIMITED, "gear")
+    name = names[turn % len(names)]
+    if name == "gear":
+        return near_gear(random)
+    for _ in range(ATTEMPTS):
+        sheet = near_force(random, name)
+        if sheet:
+            return sheet
+    return extreme(random)
+
+
+def aim(random):
+    """How far a force is aimed above its limit: mostly below, since reports lie above the exact force."""
+    return random.uniform(random.choice((-12, -12, -12, -25)), 2)
+
+
+def sizes(end, name):
+    """The sizes of the forces of one name that are checked."""
+    if name in ("vertical", "athwart"):
+        return [getattr(forces, name) for forces in end.lashes]
+    return [abs(force) for force in getattr(end, name)[1 if name == "compression" else 0 :]]
+
+
+def near_force(random, name):
+    """Forces without wind grow with the masses: scale them to the limit, then trim one light box."""
+    sheet = heavy(random)
+    end = random.choice((DOOR, CLOSED))
+    target = LIMITED[name] + Fraction(aim(random))
+    over = [index for index, size in enumerate(sizes(exact_end(sheet, end), name)) if size > target]
+    if not over:
+        return None
+    index = random.choice(over)
+
+    def force(masses):
+        return sizes(exact_end(with_masses(sheet, masses), end), name)[index]
+
+    masses = [tier.mass for tier in sheet.tiers]
+    factor = target / force(masses)
+    masses = [max(1, int(mass * factor)) for mass in masses]
+    masses[0] = 15_000
+    heavier = [25_000] + masses[1:]
+    before, after = force(masses), force(heavier)
+    if before == after:
+        return None
+    masses[0] += round((target - before) * 10_000 / (after - before))
+    return with_masses(sheet, masses) if 1 <= masses[0] <= 30_480 else None
+
+
+def with_masses(sheet, masses):
+    tiers = tuple(replace(tier, mass=mass) for tier, mass in zip(sheet.tiers, masses))
+    return replace(sheet, tiers=tiers)
+
+
+def heavy(random):
+    """A stack of great forces without wind, whose lowest box weighs little in them."""
+    size = random.choice((20, 40))
+    count = random.randint(2, 8)
+    a_t, a_vmax, a_vmin = random.randint(600, 1_500), random.randint(1_500, 3_000), random.randint(0, 300)
+    tiers = [
+        Tier(size, 0, random.choice(HEIGHTS[size]), random.randint(15_000, 30_480), a_t, a_vmax, a_vmin)
+        for _ in range(count)
+    ]
+    tiers[0] = replace(tiers[0], a_t=random.randint(20, 60), a_vmax=60, a_vmin=random.randint(0, 60))
+    lashes = random.choice((realistic_lashes, lambda random, tiers: extreme_lashes(random, len(tiers))))
+    head = Head(1, random.randint(0, 12), random.randint(0, 2), 0, random.randint(100_000, 2_000_000))
+    return Sheet(head, tuple(tiers), lashes(random, tiers), lashes(random, tiers))
+
+
+def near_gear(random):
+    """Breaking loads that put safe working loads within some newtons of the pulls."""
+    sheet = random.choice((realistic, heavy))(random)
+    ends = exact(sheet)
+    greatest = max(max(end.tension) for end in ends)
+    lock = breaking_for(random, greatest, sheet.head.lock_material)
+    lashed = [
+        tuple(
+            replace(lash, breaking=breaking_for(random, forces.tension, lash.material))
+            for lash, forces in zip(sheet.lashes(index), end.lashes)
+        )
+        for index, end in enumerate(ends)
+    ]
+    return Sheet(replace(sheet.head, lock_breaking=lock), sheet.tiers, *lashed)
+
+
+def breaking_for(random, force, material):
+    """A breaking load whose safe working load lies close below or above a force."""
+    safe = ceil(force - Fraction(aim(random)))
+    breaking = ceil(safe * Fraction(167, 100)) if material == HIGHER_STRENGTH else 2 * safe
+    breaking += random.choice((-1, 0, 1))
+    least, greatest = LASH_LIMITS["breaking"]
+    return min(max(breaking, least), greatest)

@@ -1,0 +1,123 @@
+#!/usr/bin/env python3
+"""Writes what the programs cases and lashcheck are run on, and what they must write.
+
+crates/cases/src/main.rt says how a case is laid out. A field is the size of a number of the answer and
+the least and the most that it may be; a racking to windward lies in two's complement.
+"""
+
+import struct
+import sys
+from pathlib import Path
+
+ROOT = Path(__file__).resolve().parent.parent
+sys.path.insert(0, str(ROOT))
+
+from reference.answer import counts
+from reference.cases import CASES, reported_range, stands
+from reference.judge import figures
+from reference.script import finish
+from reference.sheet import Refused, parse
+from reference.stack import checks, exact
+
+HEAD = struct.Struct("<BHHH")
+FIELD = struct.Struct("<BII")
+ROOM_LIMIT = 1_024
+INPUT_LIMIT = 65_536
+
+# Its 452 bytes are as many as lashcheck reads.
+LASHCHECK_CASE = "longest-and-one"
+
+
+class Undecided(Exception):
+    """A case whose answer's bytes hang on the last 100 N by more than single figures."""
+
+
+def byte(value):
+    return 1, value, value
+
+
+def figure(kind, force):
+    least, most, either = reported_range(kind, force)
+    if either:
+        raise Undecided(f"the way of a racking of {float(force)} N is open")
+    return 4, least % 2**32, most % 2**32
+
+
+def end_fields(end):
+    """An end's counts and forces, in the answer's order."""
+    tiers, levels, tensions, lashes = counts(end)
+    forces = iter([figure(kind, force) for kind, _, force in figures(end)])
+    for count, each in ((tiers, 1), (levels, 1), (tensions, 1), (lashes, 3)):
+        yield byte(count)
+        yield from (next(forces) for _ in range(count * each))
+
+
+def findings_due(sheet, ends):
+    """The findings that stand in every right answer."""
+    for check in checks(sheet, ends):
+        standing = stands(check)
+        if standing is None:
+            raise Undecided(f"a finding of kind {check.kind} is open at {float(check.size)} N")
+        if standing:
+            yield check.end, check.kind, check.index
+
+
+def fields(sheet):
+    """What the answer of a taken sheet holds: (size, least, most) of each of its numbers."""
+    ends = exact(sheet)
+    found = list(findings_due(sheet, ends))
+    yield byte(1 if found else 0)
+    for end in ends:
+        yield from end_fields(end)
+    yield byte(len(found))
+    for finding in found:
+        yield from map(byte, finding)
+
+
+def due(case):
+    """What the check must return for a case, and the fields of its answer."""
+    try:
+        sheet = parse(case.data, case.room)
+    except Refused as refused:
+        return refused.number, refused.second, []
+    listed = list(fields(sheet))
+    return 0, sum(size for size, _, _ in listed), listed
+
+
+def packed(case):
+    """The bytes of a case."""
+    name, (_, _, listed) = case.name.encode(), due(case)
+    if case.room > ROOM_LIMIT:
+        raise ValueError(f"{case.name}: an answer buffer of more than {ROOM_LIMIT} bytes")
+    head = HEAD.pack(len(name), len(case.data), case.room, len(listed))
+    return head + name + case.data + b"".join(FIELD.pack(*field) for field in listed)
+
+
+def line(case):
+    """What the program cases must write of a case."""
+    number, second, listed = due(case)
+    return f"{case.name} {number} {second}{' inside' if listed else ''} untouched\n"
+
+
+def stored():
+    """The bytes of each file, by its path from the top."""
+    data = b"".join(map(packed, CASES))
+    if len(data) > INPUT_LIMIT:
+        raise ValueError(f"{len(data)} bytes of cases; the program reads {INPUT_LIMIT}")
+    sample = next(case for case in CASES if case.name == LASHCHECK_CASE)
+    number, second, _ = due(sample)
+    return {
+        "crates/cases/stdin": data,
+        "crates/cases/stdout": "".join(map(line, CASES)).encode(),
+        "crates/lashcheck/stdin": sample.data,
+        "crates/lashcheck/stdout": b"%d %d\n" % (number, second),
+    }
+
+
+def main():
+    for path, data in stored().items():
+        (ROOT / path).write_bytes(data)
+
+
+if __name__ == "__main__":
+    finish(main)

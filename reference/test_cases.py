@@ -1,0 +1,94 @@
+"""The named cases held to what document 01 says of them."""
+
+import unittest
+from fractions import Fraction
+
+from reference.cases import CASES, case_lines, reported_range
+
+# By hand from the table of refusals; an offset is 9 + 12 × tiers + 20 × lashes before it, and counts.
+REFUSED = {
+    "empty": "1 0",
+    "tiers-11": "6 8",
+    "mass-30481": "7 9",
+    "a-vmin-1001": "7 9",
+    "lashes-9-door": "9 45",
+    "lashes-9-closed": "9 66",
+    "room-833": "13 834",
+    "same-twice": "12 42",
+    "order-early-12": "12 42",
+    "order-10-11": "10 22",
+    "order-11-12": "11 42",
+    "order-7-8": "7 21",
+    "order-8": "8 21",
+    "order-9-1": "9 21",
+    "order-3-4-5": "3 0",
+    "order-2-13": "2 23",
+    "order-11-bottom": "11 22",
+    "longest-and-one": "2 451",
+}
+
+
+def block(name):
+    return list(case_lines(next(case for case in CASES if case.name == name)))
+
+
+class Cases(unittest.TestCase):
+    def test_refusals(self):
+        refused = {}
+        for case in CASES:
+            for line in case_lines(case):
+                if line.startswith("refused "):
+                    refused[case.name] = line.removeprefix("refused ")
+        self.assertEqual(refused, REFUSED)
+
+    def test_names_are_unique(self):
+        self.assertEqual(len({case.name for case in CASES}), len(CASES))
+
+    def test_a_case_in_full(self):
+        # B alone: R = Q = 22,072.5 at both ends; V/2 = 73,575; M = 57,189,847.5.
+        self.assertEqual(
+            block("figure-a-c"),
+            [
+                "case figure-a-c",
+                "why (a) and (c): B alone",
+                "room 834",
+                "sheet 0100010020a107000128001f0a204ef401dc0520030000",
+                "taken",
+                "0 racking 1 exact 44145/2 reported 22073 to 22172",
+                f"0 compression 0 exact {73_575 + Fraction('57189847.5') / 2259} reported 98892 to 98991",
+                "0 compression 1 exact 0 reported 0 to 99",
+                "0 tension 0 exact 0 reported 0 to 99",
+                "1 racking 1 exact 44145/2 reported 22073 to 22172",
+                f"1 compression 0 exact {73_575 + Fraction('57189847.5') / 2259} reported 98892 to 98991",
+                "1 compression 1 exact 0 reported 0 to 99",
+                "1 tension 0 exact 0 reported 0 to 99",
+                "verdict 0",
+            ],
+        )
+
+    def test_pulled_back(self):
+        racking = next(line for line in block("figure-e") if line.startswith("0 racking 2"))
+        self.assertTrue(racking.endswith("reported -9482 to -9383"))
+        judged = [line for line in block("slip-windward") if line.startswith(("finding", "open", "verdict"))]
+        self.assertEqual(judged, ["finding 0 1 6", "verdict 1"])
+
+    def test_every_kind_is_found(self):
+        kinds = {line.split()[2] for line in block("slip-every-kind") if line.startswith("finding")}
+        self.assertEqual(kinds, set("1234567"))
+
+    def test_reported_range(self):
+        for kind, force, due in (
+            ("tension", "0", (0, 99, False)),
+            ("tension", "0.5", (1, 100, False)),
+            ("tension", "12", (12, 111, False)),
+            ("racking", "0", (0, 99, True)),
+            ("racking", "99.5", (100, 199, True)),
+            ("racking", "100", (100, 199, False)),
+            ("racking", "-99.5", (-199, -100, True)),
+            ("racking", "-100.5", (-200, -101, False)),
+        ):
+            self.assertEqual(reported_range(kind, Fraction(force)), due)
+
+
+if __name__ == "__main__":
+    unittest.main()

@@ -1,0 +1,493 @@
+"""Shows that the comparison passes a right check and catches each wrong one.
+
+The check tried here is in floating point and takes another road than the fractions: refusals as a
+table of rows, shifts from the top down, moments from the rackings. Each slip changes one thing of it.
+"""
+
+import math
+import struct
+import subprocess
+import sys
+import tempfile
+import unittest
+from fractions import Fraction
+from pathlib import Path
+
+from reference.cases import CASES, SLIPS
+from reference.faults import EDGES
+from reference.judge import expected, figure_fault, judge
+from reference.making import KINDS, make
+from reference.sheet import ANSWER_ROOM
+
+ROOT = Path(__file__).resolve().parent.parent
+
+
+def seeds(kind, turns):
+    return [turn * len(KINDS) + list(KINDS).index(kind) for turn in turns]
+
+
+# Some of every kind, then all edges.
+SEEDS = [*range(1, 126), *seeds("edge", range(25, len(EDGES)))]
+NEAR_SEEDS = seeds("near a limit", range(18))
+
+
+def number(data, place, size):
+    return int.from_bytes(data[place : place + size], "little")
+
+
+def within(data, place, sizes_and_limits):
+    """Whether the fields from a place on lie within their limits."""
+    for size, least, greatest in sizes_and_limits:
+        if not least <= number(data, place, size) <= greatest:
+            return False
+        place += size
+    return True
+
+
+class StandIn:
+    """The check in floating point, with a method or a value for each thing that a slip changes."""
+
+    # Refusals
+
+    most_bytes = 452
+    tests = staticmethod(list)
+    heights = {20: (2438, 2591), 40: (2591, 2896)}
+    greatest_mass = 30_480
+    greatest_a_vmin = 1_000
+    most_tiers = 10
+    most_lashes = 8
+    anew_at_closed_end = True
+    refusal_text = "{} {}\n"
+
+    def short(self, data, place):
+        return 1, len(data)
+
+    def in_order(self, lash, before):
+        return lash > before
+
+    def bad_tier(self, data, place):
+        size, wind = data[place], data[place + 1]
+        height, _, _, a_vmax, a_vmin = struct.unpack_from("<5H", data, place + 2)
+        limits = ((2, 1, self.greatest_mass), (2, 0, 1500), (2, 0, 3000), (2, 0, self.greatest_a_vmin))
+        fits = size in self.heights and height in self.heights[size] and wind < 2
+        return not (fits and within(data, place + 4, limits) and a_vmin <= a_vmax)
+
+    def bad_lash(self, data, place):
+        codes = ((1, 0, 1), (1, 0, 1), (1, 0, 3))
+        sides = ((2, 0, 5000), (2, 500, 10000), (2, 500, 20000))
+        gear = ((2, 50, 1000), (4, 10000, 200000), (4, 1, 2000000))
+        return not within(data, place + 1, codes + sides + gear)
+
+    def head_tests(self, data):
+        lock = data[2] > 2 or not 1 <= number(data, 4, 4) <= 2_000_000
+        return [(3, 0, data[0] != 1 or data[3] != 0), (4, 1, data[1] > 12), (5, 2, lock)]
+
+    def tier_tests(self, data, place):
+        return [(7, place, self.bad_tier(data, place)), (8, place, data[place] != data[9])]
+
+    def lash_tests(self, data, place, before):
+        tier, hook = data[place], data[place + 1]
+        late = before is None or self.in_order(data[place : place + 3], before)
+        nowhere = not 1 <= tier <= data[8] or (tier, hook) == (1, 1)
+        return [(10, place, self.bad_lash(data, place)), (11, place, nowhere), (12, place, not late)]
+
+    def items(self, data):
+        """(place, size, its tests) in reading order; a test is number, second number, fault."""
+        yield 0, 8, lambda: self.head_tests(data)
+        yield 8, 1, lambda: [(6, 8, not 1 <= data[8] <= self.most_tiers)]
+        place, before = 9, None
+        for _ in range(data[8]):
+            yield place, 12, lambda: self.tier_tests(data, place)
+            place += 12
+        for _ in range(2):
+            yield place, 1, lambda: [(9, place, data[place] > self.most_lashes)]
+            count, place = data[place], place + 1
+            before = None if self.anew_at_closed_end else before
+            for _ in range(count):
+                yield place, 20, lambda: self.lash_tests(data, place, before)
+                before, place = data[place : place + 3], place + 20
+        yield place, 0, lambda: [(2, place, len(data) > place)]
+
+    def refusal(self, data):
+        for place, size, tests in self.items(data):
+            if place + size > len(data):
+                return self.short(data, place)
+            for number_, second, fault in self.tests(tests()):
+                if fault:
+                    return number_, second
+        return None
+
+    # Forces
+
+    share = 0.45
+    spacing = 2259
+    springs = (3730, 15690)
+    posts = (0, 1)  # the kind of lash on the lee post and on the windward post
+    route_on_vertical = False
+    route_on_wind = False
+    percents = (100, 87, 96, 95, 94, 100, 95, 73, 86, 90, 90, 73, 87)
+
+    def level(self, tier, hook):
+        return tier - hook
+
+    def length(self, lx, ly, lz):
+        return math.ceil(math.sqrt(lx * lx + ly * ly + lz * lz))
+
+    def counts_in_compression(self, lash_level, level):
+        return lash_level >= level
+
+    def counts_in_tension(self, lash_level, level):
+        return lash_level > level
+
+    def loads(self, data):
+        """(height, F, P, A_Vmax part, A_Vmin part) of each tier."""
+        factor = self.percents[data[1]] / 100
+        found = []
+        for tier in range(data[8]):
+            size, wind, height, mass, *a = struct.unpack_from("<BBHHHHH", data, 9 + 12 * tier)
+            half_weight = mass * 9.81 / 2
+            pressed = wind * 1080e-6 / 2 * {20: 6058, 40: 12192}[size] * height
+            pressed *= factor if self.route_on_wind else 1
+            half_up = half_weight / 1000 * (factor if self.route_on_vertical else 1)
+            pushed = half_weight * a[0] / 1000 * factor
+            found.append((height, pushed, pressed, half_up * a[1], half_up * a[2]))
+        return found
+
+    def lashes(self, data):
+        """For each end (level, kind, stiffness, L/LY, LZ/LY, breaking load, material) of each lash."""
+        place, ends = 9 + 12 * data[8], []
+        for _ in range(2):
+            count, place, found = data[place], place + 1, []
+            for _ in range(count):
+                tier, hook, kind, material, lx, ly, lz, area, modulus, breaking = struct.unpack_from(
+                    "<BBBBHHHHII", data, place
+                )
+                length = self.length(lx, ly, lz)
+                stiffness = modulus * area * ly**2 / length**3
+                level = self.level(tier, hook)
+                found.append((level, kind, stiffness, length / ly, lz / ly, breaking, material))
+                place += 20
+            ends.append(found)
+        return ends
+
+    def shifts(self, loads, lashes, spring):
+        """Shifts of levels 0 to n: each level's stiffness and load handed down, then upward again."""
+        count = len(loads)
+        own = [sum(lash[2] for lash in lashes if lash[0] == level) for level in range(count + 1)]
+        pull = [0.0] * (count + 1)
+        for level in range(1, count + 1):
+            _, f, p, *_ = loads[level - 1]
+            pull[level] += self.share * f + p / 2
+            pull[level - 1] += (1 - self.share) * f + p / 2
+        for level in range(count, 0, -1):
+            part = spring / (spring + own[level])
+            own[level - 1] += part * own[level]
+            pull[level - 1] += part * pull[level]
+        shift = [0.0]
+        for level in range(1, count + 1):
+            shift.append((pull[level] + spring * shift[-1]) / (spring + own[level]))
+        return shift
+
+    def racking(self, shift, spring):
+        return [spring * (b - a) for a, b in zip(shift, shift[1:])]
+
+    def post(self, level, loads, racking, lashes, parts, field, counted):
+        """The lee and the windward sum at a level."""
+        half_v = sum(load[field] for load in loads[level:]) / 2
+        pair = sum(load[0] * r for load, r in zip(loads[level:], racking[level:])) / self.spacing
+        lee, windward = (
+            sum(v for lash, v in zip(lashes, parts) if lash[1] == kind and counted(lash[0], level))
+            for kind in self.posts
+        )
+        return half_v + pair + lee, half_v - pair + windward
+
+    def end(self, loads, lashes, spring):
+        """Racking, compression, tension and lash forces of one end."""
+        count = len(loads)
+        shift = self.shifts(loads, lashes, spring)
+        racking = self.racking(shift, spring)
+        athwart = [lash[2] * shift[lash[0]] for lash in lashes]
+        parts = [a * lash[4] for a, lash in zip(athwart, lashes)]
+        given = (loads, racking, lashes, parts)
+        pressed = [max(0, *self.post(j, *given, 3, self.counts_in_compression)) for j in range(count + 1)]
+        pulled = [max(0, -min(self.post(j, *given, 4, self.counts_in_tension))) for j in range(count)]
+        forces = [(a * lash[3], a, v) for a, lash, v in zip(athwart, lashes, parts)]
+        return racking, pressed, pulled, forces
+
+    # Answer
+
+    pad = 0.5
+    rounded = staticmethod(math.ceil)
+    limits = {1: 150_000, 2: 848_000, 3: 250_000, 6: 300_000, 7: 150_000}
+    racking_size = staticmethod(abs)
+    more = {}  # newtons more on a kind's limit
+    first_compression = 1
+    first_lash = 0
+    strong = (1,)  # materials of factor 1.67
+    little = "<"
+    tail = b""
+    verdict_of = staticmethod(bool)
+    listed = staticmethod(list)
+
+    def exceeds(self, size, limit):
+        return size > limit
+
+    def figure(self, force):
+        size = self.rounded(abs(force) + self.pad)
+        return size if force >= 0 else -size
+
+    def safe(self, breaking, material):
+        return breaking * 100 // 167 if material in self.strong else breaking // 2
+
+    def findings(self, data, lashes, ends):
+        lock = self.safe(number(data, 4, 4), data[2])
+        for end, (racking, pressed, pulled, forces) in enumerate(ends):
+            sizes = {kind: [] for kind in range(1, 8)}
+            sizes[1] = [(i, self.racking_size(r), self.limits[1]) for i, r in enumerate(racking, 1)]
+            sizes[2] = [(i, c, self.limits[2]) for i, c in enumerate(pressed)][self.first_compression :]
+            sizes[3] = [(i, t, self.limits[3]) for i, t in enumerate(pulled)]
+            sizes[4] = [(i, t, lock) for i, t in enumerate(pulled)]
+            pairs = zip(forces, lashes[end])
+            for i, ((tension, athwart, vertical), lash) in enumerate(pairs, self.first_lash):
+                sizes[5].append((i, tension, self.safe(*lash[5:])))
+                sizes[6].append((i, vertical, self.limits[6]))
+                sizes[7].append((i, athwart, self.limits[7]))
+            for kind, rows in sizes.items():
+                for index, size, limit in rows:
+                    if self.exceeds(size, limit + self.more.get(kind, 0)):
+                        yield end, kind, index
+
+    def __call__(self, data):
+        data = data[: self.most_bytes]
+        refusal = self.refusal(data)
+        if refusal:
+            return self.refusal_text.format(*refusal).encode()
+        loads, lashes = self.loads(data), self.lashes(data)
+        ends = []
+        for own, spring in zip(lashes, self.springs):
+            *lists, forces = self.end(loads, own, spring)
+            figures = [[self.figure(force) for force in forces_] for forces_ in lists]
+            ends.append((*figures, [tuple(self.figure(force) for force in row) for row in forces]))
+        findings = self.listed(self.findings(data, lashes, ends))
+        return self.encoded(ends, findings)
+
+    def encoded(self, ends, findings):
+        data = bytes([self.verdict_of(findings)])
+        for racking, pressed, pulled, forces in ends:
+            for figures, code in ((racking, "i"), (pressed, "I"), (pulled, "I")):
+                data += struct.pack(f"{self.little}B{len(figures)}{code}", len(figures), *figures)
+            data += bytes([len(forces)])
+            data += b"".join(struct.pack(f"{self.little}3I", *row) for row in forces)
+        return data + bytes([len(findings)]) + b"".join(map(bytes, findings)) + self.tail
+
+
+def nearest(force):
+    return math.floor(force + 0.5)
+
+
+def copied_upward(self, shift, spring):
+    return [spring * shift[1]] * (len(shift) - 1)
+
+
+@staticmethod
+def by_kind(findings):
+    return sorted(findings, key=lambda found: found[1:])
+
+
+# A slip: what it changes, and how the fault that it makes begins.
+SLIPS_CAUGHT = {
+    "rounded to nearest": ({"rounded": staticmethod(nearest), "pad": 0}, "below"),
+    "rounded down": ({"rounded": staticmethod(math.floor), "pad": 0}, "below"),
+    "every figure 100 N up": ({"pad": 100}, "100 N or more"),
+    "finding to leeward only": ({"racking_size": lambda s, r: r}, "findings"),
+    "racking without its sign": ({"figure": lambda s, f: abs(StandIn.figure(s, f))}, "wrong sign"),
+    "vertical part on the wrong post": ({"posts": (1, 0)}, ""),
+    "both kinds on the lee post": ({"posts": (0, 9)}, ""),
+    "own lashes in tension": ({"counts_in_tension": lambda s, a, b: a >= b}, "below"),
+    "own lashes not in compression": ({"counts_in_compression": lambda s, a, b: a > b}, "below"),
+    "route on A_Vmax": ({"route_on_vertical": True}, ""),
+    "route on wind": ({"route_on_wind": True}, "below"),
+    "lowest tier copied upward": ({"racking": copied_upward}, ""),
+    "door spring at both ends": ({"springs": (3730, 3730)}, ""),
+    "ends exchanged": ({"springs": (15690, 3730)}, ""),
+    "centre at half height": ({"share": 0.5}, ""),
+    "spacing of the width": ({"spacing": 2438}, "below"),
+    "length rounded down": ({"length": lambda s, *sides: math.isqrt(sum(x * x for x in sides))}, ""),
+    "short LX left out": ({"length": lambda s, x, y, z: StandIn.length(s, x if x > 400 else 0, y, z)}, ""),
+    "bottom hook one level up": ({"level": lambda s, tier, hook: tier}, ""),
+    "percent of route 2": ({"percents": (100, 87, 95, 95, 94, 100, 95, 73, 86, 90, 90, 73, 87)}, "below"),
+    "limit itself a finding": ({"exceeds": lambda s, size, limit: size >= limit}, "findings"),
+    "level 0 in the findings": ({"first_compression": 0}, "findings"),
+    "lashes counted from 1": ({"first_lash": 1}, "findings"),
+    "factor 1.67 for wire": ({"strong": (1, 2)}, "findings"),
+    "factor 2 throughout": ({"strong": ()}, "findings"),
+    "findings by kind, then end": ({"listed": by_kind}, "findings"),
+    "no findings": ({"listed": lambda s, found: []}, "findings"),
+    "every stack flagged": ({"verdict_of": lambda s, found: 1}, "verdict"),
+    "verdict turned": ({"verdict_of": lambda s, found: not found}, "verdict"),
+    "byte order": ({"little": ">"}, ""),
+    "a line end after the answer": ({"tail": b"\n"}, "layout"),
+    "a fixed answer": ({"encoded": lambda s, ends, found: bytes(11)}, "layout"),
+    "refusal without a line end": ({"refusal_text": "{} {}"}, "refusal"),
+    "refusal numbers exchanged": ({"refusal_text": "{1} {0}\n"}, "refusal"),
+    "1 with the place": ({"short": lambda s, data, place: (1, place)}, "refusal"),
+    "tests in falling order": ({"tests": lambda s, found: found[::-1]}, "refusal"),
+    "equal lashes in order": ({"in_order": lambda s, a, b: a >= b}, "refusal"),
+    "kind left out of the order": ({"in_order": lambda s, a, b: a[:2] > b[:2]}, "refusal"),
+    "order goes on at the closed end": ({"anew_at_closed_end": False}, "refusal"),
+    "eleven tiers": ({"most_tiers": 11}, "refusal"),
+    "nine lashes": ({"most_lashes": 9}, ""),
+    "mass 30,481": ({"greatest_mass": 30_481}, "refusal"),
+    "A_Vmin 1,001": ({"greatest_a_vmin": 1_001}, "refusal"),
+    "heights of both sizes": ({"heights": {20: (2438, 2591, 2896), 40: (2438, 2591, 2896)}}, ""),
+    "only 451 bytes read": ({"most_bytes": 451}, "refusal"),
+    "every sheet turned back": ({"refusal": lambda s, data: (13, 834)}, ""),
+}
+
+# Which of document 01's plausible slips each named case shows.
+SHOWN_BY = {
+    "slip-nearest": "rounded to nearest",
+    "slip-windward": "finding to leeward only",
+    "slip-cross-post": "vertical part on the wrong post",
+    "slip-side-post": "vertical part on the wrong post",
+    "slip-own-top-hook": "own lashes in tension",
+    "slip-own-bottom-hook": "own lashes in tension",
+    "slip-route-vertical": "route on A_Vmax",
+    "slip-route-tension": "route on A_Vmax",
+    "slip-route-wind": "route on wind",
+    "slip-copied-tier": "lowest tier copied upward",
+    "slip-every-kind": "no findings",
+}
+
+
+def slipped(name):
+    return type("Slipped", (StandIn,), SLIPS_CAUGHT[name][0])()
+
+
+def trials(sheets):
+    return [(data, expected(data)) for data in sheets]
+
+
+NAMED = [case.data for case in CASES if case.room == ANSWER_ROOM]
+
+
+class Comparison(unittest.TestCase):
+    @classmethod
+    def setUpClass(cls):
+        cls.named = trials(NAMED)
+        cls.made = trials(make(seed).data for seed in SEEDS)
+        cls.near = trials(make(seed).data for seed in NEAR_SEEDS)
+
+    def test_a_right_check_passes(self):
+        for pad in (0.001, 98.9):
+            check = StandIn()
+            check.pad = pad
+            for data, due in self.named + self.made + self.near:
+                self.assertEqual(judge(due, check(data)).faults, [], data.hex())
+
+    def first_fault(self, check, trials):
+        for data, due in trials:
+            faults = judge(due, check(data)).faults
+            if faults:
+                return faults[0]
+        return None
+
+    def test_each_slip_is_caught(self):
+        for name, (_, begins) in SLIPS_CAUGHT.items():
+            with self.subTest(name):
+                fault = self.first_fault(slipped(name), self.made + self.named)
+                self.assertIsNotNone(fault)
+                self.assertTrue(fault.startswith(begins), fault)
+
+    def test_named_cases_show_their_slips(self):
+        self.assertEqual({case.name for case in SLIPS}, set(SHOWN_BY))
+        for case in SLIPS:
+            with self.subTest(case.name):
+                due = expected(case.data)
+                self.assertEqual(judge(due, StandIn()(case.data)).faults, [])
+                self.assertTrue(judge(due, slipped(SHOWN_BY[case.name])(case.data)).faults)
+
+    def test_a_limit_one_newton_off_is_caught(self):
+        """Stacks near a limit, with pads that lead their figures over it newton by newton."""
+        for kind in range(1, 8):
+            for more in (-1, 1):
+                with self.subTest(kind=kind, more=more):
+                    self.assertIsNotNone(self.fault_over_pads({"more": {kind: more}}))
+
+    def fault_over_pads(self, changes):
+        check = type("Slipped", (StandIn,), changes)()
+        for pad in range(30):
+            check.pad = pad + 0.5
+            fault = self.first_fault(check, self.near)
+            if fault:
+                return fault
+        return None
+
+
+class Bounds(unittest.TestCase):
+    def test_a_figure_beside_its_exact_force(self):
+        below, above, sign = "below the exact force", "100 N or more above the exact force", "wrong sign"
+        for kind, force, reported, due in (
+            ("tension", "0", 0, None), ("tension", "0", 99, None), ("tension", "0", 100, above),
+            ("tension", "7.5", 7, below), ("tension", "7.5", 8, None), ("tension", "7.5", 107, None),
+            ("tension", "7.5", 108, above), ("tension", "8", 8, None), ("tension", "8", 108, above),
+            ("racking", "99.5", 100, None), ("racking", "99.5", -100, None), ("racking", "99.5", -99, below),
+            ("racking", "100", 100, None), ("racking", "100", -100, sign), ("racking", "-100", 100, sign),
+            ("racking", "-100", -199, None), ("racking", "-100", -200, above), ("racking", "0", -99, None),
+        ):
+            self.assertEqual(figure_fault(kind, Fraction(force), reported), due, (kind, force, reported))
+
+
+class Script(unittest.TestCase):
+    """reference/compare on programs that look their outputs up in a table."""
+
+    def program(self, folder, outputs):
+        table = Path(folder, "table")
+        table.write_text("".join(f"-{data.hex()} {output.hex()}\n" for data, output in outputs.items()))
+        program = Path(folder, "program")
+        program.write_text(
+            f"#!{sys.executable} -IS\nimport sys\n"
+            f"table = dict(line.split() for line in open({str(table)!r}))\n"
+            "sys.stdout.buffer.write(bytes.fromhex(table['-' + sys.stdin.buffer.read().hex()]))\n"
+        )
+        program.chmod(0o755)
+        return program
+
+    def compare(self, program, *words):
+        command = [sys.executable, ROOT / "reference/compare", "--program", program, *words]
+        done = subprocess.run(command, capture_output=True, text=True)
+        return done.returncode, done.stdout, done.stderr
+
+    def test_right_and_wrong(self):
+        check = StandIn()
+        sheets = NAMED + [make(seed).data for seed in range(10, 15)]
+        outputs = {data: check(data) for data in sheets}
+        words = ("--count", "5", "--seed", "10")
+        with tempfile.TemporaryDirectory() as folder:
+            status, text, errors = self.compare(self.program(folder, outputs), *words)
+            self.assertEqual((status, errors), (0, ""))
+            self.assertIn("1 realistic, 1 extreme, 1 near a limit, 1 edge, 1 damaged", text)
+            self.assertIn("no faults", text)
+            sheet = make(10).data
+            outputs[sheet] += b"x"
+            status, text, errors = self.compare(self.program(folder, outputs), *words)
+            self.assertEqual((status, errors), (1, ""))
+            self.assertIn("FAULT: seed 10, realistic\n  layout: 1 bytes after the answer", text)
+            self.assertIn(f"sheet  {sheet.hex()}", text)
+            self.assertIn("1 sheets with faults", text)
+
+    def test_killed_and_missing(self):
+        with tempfile.TemporaryDirectory() as folder:
+            program = Path(folder, "program")
+            program.write_text("#!/bin/sh\nkill -ABRT $$\n")
+            program.chmod(0o755)
+            status, text, _ = self.compare(program, "--count", "0")
+            self.assertEqual(status, 1)
+            self.assertIn("program: ended by signal 6", text)
+        status, text, errors = self.compare("/no/such/program")
+        self.assertEqual((status, text), (2, ""))
+        self.assertIn("/no/such/program: no program to run", errors)
+
+
+if __name__ == "__main__":
+    unittest.main()

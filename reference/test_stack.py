@@ -1,0 +1,248 @@
+"""The fractions held to document 01's figures, and the refusals to its table."""
+
+import unittest
+from dataclasses import replace
+from fractions import Fraction
+from struct import pack as packed
+
+from reference.answer import BadAnswer, read_answer
+from reference.cases import BOX_B as B
+from reference.cases import HEAD
+from reference.cases import ROD_S as S
+from reference.sheet import BOTTOM, CLOSED, CROSS, DOOR, SIDE, Refused, Sheet, pack, parse
+from reference.stack import (
+    End, LashForces, equations, exact, findings, lash_forces, lash_length, moment, racking_load,
+    safe_working_load, shifts, transverse, wind,
+)
+
+
+def stack(*tiers, door=(), closed=(), head=HEAD):
+    return Sheet(head, tiers, tuple(door), tuple(closed))
+
+
+class Figures(unittest.TestCase):
+    """(a) to (j) of document 01."""
+
+    def test_a_load_of_one_box(self):
+        self.assertEqual(racking_load(stack(B), 1), Fraction("22072.5"))
+
+    def test_b_load_of_two_boxes(self):
+        self.assertEqual(racking_load(stack(B, B), 1), Fraction("71122.5"))
+
+    def test_c_moment_at_the_deck(self):
+        self.assertEqual(moment(stack(B), DOOR, (), 0), Fraction("57189847.5"))
+        self.assertEqual(exact(stack(B))[0].tension, (0,))
+
+    def test_d_shift_with_a_rod(self):
+        sheet = stack(B, door=[S])
+        self.assertEqual(lash_forces(S, 1).athwart, 7200)
+        self.assertEqual(shifts(sheet, DOOR)[1], Fraction("22072.5") / 10930)
+
+    def test_e_pulled_back(self):
+        sheet = stack(B, replace(B, mass=2000), door=[replace(S, tier=2)])
+        self.assertEqual(shifts(sheet, DOOR)[2], Fraction("29184.75") / 18130)
+        self.assertAlmostEqual(float(exact(sheet)[0].racking[1]), -9382.94, 2)
+
+    def test_f_g_safe_working_loads(self):
+        self.assertEqual(safe_working_load(490_000, 1), 293_413)
+        self.assertEqual(safe_working_load(500_000, 1), 299_401)
+        self.assertEqual([safe_working_load(500_001, code) for code in (0, 2, 3)], [250_000] * 3)
+
+    def test_h_length_of_a_lash(self):
+        self.assertEqual(lash_length(S), 3250)
+        self.assertEqual(lash_length(replace(S, lx=1)), 3251)
+
+    def test_i_wind(self):
+        self.assertEqual(wind(replace(B, wind=1, height=2896)), Fraction("19066.33728"))
+        self.assertEqual(wind(replace(B, wind=1, size=20)), Fraction("8475.99012"))
+        self.assertEqual(wind(B), 0)
+
+    def test_j_route_seven(self):
+        self.assertEqual(transverse(B, 7), Fraction("35806.5"))
+
+
+class Forces(unittest.TestCase):
+    def test_the_solution_solves_the_equations(self):
+        lashes = (S, replace(S, kind=SIDE, ly=700), replace(S, tier=3, hook=BOTTOM, lx=317))
+        sheet = stack(B, B, replace(B, wind=1), door=lashes, closed=lashes)
+        for end in (DOOR, CLOSED):
+            shift = shifts(sheet, end)[1:]
+            for row in equations(sheet, end):
+                self.assertEqual(sum(a * d for a, d in zip(row, shift)), row[-1])
+
+    def test_racking_is_the_load_less_the_athwart_parts(self):
+        sheet = stack(B, B, B, door=[S, replace(S, tier=3, hook=BOTTOM)])
+        end = exact(sheet)[DOOR]
+        parts = [forces.athwart for forces in end.lashes]
+        self.assertEqual(end.racking[0], racking_load(sheet, 1) - parts[0] - parts[1])
+        self.assertEqual(end.racking[1], racking_load(sheet, 2) - parts[1])
+        self.assertEqual(end.racking[2], racking_load(sheet, 3))
+
+    def test_posts_of_one_box(self):
+        # V/2 = 0.25 W A_V: 73,575 with A_Vmax and 39,240 with A_Vmin; M/2259 = 25,316.4...
+        pair = Fraction("57189847.5") / 2259
+        end = exact(stack(B))[DOOR]
+        self.assertEqual(end.compression, (73_575 + pair, 0))
+        light = exact(stack(replace(B, a_vmin=0)))[DOOR]
+        self.assertEqual(light.tension, (pair,))
+
+    def test_a_level_has_its_own_lashes_in_compression_and_not_in_tension(self):
+        # One B above level 1, where the lash is hooked, so V and M there are those of (c).
+        pair = Fraction("57189847.5") / 2259
+        for kind in (CROSS, SIDE):
+            sheet = stack(B, replace(B, a_vmin=0), door=[replace(S, kind=kind)])
+            end = exact(sheet)[DOOR]
+            part = end.lashes[0].vertical
+            cross, side = (part, 0) if kind == CROSS else (0, part)
+            self.assertEqual(end.tension[1], pair)
+            self.assertEqual(end.compression[1], max(73_575 + pair + cross, 73_575 - pair + side))
+        top = exact(stack(B, door=[replace(S, kind=SIDE)]))[DOOR]
+        self.assertEqual(top.compression[1], top.lashes[0].vertical)
+
+    def test_findings_by_size_strictly_above_the_limit(self):
+        sheet = stack(B, door=[S])
+        bare = End((150_000,), (900_000, 848_000), (250_000,), ())
+        at = End((-150_000,), (900_000, 848_000), (250_000,), (LashForces(293_413, 150_000, 300_000),))
+        over = End((-150_001,), (0, 848_001), (299_402,), (LashForces(293_414, 150_001, 300_001),))
+        self.assertEqual(findings(sheet, (at, bare)), [])
+        self.assertEqual(
+            findings(sheet, (over, bare)),
+            [(0, 1, 1), (0, 2, 1), (0, 3, 0), (0, 4, 0), (0, 5, 0), (0, 6, 0), (0, 7, 0)],
+        )
+
+
+class Refusals(unittest.TestCase):
+    def refusal(self, data, room=834):
+        try:
+            parse(data, room)
+        except Refused as refused:
+            return refused.number, refused.second
+        return None
+
+    def altered(self, sheet, **changes):
+        """The refusal of a sheet with its last tier changed."""
+        last = replace(sheet.tiers[-1], **changes)
+        return self.refusal(pack(replace(sheet, tiers=sheet.tiers[:-1] + (last,))))
+
+    def lashed(self, *lashes, tiers=2):
+        return self.refusal(pack(stack(*[B] * tiers, closed=lashes)))
+
+    def test_bytes_by_hand(self):
+        # One B with a rod S at each end, written out byte by byte from the paper.
+        rod = "01 00 00 01 0000 9e07 280a f401 d0fb0100 107a0700"
+        text = "01 00 01 00 20a10700  01  28 00 1f0a 204e f401 dc05 2003  01" + rod + "01" + rod
+        data = bytes.fromhex(text)
+        self.assertEqual(len(data), 63)
+        self.assertEqual(parse(data), stack(B, door=[S], closed=[S]))
+        self.assertEqual(pack(stack(B, door=[S], closed=[S])), data)
+
+    def test_1_every_truncation(self):
+        data = pack(stack(B, B, door=[S], closed=[S]))
+        for size in range(len(data)):
+            self.assertEqual(self.refusal(data[:size]), (1, size))
+
+    def test_2_spare_bytes(self):
+        data = pack(stack(B))
+        self.assertEqual(self.refusal(data + b"\0"), (2, 23))
+        self.assertEqual(self.refusal(data + bytes(999)), (2, 23))
+
+    def test_3_to_6_head_and_tier_count(self):
+        for change, due in (
+            ({"rule": 0}, (3, 0)), ({"rule": 2}, (3, 0)), ({"zero": 1}, (3, 0)),
+            ({"zero": 1, "route": 13}, (3, 0)), ({"route": 12}, None), ({"route": 13}, (4, 1)),
+            ({"route": 13, "lock_material": 3}, (4, 1)), ({"lock_material": 2}, None),
+            ({"lock_material": 3}, (5, 2)), ({"lock_breaking": 0}, (5, 2)),
+            ({"lock_breaking": 1}, None), ({"lock_breaking": 2_000_000}, None),
+            ({"lock_breaking": 2_000_001}, (5, 2)),
+        ):
+            self.assertEqual(self.refusal(pack(stack(B, head=replace(HEAD, **change)))), due, change)
+        self.assertEqual(self.refusal(pack(stack())), (6, 8))
+        self.assertEqual(self.refusal(pack(stack(*[B] * 10))), None)
+        self.assertEqual(self.refusal(pack(stack(*[B] * 11))), (6, 8))
+        self.assertEqual(self.refusal(pack(stack(), counts=(11, None, None))[:9]), (6, 8))
+
+    def test_7_tier_fields(self):
+        for change, due in (
+            ({"size": 30}, 7), ({"size": 0}, 7), ({"wind": 1}, None), ({"wind": 2}, 7),
+            ({"height": 2896}, None), ({"height": 2438}, 7), ({"height": 2592}, 7),
+            ({"mass": 0}, 7), ({"mass": 1}, None), ({"mass": 30_480}, None), ({"mass": 30_481}, 7),
+            ({"a_t": 0}, None), ({"a_t": 1_500}, None), ({"a_t": 1_501}, 7),
+            ({"a_vmax": 3_000}, None), ({"a_vmax": 3_001}, 7), ({"a_vmax": 800}, None),
+            ({"a_vmax": 799}, 7), ({"a_vmin": 1_000}, None), ({"a_vmin": 1_001}, 7),
+            ({"a_vmin": 1_000, "a_vmax": 1_000}, None), ({"a_vmin": 0, "a_vmax": 0}, None),
+        ):
+            expected = due and (7, 21)
+            self.assertEqual(self.altered(stack(B, B), **change), expected, change)
+
+    def test_7_before_8_by_the_box_itself(self):
+        self.assertEqual(self.altered(stack(B, B), size=20, height=2896), (7, 21))
+        self.assertEqual(self.altered(stack(B, B), size=20, height=2438), (8, 21))
+        self.assertEqual(self.altered(stack(B, B), size=20, height=2591), (8, 21))
+
+    def test_9_lash_counts(self):
+        eight = [replace(S, tier=i, kind=k) for i in range(1, 5) for k in (CROSS, SIDE)]
+        tiers = [B] * 5
+        self.assertIsNone(self.refusal(pack(stack(*tiers, door=eight, closed=eight))))
+        nine = eight + [replace(S, tier=5)]
+        self.assertEqual(self.refusal(pack(stack(*tiers, door=nine))), (9, 69))
+        self.assertEqual(self.refusal(pack(stack(*tiers, door=eight, closed=nine))), (9, 230))
+        self.assertEqual(self.refusal(pack(stack(B), counts=(None, 9, None))), (9, 21))
+        self.assertEqual(self.refusal(pack(stack(B), counts=(None, 8, None))), (1, 23))
+
+    def test_10_to_12_lashes(self):
+        first, second = 35, 55
+        for name, most in (("hook", 1), ("kind", 1), ("material", 3)):
+            self.assertIsNone(self.lashed(replace(S, tier=2, **{name: most})))
+            self.assertEqual(self.lashed(replace(S, tier=2, **{name: most + 1})), (10, first))
+        for name, least, most in (
+            ("lx", 0, 5_000), ("ly", 500, 10_000), ("lz", 500, 20_000), ("area", 50, 1_000),
+            ("modulus", 10_000, 200_000), ("breaking", 1, 2_000_000),
+        ):
+            for value in (least, most):
+                self.assertIsNone(self.lashed(replace(S, **{name: value})))
+            for value in {max(least - 1, 0), most + 1} - {least}:
+                self.assertEqual(self.lashed(replace(S, **{name: value})), (10, first))
+        self.assertEqual(self.lashed(replace(S, tier=0, ly=0)), (10, first))
+        self.assertEqual(self.lashed(replace(S, tier=0)), (11, first))
+        self.assertEqual(self.lashed(replace(S, tier=3)), (11, first))
+        self.assertEqual(self.lashed(replace(S, hook=BOTTOM)), (11, first))
+        self.assertEqual(self.lashed(S, S), (12, second))
+        self.assertEqual(self.lashed(S, replace(S, tier=0)), (11, second))
+        self.assertIsNone(self.lashed(S, replace(S, kind=SIDE)))
+        self.assertEqual(self.lashed(replace(S, kind=SIDE), S), (12, second))
+        low = replace(S, tier=2, hook=BOTTOM)
+        self.assertIsNone(self.lashed(replace(S, tier=2), low))
+        self.assertEqual(self.lashed(low, replace(S, tier=2)), (12, second))
+        self.assertEqual(self.lashed(replace(S, tier=2), S), (12, second))
+
+    def test_12_starts_anew_at_the_closed_end(self):
+        self.assertIsNone(self.refusal(pack(stack(B, B, door=[replace(S, tier=2)], closed=[S]))))
+
+    def test_an_early_12_comes_before_a_later_1(self):
+        data = pack(stack(B, door=[S, S, S]))
+        self.assertEqual(self.refusal(data[:-20]), (12, 42))
+
+    def test_13_comes_last(self):
+        data = pack(stack(B))
+        self.assertEqual(self.refusal(data, 833), (13, 834))
+        self.assertEqual(self.refusal(data, 0), (13, 834))
+        self.assertIsNone(self.refusal(data, 834))
+        self.assertEqual(self.refusal(data + b"\0", 833), (2, 23))
+
+
+class Answers(unittest.TestCase):
+    def test_read_by_hand(self):
+        door = packed("<Bi", 1, -2) + packed("<BII", 2, 3, 4) + packed("<BI", 1, 5)
+        data = b"\1" + door + packed("<BIII", 1, 6, 7, 8) + door + b"\0" + b"\1\1\3\0" + b"rest"
+        answer = read_answer(data)
+        ends = End((-2,), (3, 4), (5,), (LashForces(6, 7, 8),)), End((-2,), (3, 4), (5,), ())
+        self.assertEqual((answer.verdict, answer.ends), (1, ends))
+        self.assertEqual(answer.findings, [(1, 3, 0)])
+        self.assertEqual(answer.length, len(data) - 4)
+        for size in range(len(data) - 4):
+            with self.assertRaises(BadAnswer):
+                read_answer(data[:size])
+
+
+if __name__ == "__main__":
+    unittest.main()

@@ -1,0 +1,1 @@
+"""Tests of the whole: the C boundary and the example."""

@@ -1,0 +1,507 @@
+/* The boundary of the C call, on sheets good, damaged and random. The sheet lies in memory that can only be read and the answer
+   buffer in memory of its own; unreadable pages stand right before and behind both. Each sheet is checked twice, first against the
+   pages behind, then against those before, over two patterns that differ in every byte: whatever the call wrote, a byte written is
+   told from a byte left alone.
+
+   usage: boundary [--count N] [--seed N] [--dump FILE]
+   Exit status 0: no fault; 1: a fault, shown with its sheet; 2: bad use, or no memory to run in. */
+#define _GNU_SOURCE
+#include "../include/lash_check.h"
+
+#include <setjmp.h>
+#include <signal.h>
+#include <stdarg.h>
+#include <stdio.h>
+#include <stdlib.h>
+#include <string.h>
+#include <sys/mman.h>
+#include <unistd.h>
+
+enum { HEAD = 8, TIER = 12, LASH = 20, MOST_TIERS = 10, MOST_LASHES = 8, LEAST_SHEET = 23 };
+enum { EVERY_LENGTH = 501, STRIDE = 211 }; /* no common divisor: every length has its turn */
+enum { AREA = 8192, DUMPED = 600, ENOUGH = 10000, NUMBERS = LASH_ROOM + 1 };
+
+/* Numbers at random, the same for the same seed. */
+
+static uint64_t state;
+
+static uint64_t next_random(void)
+{
+    uint64_t z = state += UINT64_C(0x9e3779b97f4a7c15);
+    z = (z ^ z >> 30) * UINT64_C(0xbf58476d1ce4e5b9);
+    z = (z ^ z >> 27) * UINT64_C(0x94d049bb133111eb);
+    return z ^ z >> 31;
+}
+
+static uint32_t below(uint32_t limit) { return (uint32_t)((next_random() >> 32) * limit >> 32); }
+static uint32_t between(uint32_t least, uint32_t most) { return least + below(most - least + 1); }
+
+/* Sheets. */
+
+struct sheet {
+    uint8_t bytes[AREA];
+    size_t length;
+    const char *kind;
+    int known;      /* whether what must come out follows from how it was made */
+    uint64_t due;   /* that, if the answer buffer is long enough */
+};
+
+/* Offset and bytes of a field, its limits, and what is common. */
+struct field {
+    uint32_t at, width, least, most, low, high;
+};
+
+static const struct field head_fields[] = {{1, 1, 0, 12, 0, 12}, {2, 1, 0, 2, 0, 2}, {4, 4, 1, 2000000, 400000, 600000}};
+static const struct field tier_fields[] = {
+    {1, 1, 0, 1, 0, 1},
+    {4, 2, 1, 30480, 2200, 30480},
+    {6, 2, 0, 1500, 250, 800},
+    {8, 2, 0, 3000, 1050, 1600},
+    {10, 2, 0, 1000, 400, 950},
+};
+static const struct field lash_fields[] = {
+    {3, 1, 0, 3, 0, 3},
+    {4, 2, 0, 5000, 0, 450},
+    {6, 2, 500, 10000, 600, 2300},
+    {8, 2, 500, 20000, 2400, 8000},
+    {10, 2, 50, 1000, 380, 531},
+    {12, 4, 10000, 200000, 97100, 176600},
+    {16, 4, 1, 2000000, 360000, 490000},
+};
+static const uint32_t heights[2][2] = {{2438, 2591}, {2591, 2896}};
+
+#define COUNT(list) (sizeof(list) / sizeof *(list))
+
+static void put(uint8_t *p, uint32_t width, uint32_t value)
+{
+    for (uint32_t i = 0; i < width; i++)
+        p[i] = (uint8_t)(value >> 8 * i);
+}
+
+static uint32_t get2(const uint8_t *p) { return p[0] | (uint32_t)p[1] << 8; }
+
+/* A legal value: a common one, or mostly one of the two limits. */
+static void put_fields(uint8_t *p, const struct field *fields, size_t count, int extreme)
+{
+    for (size_t i = 0; i < count; i++) {
+        const struct field *f = &fields[i];
+        uint32_t corners[] = {f->least, f->most, f->most, between(f->least, f->most)};
+        put(p + f->at, f->width, extreme ? corners[below(4)] : between(f->low, f->high));
+    }
+}
+
+static void add_tier(struct sheet *s, uint32_t feet, int extreme)
+{
+    uint8_t *p = s->bytes + s->length;
+    s->length += TIER;
+    p[0] = (uint8_t)feet;
+    put(p + 2, 2, heights[feet == 40][below(2)]);
+    put_fields(p, tier_fields, COUNT(tier_fields), extreme);
+    if (get2(p + 10) > get2(p + 8))
+        memcpy(p + 10, p + 8, 2);
+}
+
+/* Lashes at places drawn in sheet order: by tier, then hook, then kind, without the bottom of tier 1. */
+static void add_end(struct sheet *s, uint32_t tiers, int extreme)
+{
+    uint32_t places = 4 * tiers - 2, due = below(MOST_LASHES + 1);
+    due = due < places ? due : places;
+    s->bytes[s->length++] = (uint8_t)due;
+    for (uint32_t place = 0; due; place++) {
+        if (below(places - place) >= due)
+            continue;
+        uint32_t key = place < 2 ? place : place + 2;
+        uint8_t *p = s->bytes + s->length;
+        s->length += LASH;
+        p[0] = (uint8_t)(key / 4 + 1);
+        p[1] = key / 2 % 2;
+        p[2] = key % 2;
+        put_fields(p, lash_fields, COUNT(lash_fields), extreme);
+        due--;
+    }
+}
+
+static void make_good(struct sheet *s, int extreme)
+{
+    uint32_t tiers = between(1, MOST_TIERS), feet = below(2) ? 40 : 20;
+    put(s->bytes, 4, 1);
+    put_fields(s->bytes, head_fields, COUNT(head_fields), extreme);
+    s->bytes[HEAD] = (uint8_t)tiers;
+    s->length = HEAD + 1;
+    for (uint32_t i = 0; i < tiers; i++)
+        add_tier(s, feet, extreme);
+    add_end(s, tiers, extreme);
+    add_end(s, tiers, extreme);
+    s->known = 1;
+    s->due = LASH_TAKEN;
+}
+
+static void fill(struct sheet *s, size_t from, size_t length)
+{
+    for (size_t i = from; i < length; i++)
+        s->bytes[i] = (uint8_t)next_random();
+    s->length = length;
+}
+
+/* Cut: too few bytes from there on. Filled up: the first byte behind the last entry is spare. */
+static void resize(struct sheet *s, size_t length)
+{
+    size_t whole = s->length;
+    fill(s, whole, length);
+    if (length < whole)
+        s->due = LASH_SHORT | (uint64_t)length << 8;
+    else if (length > whole)
+        s->due = LASH_SPARE | (uint64_t)whole << 8;
+}
+
+static void flip(struct sheet *s)
+{
+    for (uint32_t i = between(1, 4); i; i--)
+        s->bytes[below((uint32_t)s->length)] = (uint8_t)next_random();
+    s->known = 0;
+}
+
+static void scramble(struct sheet *s, size_t length)
+{
+    size_t keep = below(2) ? below((uint32_t)s->length + 1) : 0;
+    fill(s, keep < length ? keep : length, length);
+    s->known = 0;
+}
+
+/* A field at a limit, one past it, or as great as its bytes allow. */
+static void put_edge(uint8_t *p, const struct field *fields, size_t count)
+{
+    const struct field *f = &fields[below((uint32_t)count)];
+    uint32_t edges[] = {f->least, f->least - 1, f->most, f->most + 1, UINT32_MAX};
+    put(p + f->at, f->width, edges[below(COUNT(edges))]);
+}
+
+static void edit_tier(uint8_t *p)
+{
+    static const uint32_t edges[] = {2437, 2438, 2439, 2590, 2591, 2592, 2895, 2896, 2897};
+    if (below(2)) {
+        put_edge(p, tier_fields, COUNT(tier_fields));
+    } else {
+        p[0] = below(4) ? (uint8_t)(60 - p[0]) : (uint8_t)next_random();
+        put(p + 2, 2, edges[below(COUNT(edges))]);
+    }
+}
+
+/* Codes and measures, where the lash is hooked, or the place of the lash before it. */
+static void edit_lash(uint8_t *p, int first, uint32_t tiers)
+{
+    switch (below(3)) {
+    case 0:
+        put_edge(p, lash_fields, COUNT(lash_fields));
+        break;
+    case 1:
+        p[0] = (uint8_t)(below(4) ? below(tiers + 2) : next_random());
+        p[1] = (uint8_t)below(3);
+        p[2] = (uint8_t)below(3);
+        break;
+    default:
+        if (!first)
+            memcpy(p, p - LASH, 3);
+    }
+}
+
+/* One change in the head, a count, a tier or a lash of a good sheet. */
+static void edit(struct sheet *s)
+{
+    uint32_t tiers = s->bytes[HEAD], end = below(2);
+    size_t count_at = HEAD + 1 + TIER * tiers;
+    if (end)
+        count_at += 1 + (size_t)LASH * s->bytes[count_at];
+    uint32_t lashes = s->bytes[count_at], lash = lashes ? below(lashes) : 0;
+    s->known = 0;
+    switch (below(5)) {
+    case 0:
+        put_edge(s->bytes, head_fields, COUNT(head_fields));
+        break;
+    case 1:
+        s->bytes[below(2) ? 0 : 3] = (uint8_t)below(3);
+        break;
+    case 2:
+        s->bytes[below(2) ? HEAD : count_at] = (uint8_t)(below(4) ? below(14) : next_random());
+        break;
+    case 3:
+        edit_tier(s->bytes + HEAD + 1 + TIER * below(tiers));
+        break;
+    default:
+        if (lashes)
+            edit_lash(s->bytes + count_at + 1 + LASH * lash, lash == 0, tiers);
+    }
+}
+
+/* The kinds take turns; cut, filled up and random sheets go through every length from 0 to 500. */
+static void make_sheet(struct sheet *s, unsigned long number)
+{
+    static const char *const kinds[] = {"common values", "extreme values", "edited", "resized", "flipped", "random"};
+    unsigned long kind = number % COUNT(kinds), turn = number / COUNT(kinds);
+    s->kind = kinds[kind];
+    make_good(s, kind == 1 || (kind > 1 && below(2)));
+    if (kind == 2)
+        edit(s);
+    else if (kind == 3)
+        resize(s, turn % 16 ? turn * STRIDE % EVERY_LENGTH : between(EVERY_LENGTH, AREA));
+    else if (kind == 4)
+        flip(s);
+    else if (kind == 5)
+        scramble(s, turn * STRIDE % EVERY_LENGTH);
+}
+
+static size_t choose_room(void)
+{
+    static const size_t rooms[] = {0, LASH_ANSWER_SIZE - 1, LASH_ANSWER_SIZE, LASH_ANSWER_SIZE + 1};
+    switch (below(4)) {
+    case 0:
+        return rooms[below(COUNT(rooms))];
+    case 1:
+        return below(4) ? between(LASH_ANSWER_SIZE, AREA) : below(LASH_ANSWER_SIZE);
+    default:
+        return LASH_ANSWER_SIZE;
+    }
+}
+
+/* Memory between unreadable pages. */
+
+static uint8_t *guarded_sheet;  /* AREA bytes, only readable */
+static uint8_t *writable_sheet; /* the same bytes, for this program */
+static uint8_t *guarded_answer; /* AREA bytes */
+static uint8_t patterns[2][AREA];
+
+static uint8_t *mapped(void *at, size_t size, int rights, int flags, int file)
+{
+    void *p = mmap(at, size, rights, flags, file, 0);
+    if (p == MAP_FAILED) {
+        perror("boundary: mmap");
+        exit(2);
+    }
+    return p;
+}
+
+static void prepare_memory(void)
+{
+    size_t page = (size_t)sysconf(_SC_PAGESIZE), whole = AREA + 2 * page;
+    int file = memfd_create("sheet", 0);
+    if (AREA % page || file < 0 || ftruncate(file, AREA) != 0) {
+        fprintf(stderr, "boundary: no memory that fits pages of %zu bytes\n", page);
+        exit(2);
+    }
+    writable_sheet = mapped(NULL, AREA, PROT_READ | PROT_WRITE, MAP_SHARED, file);
+    uint8_t *sheet = mapped(NULL, whole, PROT_NONE, MAP_PRIVATE | MAP_ANONYMOUS, -1);
+    guarded_sheet = mapped(sheet + page, AREA, PROT_READ, MAP_SHARED | MAP_FIXED, file);
+    uint8_t *answer = mapped(NULL, whole, PROT_NONE, MAP_PRIVATE | MAP_ANONYMOUS, -1);
+    guarded_answer = mapped(answer + page, AREA, PROT_READ | PROT_WRITE, MAP_PRIVATE | MAP_ANONYMOUS | MAP_FIXED, -1);
+    for (size_t i = 0; i < AREA; i++) {
+        patterns[0][i] = (uint8_t)(37 * i + i / 256 + 11);
+        patterns[1][i] = (uint8_t)~patterns[0][i];
+    }
+}
+
+/* Faults. */
+
+static struct sheet sheet;
+static unsigned long sheet_number;
+static size_t room;
+static sigjmp_buf stopped;
+
+static void print_hex(FILE *out, const uint8_t *bytes, size_t length)
+{
+    for (size_t i = 0; i < length; i++)
+        fprintf(out, "%02x", bytes[i]);
+    if (!length)
+        fputc('-', out);
+}
+
+__attribute__((format(printf, 1, 2), noreturn)) static void fail(const char *format, ...)
+{
+    va_list rest;
+    va_start(rest, format);
+    printf("FAULT: sheet %lu (%s, %zu bytes, answer buffer of %zu): ", sheet_number, sheet.kind, sheet.length, room);
+    vprintf(format, rest);
+    printf("\n  sheet ");
+    print_hex(stdout, sheet.bytes, sheet.length);
+    printf("\n");
+    exit(1);
+}
+
+static void on_signal(int number) { siglongjmp(stopped, number); }
+
+static void catch_signals(void)
+{
+    static const int numbers[] = {SIGSEGV, SIGBUS, SIGILL, SIGFPE, SIGTRAP, SIGABRT};
+    struct sigaction action = {.sa_handler = on_signal};
+    for (size_t i = 0; i < COUNT(numbers); i++)
+        sigaction(numbers[i], &action, NULL);
+}
+
+/* What a call may give. */
+
+static int refusal_possible(unsigned number, uint64_t second, size_t length)
+{
+    switch (number) {
+    case LASH_SHORT:
+        return second == length;
+    case LASH_SPARE:
+        return second >= LEAST_SHEET && second <= LASH_SHEET_SIZE && second < length;
+    case LASH_RULE:
+        return second == 0;
+    case LASH_ROUTE:
+        return second == 1;
+    case LASH_LOCK:
+        return second == 2;
+    case LASH_TIER_COUNT:
+        return second == HEAD;
+    case LASH_TIER:
+    case LASH_SIZE:
+        return second > HEAD && (second - HEAD - 1) % TIER == 0 && second + TIER <= length && second < HEAD + TIER * MOST_TIERS;
+    case LASH_LASH_COUNT:
+        return second > HEAD + TIER && second < length && second < LASH_SHEET_SIZE;
+    case LASH_LASH:
+    case LASH_PLACE:
+    case LASH_ORDER:
+        return second > HEAD + TIER + 1 && second + LASH <= length && second + LASH <= LASH_SHEET_SIZE;
+    case LASH_ROOM:
+        return second == LASH_ANSWER_SIZE && room < LASH_ANSWER_SIZE;
+    default:
+        return 0;
+    }
+}
+
+/* Whether an answer has the sheet's counts, a verdict that fits its findings, and this length. */
+static int answer_possible(const uint8_t *answer, size_t length)
+{
+    size_t tiers = sheet.bytes[HEAD], count_at = HEAD + 1 + TIER * tiers, at = 1;
+    for (int end = 0; end < 2; end++) {
+        size_t lashes = sheet.bytes[count_at];
+        const size_t counts[] = {tiers, tiers + 1, tiers, lashes}, sizes[] = {4, 4, 4, 12};
+        for (size_t i = 0; i < COUNT(counts); i++) {
+            if (at >= length || answer[at] != counts[i])
+                return 0;
+            at += 1 + counts[i] * sizes[i];
+        }
+        count_at += 1 + LASH * lashes;
+    }
+    return at < length && answer[0] == (answer[at] > 0) && length == at + 1 + 3 * (size_t)answer[at];
+}
+
+static int same(const uint8_t *bytes, const uint8_t *pattern, size_t from, size_t to)
+{
+    return memcmp(bytes + from, pattern + from, to - from) == 0;
+}
+
+/* One call against the pages behind (0) or before (1); what it gave. The answer buffer begins at *at. */
+static uint64_t call(int before, size_t *at)
+{
+    const uint8_t *pattern = patterns[before];
+    size_t sheet_at = before ? 0 : AREA - sheet.length;
+    *at = before ? 0 : AREA - room;
+    memcpy(writable_sheet + sheet_at, sheet.bytes, sheet.length);
+    memcpy(guarded_answer, pattern, AREA);
+    uint64_t result = lash_check(guarded_sheet + sheet_at, sheet.length, guarded_answer + *at, room);
+    unsigned number = lash_number_of(result);
+    uint64_t second = lash_second_of(result);
+    if (number != LASH_TAKEN) {
+        if (!refusal_possible(number, second, sheet.length))
+            fail("gives %u %llu, which no such sheet can give", number, (unsigned long long)second);
+        if (!same(guarded_answer, pattern, 0, AREA))
+            fail("refused with %u %llu, and the answer buffer was written", number, (unsigned long long)second);
+        return result;
+    }
+    if (room < LASH_ANSWER_SIZE || second > LASH_ANSWER_SIZE)
+        fail("taken with an answer of %llu bytes", (unsigned long long)second);
+    if (!answer_possible(guarded_answer + *at, second))
+        fail("taken, and the answer of %llu bytes does not fit the sheet or itself", (unsigned long long)second);
+    if (!same(guarded_answer, pattern, 0, *at) || !same(guarded_answer, pattern, *at + second, AREA))
+        fail("taken, and a byte outside the answer of %llu bytes was written", (unsigned long long)second);
+    return result;
+}
+
+/* Both calls on the sheet; the answer of the second stands at the start of the guarded memory. */
+static uint64_t check_sheet(void)
+{
+    static uint8_t answer[LASH_ANSWER_SIZE];
+    size_t at;
+    uint64_t first = call(0, &at);
+    size_t length = lash_number_of(first) == LASH_TAKEN ? lash_second_of(first) : 0;
+    memcpy(answer, guarded_answer + at, length);
+    uint64_t second = call(1, &at);
+    if (first != second || memcmp(answer, guarded_answer + at, length) != 0)
+        fail("two calls on the same sheet differ: %llx and %llx", (unsigned long long)first, (unsigned long long)second);
+    uint64_t due = sheet.due == LASH_TAKEN && room < LASH_ANSWER_SIZE ? LASH_ROOM | (uint64_t)LASH_ANSWER_SIZE << 8 : sheet.due;
+    if (sheet.known && due != (lash_number_of(first) == LASH_TAKEN ? LASH_TAKEN : first))
+        fail("gives %u, %u is due", lash_number_of(first), lash_number_of(due));
+    return first;
+}
+
+/* A line: answer room, number, second number, sheet, answer. */
+static void dump(FILE *out, uint64_t result)
+{
+    int taken = lash_number_of(result) == LASH_TAKEN;
+    fprintf(out, "%zu %u %llu ", room, lash_number_of(result), (unsigned long long)lash_second_of(result));
+    print_hex(out, sheet.bytes, sheet.length);
+    fputc(' ', out);
+    print_hex(out, guarded_answer, taken ? lash_second_of(result) : 0);
+    fputc('\n', out);
+}
+
+static void run(unsigned long count, FILE *out)
+{
+    unsigned long tally[NUMBERS] = {0};
+    for (sheet_number = 0; sheet_number < count; sheet_number++) {
+        make_sheet(&sheet, sheet_number);
+        room = choose_room();
+        uint64_t result = check_sheet();
+        tally[lash_number_of(result)]++;
+        if (out && sheet_number < DUMPED)
+            dump(out, result);
+    }
+    printf("%lu sheets, each checked twice: %lu taken; refused by number", count, tally[0]);
+    for (int i = 1; i < NUMBERS; i++)
+        printf("%s %d: %lu", i > 1 ? "," : "", i, tally[i]);
+    printf("\n");
+    for (int i = 0; i < NUMBERS && count >= ENOUGH; i++)
+        if (!tally[i]) {
+            printf("FAULT: no sheet gave number %d\n", i);
+            exit(1);
+        }
+}
+
+int main(int argc, char **argv)
+{
+    static unsigned long count = 50000;
+    static const char *path;
+    state = 1;
+    for (int i = 1; i < argc; i += 2) {
+        char *rest = "";
+        if (i + 1 < argc && strcmp(argv[i], "--count") == 0)
+            count = strtoul(argv[i + 1], &rest, 10);
+        else if (i + 1 < argc && strcmp(argv[i], "--seed") == 0)
+            state = strtoul(argv[i + 1], &rest, 10);
+        else if (i + 1 < argc && strcmp(argv[i], "--dump") == 0)
+            path = argv[i + 1];
+        else
+            rest = "?";
+        if (*rest) {
+            fprintf(stderr, "usage: boundary [--count N] [--seed N] [--dump FILE]\n");
+            return 2;
+        }
+    }
+    FILE *out = path ? fopen(path, "w") : NULL;
+    if (path && !out) {
+        perror(path);
+        return 2;
+    }
+    prepare_memory();
+    catch_signals();
+    int number = sigsetjmp(stopped, 1);
+    if (number)
+        fail("ended by signal %d (%s)%s", number, strsignal(number), number == SIGSEGV ? ": memory that it was not lent" : "");
+    run(count, out);
+    if (out && fclose(out) != 0) {
+        perror(path);
+        return 2;
+    }
+    return 0;
+}

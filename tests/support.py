@@ -1,0 +1,62 @@
+"""What the tests share: answers written by hand and the command run in place."""
+
+import contextlib
+import io
+import struct
+from pathlib import Path
+from unittest import mock
+
+from lashtool.main import main
+
+ROOT = Path(__file__).resolve().parent.parent
+EXAMPLES = ROOT / "examples"
+
+
+def end_bytes(racking, compression, tension, lashes=()):
+    data = struct.pack(f"<B{len(racking)}i", len(racking), *racking)
+    data += struct.pack(f"<B{len(compression)}I", len(compression), *compression)
+    data += struct.pack(f"<B{len(tension)}I", len(tension), *tension)
+    return data + bytes([len(lashes)]) + b"".join(struct.pack("<3I", *forces) for forces in lashes)
+
+
+def answer_bytes(door, closed, findings=()):
+    """An answer sheet: the verdict, both ends' figures, the findings."""
+    listed = bytes([len(findings)]) + b"".join(map(bytes, findings))
+    return bytes([1 if findings else 0]) + end_bytes(*door) + end_bytes(*closed) + listed
+
+
+# Box B alone: racking 22,072.5, compression 98,891.4 at the deck.
+B_END = ((22_073,), (98_892, 1), (1,))
+B_ANSWER = answer_bytes(B_END, B_END)
+
+# Figures of no real stack, each once, for examples/pulled-back.toml: six tiers, two lashes an end. The
+# door end exceeds racking (to windward), compression, corner, lock and all three limits of lash 1.
+DOOR = (
+    (11_001, 11_002, 11_003, -11_004, -11_005, -155_949),
+    (900_000, 12_001, 848_001, 12_003, 12_004, 12_005, 12_006),
+    (13_000, 250_001, 13_002, 299_402, 13_004, 13_005),
+    ((14_000, 14_100, 14_200), (293_414, 150_001, 300_001)),
+)
+CLOSED = (
+    (21_001, 21_002, 21_003, 21_004, 21_005, 150_000),
+    (22_000, 22_001, 848_000, 22_003, 22_004, 22_005, 22_006),
+    (23_000, 250_000, 23_002, 23_003, 23_004, 23_005),
+    ((293_413, 24_100, 24_200), (24_001, 150_000, 300_000)),
+)
+FINDINGS = (
+    (0, 1, 6), (0, 2, 2), (0, 3, 1), (0, 3, 3), (0, 4, 3), (0, 5, 1), (0, 6, 1), (0, 7, 1),
+)
+PULLED_BACK_ANSWER = answer_bytes(DOOR, CLOSED, FINDINGS)
+
+
+def lash(*words, output=b"", stdin=b""):
+    """Status, output and messages of ./lash with these words, given the check's output."""
+    out, err = io.TextIOWrapper(io.BytesIO(), "utf-8"), io.StringIO()
+    given = mock.patch("sys.stdin", io.TextIOWrapper(io.BytesIO(stdin)))
+    with contextlib.redirect_stdout(out), contextlib.redirect_stderr(err), given:
+        try:
+            status = main([str(word) for word in words], run=lambda data: output)
+        except SystemExit as end:
+            status = end.code
+    out.flush()
+    return status, out.buffer.getvalue().decode(), err.getvalue()
