@@ -12,7 +12,6 @@ mod fields; // fields.rt: an answer held to the fields of its case
 mod layout; // layout.rt: where the parts of a case stand
 mod space; // space.rt: the answer buffer, filled before each case
 
-ghost use Prim.Native.Nat.{_≤_};
 ghost use lib.ListN.{length};
 ghost use Rattle.cases.specs.Places.{Placed};
 use answer::Outcome;

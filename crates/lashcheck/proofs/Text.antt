@@ -1,5 +1,5 @@
 -- A text copied into a part of a buffer, and the line that two numbers make.
-use Prim.Native.Nat.{ℕ, suc, _+_, _-_, _^_, _<_, _≤_}
+use Prim.Native.Nat.{ℕ, _+_, _-_, _^_, _<_, _≤_}
 use mathlib.Core.Bool.{Bool, true, false}
 use mathlib.Core.List.{List, [], _∷_, _++_, append-assoc, append-nil}
 use mathlib.Core.Path.{_≡_, refl, sym, ap, _∙_}
@@ -13,7 +13,8 @@ use lib.ListN.{length, take, drop, set, length-append, length-drop, drop-of-leng
 use lib.Seq.{length-take-le, take-all, take-at, take-length, drop-drop, take-suc-set}
 use Rattle.io.specs.Counts.{Counts}
 use Rattle.io.specs.Digits.{digits, Fewest}
-use Rattle.lashcheck.specs.Lines.{Line, Put}
+use Rattle.lashcheck.specs.Lines.{Line}
+use Rattle.lashcheck.specs.Steps.{Put}
 
 -- a number of 64 bits has at most 20 digits
 pub few-digits : (n k : ℕ) → n < 2 ^ 64 → Fewest 10 1 n k → k ≤ 20

@@ -1,3 +1,3 @@
-pub mod Inputs
 pub mod Lines
 pub mod Replies
+pub mod Steps

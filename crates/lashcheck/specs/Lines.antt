@@ -1,8 +1,7 @@
 -- A refusal as a line of text.
-use Prim.Native.Nat.{ℕ, _+_, _≤_}
+use Prim.Native.Nat.{ℕ}
 use mathlib.Core.List.{List, [], _∷_, _++_}
 use mathlib.Core.Path.{_≡_}
-use lib.ListN.{length, take, drop}
 use Rattle.io.specs.Digits.{digits, Fewest}
 
 -- the text of n in decimal, in ASCII, with no zero in front
@@ -18,11 +17,3 @@ pub record Line (number second : ℕ) (text : List ℕ) : Type 0 where
   pub left-in : Decimal number left
   pub right-in : Decimal second right
   pub whole : text ≡ left ++ (32 ∷ []) ++ right ++ (10 ∷ [])
-
--- a number in decimal stands in a buffer from `at` up to `behind`, and the rest is as it was
-pub record Put (n at behind : ℕ) (before after : List ℕ) : Type 0 where
-  pub text : List ℕ
-  pub in-decimal : Decimal n text
-  pub ends : behind ≡ at + length text
-  pub short : length text ≤ 20
-  pub held : after ≡ take at before ++ text ++ drop behind before

@@ -1,4 +1,6 @@
 // The program: a stack sheet on standard input, its answer sheet on standard output. A refusal is a line of its two numbers.
+// Where reading or writing fails, a message on standard error says so; after a failed read nothing is written. (A program has
+// no exit status of its own, and a pipe that nobody reads ends it as the system does.)
 
 mod input; // input.rt: the sheet's bytes, read
 mod output; // output.rt: what is written for a sheet

@@ -1,11 +1,11 @@
 // What the program writes for a sheet: the answer's bytes, or a refusal's line.
 ghost use Prim.Native.Nat.{_+_, _≤_};
-ghost use mathlib.Core.Path.{_≡_};
 ghost use lib.ListN.{length, take};
 ghost use Rattle.io.specs.Counts.{Counts};
 ghost use Rattle.answer.specs.Checked.{demanded, kept};
-ghost use Rattle.lashcheck.specs.Lines.{Line, Put};
+ghost use Rattle.lashcheck.specs.Lines.{Line};
 ghost use Rattle.lashcheck.specs.Replies.{Reply};
+ghost use Rattle.lashcheck.specs.Steps.{Put};
 use answer::Outcome;
 
 // Puts what is written for the sheet at the start of `out`, and answers its length.

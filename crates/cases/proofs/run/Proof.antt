@@ -25,7 +25,9 @@ slice-aggregate-buffer : tie.Need-slice-aggregate-buffer
 slice-aggregate-buffer c = search needs
 
 slice-aggregate-answer : tie.Need-slice-aggregate-answer
-slice-aggregate-answer c = sym (length-take-le (c .before .before .before .before .before .before .args .case .room) (c .before .before .filled .result) (omega arith))
+slice-aggregate-answer c =
+    let f = c .before .before in
+    sym (length-take-le (f .before .before .before .before .args .case .room) (f .filled .result) (omega arith))
 
 sub-check : tie.Need-sub-check
 sub-check c = search needs

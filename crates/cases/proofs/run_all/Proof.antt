@@ -36,7 +36,7 @@ loop-less c =
     omega arith
 
 loop-again : tie.Need-loop-again Inv-loop μ-loop
-loop-again c = (rw (c .before .before .case .given .1) at (c .before .before .before .before .case-at .ensures)) .0 .ended
+loop-again c = (rw (c .before .before .case .given .1) at (c .before .before .before .before .case-at .ensures)) .0 .end-input
 
 returns-2 : tie.Need-returns-2 Inv-loop μ-loop
 returns-2 c = search needs

@@ -26,18 +26,15 @@ add-result : tie.Need-add-result
 add-result c = search needs
 
 returns : tie.Need-returns
-returns c = (
-  counts-of (c .put-number2 .result + 1) (set (c .put-number2 .last .1 .0) (c .put-number2 .result) 10) (simp length-set (omega arith)),
-  line-of (c .before .before .before .before .args .number) (c .before .before .before .before .args .second)
-      (c .before .before .put-number .result) (c .put-number2 .result)
-      (c .before .before .before .before .args .out .now)
-      (c .before .before .put-number .last .1 .0)
-      (c .put-number2 .last .1 .0)
-      (c .before .before .put-number .ensures)
-      (omega arith)
-      (c .put-number2 .ensures)
-      (omega arith),
-)
+returns c =
+    let m = c .before .before in
+    let a = m .before .before in
+    let p = m .put-number in
+    let q = c .put-number2 in (
+      counts-of (q .result + 1) (set (q .last .1 .0) (q .result) 10) (simp length-set (omega arith)),
+      line-of (a .args .number) (a .args .second) (p .result) (q .result) (a .args .out .now) (p .last .1 .0) (q .last .1 .0)
+          (p .ensures) (omega arith) (q .ensures) (omega arith),
+    )
 
 pub put-line-spec : {M : Type 1} → statement M
 put-line-spec =

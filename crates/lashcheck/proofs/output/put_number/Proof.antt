@@ -26,12 +26,16 @@ part-copy-end c = search needs
 
 copy-requires : tie.Need-copy-requires
 copy-requires c κs =
-    let few = few-digits (c .before .before .before .before .before .args .n) (c .before .before .decimal .result) (c .before .before .before .before .before .fits .n .fits) (c .before .before .decimal .ensures .1 .0) in
+    let d = c .before .before in
+    let a = d .before .before .before in
+    let few = few-digits (a .args .n) (d .decimal .result) (a .fits .n .fits) (d .decimal .ensures .1 .0) in
     simp (length-take, length-drop) (omega arith)
 
 add-result : tie.Need-add-result
 add-result c =
-    let few = few-digits (c .before .before .before .before .before .before .before .before .args .n) (c .before .before .before .before .before .decimal .result) (c .before .before .before .before .before .before .before .before .fits .n .fits) (c .before .before .before .before .before .decimal .ensures .1 .0) in
+    let d = c .before .before .before .before .before in
+    let a = d .before .before .before in
+    let few = few-digits (a .args .n) (d .decimal .result) (a .fits .n .fits) (d .decimal .ensures .1 .0) in
     omega arith
 
 same-length : tie.Need-same-length
@@ -39,16 +43,11 @@ same-length c = search needs
 
 returns : tie.Need-returns
 returns c =
-    put-of (c .before .before .before .before .before .before .before .before .args .n) (c .before .before .before .before .before .before .before .before .args .at) (c .before .before .before .before .before .decimal .result)
-    (c .before .before .before .before .before .decimal .last .1 .0)
-    (c .before .before .before .before .before .before .before .before .args .out .now)
-    (c .before .before .copy .last .1 .0)
-    (c .before .before .before .before .before .before .before .before .fits .n .fits)
-    (c .before .before .before .before .before .decimal .ensures .0)
-    (c .before .before .before .before .before .decimal .ensures .1 .0)
-    (c .before .before .before .before .before .decimal .ensures .1 .1)
-    (c .before .before .before .before .before .before .before .before .pre)
-    (c .before .before .copy .ensures .1)
+    let d = c .before .before .before .before .before in
+    let a = d .before .before .before in
+    let e = d .decimal .ensures in
+    put-of (a .args .n) (a .args .at) (d .decimal .result) (d .decimal .last .1 .0) (a .args .out .now) (c .before .before .copy .last .1 .0)
+    (a .fits .n .fits) (e .0) (e .1 .0) (e .1 .1) (a .pre) (c .before .before .copy .ensures .1)
 
 pub put-number-spec : {M : Type 1} → statement M
 put-number-spec =
