@@ -49,7 +49,7 @@ load-minus K k e f i = go (K i) (K (suc i)) (k i) (e i) (e (suc i)) (e (suc (suc
     go : (K L k a b c x y z : ℚ) → K *ℚ ((b -ℚ y) -ℚ (a -ℚ x)) -ℚ L *ℚ ((c -ℚ z) -ℚ (b -ℚ y)) +ℚ k *ℚ (b -ℚ y) ≡ (K *ℚ (b -ℚ a) -ℚ L *ℚ (c -ℚ b) +ℚ k *ℚ b) -ℚ (K *ℚ (y -ℚ x) -ℚ L *ℚ (z -ℚ y) +ℚ k *ℚ y)
     go = ∀₉ ℚR _ λ ρ. simp qq (by-ring tt)
 
--- the sum of f below i
+-- the sum of f at the numbers below i
 abbrev below : (ℕ → ℚ) → ℕ → ℚ
 below f zero = natℚ 0
 below f (suc i) = below f i +ℚ f i
@@ -81,7 +81,8 @@ load-same K k d e n top h i l =
 slack : (s d : ℚ) → s *ℚ (natℚ 0 *ℚ d) ≡ natℚ 0
 slack = ∀₂ ℚR _ λ ρ. simp qq (by-ring tt)
 
--- n levels, no tier over the uppermost
+-- n levels, no tier over the uppermost. Both bounds go by induction over the levels, with the sign of each shift: a spring between two levels pulls
+-- with the sign of their difference, so that it can only help
 module _ (K k e : ℕ → ℚ) (n : ℕ) (stiff : (i : ℕ) → natℚ 0 ≤ℚ K i) (held : (i : ℕ) → natℚ 0 ≤ℚ k i) (top : K n ≡ natℚ 0) where
   abbrev size : ℕ → ℚ
   size i = absℚ (load K k e i)

@@ -64,6 +64,7 @@ module _ (n : ℕ) (k κ ω x y d : List ℕ) (s : Solvable n k κ ω) (h : Hand
     spring : (j : ℕ) → j < n → springs ts j ≡ natℚ (getD k j 0)
     spring j l = of-≈ (tierAt ts j .K) (nat (getD k j 0)) (near .spring j l) ∙ mk-int (pos (getD k j 0))
 
+    -- the tier over level j against what is handed down to it; at the top, nothing
     handed-at : (j : ℕ) → 1 ≤ j → j ≤ n → Handed (force (springs ts) units j) (springs ts j) (units j) (natℚ (getD x j 0)) (natℚ (getD y j 0))
     handed-at j a b = go (decLe (suc j) n)
       where
@@ -110,6 +111,7 @@ module _ (n : ℕ) (k κ ω x y d : List ℕ) (s : Solvable n k κ ω) (h : Hand
         go (yes l) = subst (λ z. z ≤ℚ natℚ stiffest) (sym (spring j l)) (nat-q (getD k j 0) stiffest (s .springs j l .1))
         go (no l) = subst (λ z. z ≤ℚ natℚ stiffest) (sym (no-spring ts j (omega (arith, near .tiers)))) (nn-int stiffest)
 
+    -- what level i + 1 is out of balance by under the shifts found
     abbrev f : ℕ → ℚ
     f j = mk (found d j)
 
@@ -128,6 +130,7 @@ module _ (n : ℕ) (k κ ω x y d : List ℕ) (s : Solvable n k κ ω) (h : Hand
         up : (a d L : ℚ) → a ≤ℚ natℚ 5 *ℚ d +ℚ S *ℚ L → d ≤ℚ natℚ farthest → L ≤ℚ natℚ stiffest → a ≤ℚ natℚ most
         up = ∀₃ ℚR _ λ ρ. simp qq λ h a b. by-cert (to h ⊞ num 5 ⊠ to a ⊞ num stiffnessScale ⊠ to b) tt
 
+    -- all levels together, ten at most
     abbrev size : ℕ → ℚ
     size i = absℚ (load (springs ts) (lashes ls) f i -ℚ loads ts i)
 
@@ -156,6 +159,7 @@ module _ (n : ℕ) (k κ ω x y d : List ℕ) (s : Solvable n k κ ω) (h : Hand
         go : (a m r : ℚ) → natℚ (2 ^ 50) *ℚ a ≤ℚ m *ℚ natℚ most → m ≤ℚ natℚ 10 → natℚ 100 *ℚ r ≡ natℚ 1 → a ≤ℚ natℚ errorHundredths *ℚ r
         go = ∀₃ ℚR _ λ ρ. simp qq λ h l e. part (100 * 2 ^ 50 - 1) (num 100 ⊠ to h ⊞ num (100 * most) ⊠ to l ⊞ times (kp (errorHundredths * 2 ^ 50)) e) tt
 
+  -- at the deck and above the uppermost level
   found-none : (j : ℕ) → getD d j 0 ≡ 0 → mk (found d j) ≡ natℚ 0
   found-none j z = ap (λ (a : ℕ). mk (nat a /q nat shiftScale)) z ∙ mk-div (nat 0) (nat shiftScale) ∙ ap (λ a. a /ℚ mk (nat shiftScale)) (mk-int (pos 0)) ∙ go (recipℚ (mk (nat shiftScale)))
     where
