@@ -111,7 +111,7 @@ fn end_figures(
 }
 
 // The figures of both ends, with the share of F that a tier's own top takes, in twentieths, and the factor on A_T, in thousandths.
-pub fn figures_by(s: Sheet, share: u64, factor: u64) -> Figures
+fn figures_by(s: Sheet, share: u64, factor: u64) -> Figures
     requires { ⌜ Fits s × (share ≤ 20) × (factor ≤ 1000) ⌝ }
     ensures { λ r. ⌜ Worked share factor door s (r .door) × Worked share factor closed s (r .closed) ⌝ }
 {
