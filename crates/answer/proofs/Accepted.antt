@@ -15,10 +15,10 @@ use Rattle.arith.proofs.Rationals.{to-⊑}
 use Rattle.arith.proofs.RationalOrder.{≤ℚ-<ℚ-trans, nat-q}
 use Rattle.arith.proofs.FractionsInRationals.{mk-int, of-⊏, to-⊏}
 use Rattle.sheet.specs.declared.Sheet.{Sheet}
-use Rattle.forces.specs.declared.EndFigures.{EndFigures}
-use Rattle.forces.specs.declared.Figures.{Figures}
-use Rattle.forces.specs.Ends.{End, door, closed}
-use Rattle.forces.specs.Reported.{Reported, EndReported, EndFigured}
+use Rattle.figures.specs.declared.EndFigures.{EndFigures}
+use Rattle.figures.specs.declared.Figures.{Figures}
+use Rattle.figures.specs.Ends.{End, door, closed}
+use Rattle.figures.specs.Reported.{Reported, EndReported, EndFigured}
 use Rattle.answer.specs.Findings.{Kind, racking, compression, cornerTension, lockTension, lashTension, lashVertical, lashAthwart, kinds, Finding, endCode, kindCode, figuresOf, firstIndex, indexCount, reportedSize, limitAt, exactForce, findingsFrom, endFindings, findings, verdict}
 use Rattle.answer.specs.Consequences.{CheckedAt, WithinLimits, Justified}
 

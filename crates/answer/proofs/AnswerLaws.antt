@@ -13,9 +13,9 @@ use Rattle.sheet.specs.declared.Lash.{Lash}
 use Rattle.sheet.specs.declared.Sheet.{Sheet}
 use Rattle.sheet.specs.Layout.{blankLash, padded}
 use Rattle.sheet.specs.Fits.{Fits, Padded}
-use Rattle.forces.specs.declared.EndFigures.{EndFigures}
-use Rattle.forces.specs.declared.Figures.{Figures}
-use Rattle.forces.specs.Ends.{End, door, closed, lashesOf}
+use Rattle.figures.specs.declared.EndFigures.{EndFigures}
+use Rattle.figures.specs.declared.Figures.{Figures}
+use Rattle.figures.specs.Ends.{End, door, closed, lashesOf}
 use Rattle.answer.specs.Findings.{Finding, findings, verdict}
 use Rattle.answer.specs.Answers.{endBytes, answerBytes, findingBytes}
 use Rattle.answer.specs.Steps.{Wrote, Sized, endBytesOf, findingsBytes}

@@ -13,13 +13,13 @@ use Rattle.sheet.specs.Refusals.{decoded, refusal}
 use Rattle.sheet.specs.Fits.{Fits}
 use Rattle.sheet.proofs.Refusal.{decoded-sheet, sheet-refused, room-short, all-taken}
 use Rattle.sheet.proofs.Taken.{decoded-fits, sheet-padded}
-use Rattle.forces.specs.declared.Figures.{Figures}
-use Rattle.forces.specs.Ends.{End, door, closed}
-use Rattle.forces.specs.Reported.{EndFigured}
-use Rattle.forces.proofs.Facts.{Facts}
-use Rattle.forces.proofs.Margins.{figured-wider}
-use Rattle.forces.proofs.OneSolution as S
-use Rattle.forces.proofs.Taken.{facts}
+use Rattle.figures.specs.declared.Figures.{Figures}
+use Rattle.figures.specs.Ends.{End, door, closed}
+use Rattle.figures.specs.Reported.{EndFigured}
+use Rattle.figures.proofs.Facts.{Facts}
+use Rattle.figures.proofs.Margins.{figured-wider}
+use Rattle.figures.proofs.OneSolution as S
+use Rattle.figures.proofs.Taken.{facts}
 use Rattle.answer.specs.declared.Outcome.{Outcome}
 use Rattle.answer.specs.declared.Outcome.the-variants as O
 use Rattle.answer.specs.Findings.{figuresOf}

@@ -15,14 +15,14 @@ use Rattle.sheet.specs.Layout.{sheetOf}
 use Rattle.sheet.specs.Refusals.{first, sheetRows, row13, refusal}
 use Rattle.sheet.proofs.Rows.{orElse, first-append}
 use Rattle.sheet.proofs.Taken.{taken-fits}
-use Rattle.forces.specs.declared.EndFigures.{EndFigures}
-use Rattle.forces.specs.declared.Figures.{Figures}
-use Rattle.forces.specs.Ends.{End, door, closed, lashesOf, Settled}
-use Rattle.forces.specs.Reported.{EndReported}
-use Rattle.forces.proofs.Facts.{Facts}
-use Rattle.forces.proofs.Bounds.{racking-within}
-use Rattle.forces.proofs.Taken.{facts}
-use Rattle.forces.proofs.Within.{reported-below}
+use Rattle.figures.specs.declared.EndFigures.{EndFigures}
+use Rattle.figures.specs.declared.Figures.{Figures}
+use Rattle.figures.specs.Ends.{End, door, closed, lashesOf, Settled}
+use Rattle.figures.specs.Reported.{EndReported}
+use Rattle.figures.proofs.Facts.{Facts}
+use Rattle.figures.proofs.Bounds.{racking-within}
+use Rattle.figures.proofs.Taken.{facts}
+use Rattle.figures.proofs.Within.{reported-below}
 use Rattle.answer.specs.declared.Outcome.{Outcome}
 use Rattle.answer.specs.Findings.{Kind, racking, compression, cornerTension, lockTension, lashTension, lashVertical, lashAthwart, kinds, Finding, endCode, kindCode, figuresOf, firstIndex, indexCount, reportedSize, limitAt, findingsFrom, endFindings, findings, verdict}
 use Rattle.answer.specs.Answers.{upFrom, below, answerBytes}

@@ -11,10 +11,10 @@ use lib.ListN.{length, getD}
 use lib.Seq.{sets, getD-take}
 use Rattle.sheet.specs.declared.Lash.{Lash}
 use Rattle.sheet.specs.declared.Sheet.{Sheet}
-use Rattle.forces.specs.declared.EndFigures.{EndFigures}
-use Rattle.forces.specs.declared.Figures.{Figures}
-use Rattle.forces.specs.Ends.{End, door, closed, lashesOf}
-use Rattle.forces.specs.Reported.{noLash}
+use Rattle.figures.specs.declared.EndFigures.{EndFigures}
+use Rattle.figures.specs.declared.Figures.{Figures}
+use Rattle.figures.specs.Ends.{End, door, closed, lashesOf}
+use Rattle.figures.specs.Reported.{noLash}
 use Rattle.answer.specs.Limits.{safeLoad}
 use Rattle.answer.specs.Findings.{Finding, Kind, racking, compression, cornerTension, lockTension, lashTension, lashVertical, lashAthwart, endCode, kindCode, figuresOf, firstIndex, indexCount, reportedSize, limitAt, findingsFrom, endFindings, findings}
 use Rattle.answer.specs.Answers.{upFrom, findingBytes}

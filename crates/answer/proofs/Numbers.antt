@@ -10,7 +10,7 @@ use Rattle.sheet.specs.Layout.{sheetOf}
 use Rattle.sheet.specs.Refusals.{refusal}
 use Rattle.sheet.proofs.Numbers.{check-numbers}
 use Rattle.sheet.proofs.Taken.{taken-fits, sheet-padded}
-use Rattle.forces.specs.Ends.{End, door, closed, lashesOf}
+use Rattle.figures.specs.Ends.{End, door, closed, lashesOf}
 use Rattle.answer.specs.declared.Outcome.{Outcome}
 use Rattle.answer.specs.Checked.{number, second, CheckedAs, Checked}
 use Rattle.answer.specs.Steps.{Sized}

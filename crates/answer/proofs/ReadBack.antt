@@ -11,10 +11,10 @@ use mir.Val.{SFits}
 use Rattle.arith.specs.Bytes.{le4, bytes4, twos, signed4}
 use Rattle.arith.proofs.ByteLaws.{getD-behind, le4-back, signed-back}
 use Rattle.sheet.specs.declared.Sheet.{Sheet}
-use Rattle.forces.specs.declared.EndFigures.{EndFigures}
-use Rattle.forces.specs.declared.Figures.{Figures}
-use Rattle.forces.specs.Ends.{End, door, closed, lashesOf}
-use Rattle.forces.specs.Reported.{Fitting}
+use Rattle.figures.specs.declared.EndFigures.{EndFigures}
+use Rattle.figures.specs.declared.Figures.{Figures}
+use Rattle.figures.specs.Ends.{End, door, closed, lashesOf}
+use Rattle.figures.specs.Reported.{Fitting}
 use Rattle.answer.specs.Findings.{Finding, figuresOf, findings, verdict}
 use Rattle.answer.specs.Answers.{upFrom, below, counted, endBytes, findingBytes, answerBytes}
 use Rattle.answer.specs.Places.{byteAt, sectionSize, entryPlace, endSize, endPlace, findingsPlace, compressionsPlace, tensionsPlace, lashesPlace, EndReadBack, noFinding, ReadBack}

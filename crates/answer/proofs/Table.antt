@@ -10,14 +10,14 @@ use Rattle.arith.proofs.FractionLaws.{≈-trans, ≈⊑}
 use Rattle.arith.proofs.OrderedField.{⊑-⊏-trans}
 use Rattle.arith.specs.Roots.{Least}
 use Rattle.sheet.specs.declared.Sheet.{Sheet}
-use Rattle.forces.specs.Loads.{weight, transverse, upright, boxLength, wind, load, classShare}
-use Rattle.forces.specs.Lashes.{hookLevel, lashLength, pull, athwartPart}
+use Rattle.figures.specs.Loads.{weight, transverse, upright, boxLength, wind, load, classShare}
+use Rattle.figures.specs.Lashes.{hookLevel, lashLength, pull, athwartPart}
 use Rattle.springs.specs.Equations as S
 use Rattle.springs.specs.Equations.{shift}
 use Rattle.springs.proofs.OneSolution.{handedStiffness, handedLoad, shiftOf, solution, exists, unique, same-racking}
-use Rattle.forces.specs.Ends.{door, tiersOf, lashesOf, chainTiers, chainLash, chainLashes, routeFactor, Settled}
-use Rattle.forces.specs.Posts.{levelHeight, turning, moment, atMost, tension}
-use Rattle.forces.proofs.LashLength.{length-is}
+use Rattle.figures.specs.Ends.{door, tiersOf, lashesOf, chainTiers, chainLash, chainLashes, routeFactor, Settled}
+use Rattle.figures.specs.Posts.{levelHeight, turning, moment, atMost, tension}
+use Rattle.figures.proofs.LashLength.{length-is}
 use Rattle.answer.specs.Limits.{safeLoad}
 use Rattle.answer.specs.Table.{boxB, rodS, rodOf, exposed, sheetWith, alone, pair, held, heldAbove, doorTiers, lowestLoad, Table}
 use Rattle.answer.specs.Checked.{OneSolution}

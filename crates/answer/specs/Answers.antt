@@ -5,9 +5,9 @@ use lib.IntN.{pos}
 use lib.ListN.{getD, length}
 use Rattle.arith.specs.Bytes.{bytes4, twos}
 use Rattle.sheet.specs.declared.Sheet.{Sheet}
-use Rattle.forces.specs.declared.EndFigures.{EndFigures}
-use Rattle.forces.specs.declared.Figures.{Figures}
-use Rattle.forces.specs.Ends.{End, door, closed, lashesOf}
+use Rattle.figures.specs.declared.EndFigures.{EndFigures}
+use Rattle.figures.specs.declared.Figures.{Figures}
+use Rattle.figures.specs.Ends.{End, door, closed, lashesOf}
 use Rattle.answer.specs.Findings.{Finding, figuresOf, findings, verdict}
 
 -- i, i + 1, .. of which there are `more`; the first n from 0

@@ -10,9 +10,9 @@ use Rattle.sheet.specs.declared.Reading.the-variants.{Taken, Refused}
 use Rattle.sheet.specs.declared.Sheet.{Sheet}
 use Rattle.sheet.specs.Layout.{sheetOf}
 use Rattle.sheet.specs.Refusals.{refusal}
-use Rattle.forces.specs.declared.Figures.{Figures}
-use Rattle.forces.specs.Ends.{End, Settled}
-use Rattle.forces.specs.Reported.{EndFigured}
+use Rattle.figures.specs.declared.Figures.{Figures}
+use Rattle.figures.specs.Ends.{End, Settled}
+use Rattle.figures.specs.Reported.{EndFigured}
 use Rattle.answer.specs.declared.Outcome.{Outcome}
 use Rattle.answer.specs.declared.Outcome.the-variants as O
 use Rattle.answer.specs.Findings.{figuresOf}

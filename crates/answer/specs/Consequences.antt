@@ -4,8 +4,8 @@ use mathlib.Core.List.{List}
 use Prim.Native.Nat.{ℕ, _+_, _≤_, _<_}
 use Rattle.arith.specs.Fractions.{Frac, nat, _+q_, absq, _⊑_, _⊏_}
 use Rattle.sheet.specs.declared.Sheet.{Sheet}
-use Rattle.forces.specs.Ends.{End, Settled}
-use Rattle.forces.specs.Reported.{EndReported}
+use Rattle.figures.specs.Ends.{End, Settled}
+use Rattle.figures.specs.Reported.{EndReported}
 use Rattle.answer.specs.Findings.{Kind, Finding, endCode, kindCode, firstIndex, indexCount, limitAt, exactForce}
 use Rattle.answer.specs.Places.{byteAt, findingsPlace, ReadBack, reportedIn, figuresIn, findingIn}
 

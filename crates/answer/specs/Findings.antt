@@ -8,13 +8,13 @@ use lib.ListN.{getD, length}
 use Rattle.arith.specs.Fractions.{Frac}
 use Rattle.springs.specs.Equations as S
 use Rattle.sheet.specs.declared.Sheet.{Sheet}
-use Rattle.forces.specs.declared.EndFigures.{EndFigures}
-use Rattle.forces.specs.declared.Figures.{Figures}
-use Rattle.forces.specs.Loads.{classShare}
-use Rattle.forces.specs.Lashes as L
-use Rattle.forces.specs.Ends.{End, door, closed, tiersOf, lashesOf, chainTiers, routeFactor}
-use Rattle.forces.specs.Posts as P
-use Rattle.forces.specs.Reported.{noLash, forceOf}
+use Rattle.figures.specs.declared.EndFigures.{EndFigures}
+use Rattle.figures.specs.declared.Figures.{Figures}
+use Rattle.figures.specs.Loads.{classShare}
+use Rattle.figures.specs.Lashes as L
+use Rattle.figures.specs.Ends.{End, door, closed, tiersOf, lashesOf, chainTiers, routeFactor}
+use Rattle.figures.specs.Posts as P
+use Rattle.figures.specs.Reported.{noLash, forceOf}
 use Rattle.answer.specs.Limits.{rackingLimit, compressionLimit, cornerTensionLimit, lashVerticalLimit, lashAthwartLimit, safeLoad}
 
 -- 0 door, 1 closed

@@ -6,9 +6,9 @@ use lib.IntN.{ℤ, pos}
 use lib.ListN.{getD, length}
 use Rattle.arith.specs.Bytes.{le4, signed4}
 use Rattle.sheet.specs.declared.Sheet.{Sheet}
-use Rattle.forces.specs.declared.EndFigures.{EndFigures}
-use Rattle.forces.specs.declared.Figures.{Figures}
-use Rattle.forces.specs.Ends.{End, door, closed, lashesOf}
+use Rattle.figures.specs.declared.EndFigures.{EndFigures}
+use Rattle.figures.specs.declared.Figures.{Figures}
+use Rattle.figures.specs.Ends.{End, door, closed, lashesOf}
 use Rattle.answer.specs.Findings.{Finding, figuresOf, findings, verdict}
 use Rattle.answer.specs.Answers.{below}
 

@@ -9,10 +9,10 @@ use Rattle.sheet.specs.declared.Tier.{Tier}
 use Rattle.sheet.specs.declared.Lash.{Lash}
 use Rattle.sheet.specs.declared.Sheet.{Sheet}
 use Rattle.sheet.specs.Layout.{padded, blankTier, blankLash}
-use Rattle.forces.specs.Loads.{transverse, wind, classShare}
-use Rattle.forces.specs.Lashes.{lashLength, athwartPart}
-use Rattle.forces.specs.Ends.{door, tiersOf, lashesOf, chainTiers, routeFactor, Settled}
-use Rattle.forces.specs.Posts.{moment, tension}
+use Rattle.figures.specs.Loads.{transverse, wind, classShare}
+use Rattle.figures.specs.Lashes.{lashLength, athwartPart}
+use Rattle.figures.specs.Ends.{door, tiersOf, lashesOf, chainTiers, routeFactor, Settled}
+use Rattle.figures.specs.Posts.{moment, tension}
 use Rattle.answer.specs.Limits.{safeLoad}
 use Rattle.answer.specs.Checked.{OneSolution}
 

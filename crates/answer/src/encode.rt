@@ -8,15 +8,15 @@ ghost use lib.IntN.{pos};
 ghost use lib.Dec.{eqb};
 ghost use lib.ListN.{length, getD, drop};
 ghost use Rattle.arith.specs.Bytes.{bytes4, twos};
-ghost use Rattle.forces.specs.Reported.{Fitting};
+ghost use Rattle.figures.specs.Reported.{Fitting};
 ghost use Rattle.answer.specs.Answers.{counted, answerBytes};
 ghost use Rattle.answer.specs.Steps.{Wrote, Sized, lashBytes, endBytesOf};
 use crate::findings::write_findings;
 use arith::bytes::write_signed;
 use arith::bytes::write1;
 use arith::bytes::write4;
-use forces::EndFigures;
-use forces::Figures;
+use figures::EndFigures;
+use figures::Figures;
 use sheet::Sheet;
 
 // The longest answer, in bytes.

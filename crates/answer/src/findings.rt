@@ -10,8 +10,8 @@ use crate::limits::Limits;
 use crate::limits::safe_load;
 use crate::limits::safe_loads;
 use arith::bytes::write1;
-use forces::EndFigures;
-use forces::Figures;
+use figures::EndFigures;
+use figures::Figures;
 use sheet::Lash;
 use sheet::Sheet;
 

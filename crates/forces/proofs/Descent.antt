@@ -10,7 +10,7 @@ use lib.Signed.{quotZ}
 use Rattle.arith.specs.Sizes.{Small}
 use Rattle.arith.proofs.Sizes.{small-weaken, small-add, small-pos}
 use Rattle.sheet.specs.declared.Tier.{Tier}
-use Rattle.forces.specs.Fixed.{noTier, rackingPart, rackingFigure}
+use Rattle.figures.specs.Fixed.{noTier, rackingPart, rackingFigure}
 use Rattle.forces.specs.Steps.{total, momentOf, compressed, tensed, Measured, compressionAt, tensionAt, Levelled}
 use Rattle.forces.proofs.Arrays.{Between, between-none, fill-below, fill-above, filled, peel, peeled-off}
 use Rattle.forces.proofs.LevelLaws.{turned, racking-small}

@@ -16,20 +16,20 @@ use Rattle.sheet.specs.declared.Lashing.{Lashing}
 use Rattle.sheet.specs.declared.Sheet.{Sheet}
 use Rattle.sheet.specs.Lashings.{lashingOf}
 use Rattle.sheet.specs.Routes.{routePercent}
-use Rattle.forces.specs.declared.EndFigures.{EndFigures}
+use Rattle.figures.specs.declared.EndFigures.{EndFigures}
 use Rattle.forces.specs.declared.HalfWeights.{HalfWeights}
 use Rattle.forces.specs.declared.Gear.{Gear}
 use Rattle.forces.specs.declared.Pulls.{Pulls}
 use Rattle.forces.specs.declared.LevelFigures.{LevelFigures}
-use Rattle.forces.specs.Facts.{LashFacts, Facts}
-use Rattle.forces.specs.Lashes.{hookLevel}
-use Rattle.forces.specs.Ends.{End, springOf, tiersOf, lashesOf}
-use Rattle.forces.specs.Reported.{noLash, EndFigured}
-use Rattle.forces.specs.Fixed.{upward, upwards, leePart, windwardPart, rackingPart, rackingFigure, momentPart, compressionFigure, tensionFigure, Computed}
+use Rattle.figures.specs.Facts.{LashFacts, Facts}
+use Rattle.figures.specs.Lashes.{hookLevel}
+use Rattle.figures.specs.Ends.{End, springOf, tiersOf, lashesOf}
+use Rattle.figures.specs.Reported.{noLash, EndFigured}
+use Rattle.figures.specs.Fixed.{upward, upwards, leePart, windwardPart, rackingPart, rackingFigure, momentPart, compressionFigure, tensionFigure, Computed}
 use Rattle.forces.specs.Steps.{Filled, Loaded, Weighed, total, momentOf, Measured, Levelled, Geared, Pulled, Workable, EndWorked, Worked}
-use Rattle.forces.proofs.Figured.{end-figured}
-use Rattle.forces.proofs.Inputs.{spring-least, spring-most}
-use Rattle.forces.proofs.LevelStiffness.{level-most}
+use Rattle.figures.proofs.Figured.{end-figured}
+use Rattle.figures.proofs.Inputs.{spring-least, spring-most}
+use Rattle.figures.proofs.LevelStiffness.{level-most}
 use Rattle.forces.proofs.Tallies.{tally, tally-upwards}
 use Rattle.forces.proofs.Descent.{total-peel, total-off}
 

@@ -4,9 +4,9 @@ use mathlib.Core.Path.{_≡_}
 use native.Mathlib.Nat.{mul-le-mul, mul-le-mul-left, div-le-of-le-mul}
 use native.Mathlib.Omega.{arith}
 use Rattle.sheet.specs.declared.Lash.{Lash}
-use Rattle.forces.specs.Facts.{LashFacts}
-use Rattle.forces.specs.Lashes.{lashLength}
-use Rattle.forces.proofs.LashLength.{squares, length-least}
+use Rattle.figures.specs.Facts.{LashFacts}
+use Rattle.figures.specs.Lashes.{lashLength}
+use Rattle.figures.proofs.LashLength.{squares, length-least}
 
 module _ {n : ℕ} {l : Lash} (f : LashFacts n l) where
   pub length-most : lashLength l ≤ 22913

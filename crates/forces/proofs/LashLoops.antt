@@ -12,13 +12,13 @@ use Rattle.sheet.specs.declared.Lash.{Lash}
 use Rattle.sheet.specs.declared.Lashing.{Lashing}
 use Rattle.sheet.specs.declared.Lashing.the-variants.{Cross, Side}
 use Rattle.sheet.specs.Lashings.{lashingOf}
-use Rattle.forces.specs.Facts.{LashFacts}
-use Rattle.forces.specs.Lashes.{hookLevel, lashLength}
-use Rattle.forces.specs.Reported.{noLash}
-use Rattle.forces.specs.Fixed.{ceil, lashPad, stiffnessOf, levelStiffness, part, upward, upwards, pullFigure, athwartFigure, verticalFigure, leePart, windwardPart}
+use Rattle.figures.specs.Facts.{LashFacts}
+use Rattle.figures.specs.Lashes.{hookLevel, lashLength}
+use Rattle.figures.specs.Reported.{noLash}
+use Rattle.figures.specs.Fixed.{ceil, lashPad, stiffnessOf, levelStiffness, part, upward, upwards, pullFigure, athwartFigure, verticalFigure, leePart, windwardPart}
 use Rattle.forces.specs.Steps.{Geared, Pulled}
 use Rattle.forces.proofs.Arrays.{Between, between-none, fill-above, filled}
-use Rattle.forces.proofs.LashStiffness.{stiffness-most}
+use Rattle.figures.proofs.LashStiffness.{stiffness-most}
 use Rattle.forces.proofs.LashLaws.{part-le, upward-le}
 use Rattle.forces.proofs.Tallies.{tally, tally-stiffness, tally-upwards, tally-le, Tallied, Only, tallied-none, tallied-all, tallied-le, tallied-more}
 

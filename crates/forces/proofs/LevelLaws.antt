@@ -9,7 +9,7 @@ use lib.IntN.{ℤ, pos, negsuc, natAbs, negℤ, _+ℤ_, _-ℤ_, _*ℤ_}
 use lib.Signed.{quotZ, ltZ}
 use Rattle.arith.specs.Sizes.{Small}
 use Rattle.arith.proofs.Sizes.{small-weaken, small-pos, small-add, small-sub, small-mul}
-use Rattle.forces.specs.Fixed.{ceil, rackingPad, rackingFigure, postPad}
+use Rattle.figures.specs.Fixed.{ceil, rackingPad, rackingFigure, postPad}
 use Rattle.forces.proofs.Words.{not-below, small-quot}
 
 -- a racking

@@ -8,7 +8,7 @@ use native.Mathlib.Omega.{arith}
 use lib.ListN.{length, getD, set, drop, replicate, List·getD-eq-default, drop-of-length-le}
 use lib.Seq.{drop-cons}
 use Rattle.sheet.specs.declared.Tier.{Tier}
-use Rattle.forces.specs.Fixed.{noTier, push, gust, levelLoad, lifted, halfWeight}
+use Rattle.figures.specs.Fixed.{noTier, push, gust, levelLoad, lifted, halfWeight}
 use Rattle.forces.proofs.Arrays.{Between, between-none, fill-below}
 
 -- a share of one tier's push and the rest of the other's

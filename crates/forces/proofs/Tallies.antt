@@ -11,9 +11,9 @@ use lib.Seq.{getD-set-same, getD-set-other}
 use Rattle.sheet.specs.declared.Lash.{Lash}
 use Rattle.sheet.specs.Lashings.{lashingOf}
 use Rattle.sheet.specs.declared.Lashing.{Lashing}
-use Rattle.forces.specs.Lashes.{hookLevel}
-use Rattle.forces.specs.Reported.{noLash}
-use Rattle.forces.specs.Fixed.{stiffnessOf, levelStiffness, upward, upwards}
+use Rattle.figures.specs.Lashes.{hookLevel}
+use Rattle.figures.specs.Reported.{noLash}
+use Rattle.figures.specs.Fixed.{stiffnessOf, levelStiffness, upward, upwards}
 use Rattle.forces.proofs.Arrays.{blank-entry, peel}
 
 unfoldable pub tally : (Lash → Bool) → (Lash → ℕ) → List Lash → ℕ

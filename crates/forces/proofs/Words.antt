@@ -12,7 +12,7 @@ use mir.Val.{Fits, SFits, toZ, ofZ}
 use mir.ValLaws.{toZ-ofZ}
 use Rattle.arith.specs.Sizes.{Small}
 use Rattle.arith.proofs.Sizes.{fits64, natAbs-quot}
-use Rattle.forces.specs.Fixed.{notBelow}
+use Rattle.figures.specs.Fixed.{notBelow}
 
 -- a word that holds a signed number reads back as it
 pub held : {b : ℕ} {z : ℤ} → Small b z → b < 2 ^ 63 → toZ w64 (ofZ w64 z) ≡ z

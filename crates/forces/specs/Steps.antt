@@ -10,17 +10,17 @@ use Rattle.sheet.specs.declared.Tier.{Tier}
 use Rattle.sheet.specs.declared.Lash.{Lash}
 use Rattle.sheet.specs.declared.Sheet.{Sheet}
 use Rattle.springs.specs.Promise.{Promised}
-use Rattle.forces.specs.declared.EndFigures.{EndFigures}
+use Rattle.figures.specs.declared.EndFigures.{EndFigures}
 use Rattle.forces.specs.declared.LevelFigures.{LevelFigures}
 use Rattle.forces.specs.declared.HalfWeights.{HalfWeights}
 use Rattle.forces.specs.declared.Gear.{Gear}
 use Rattle.forces.specs.declared.Pulls.{Pulls}
-use Rattle.forces.specs.Lashes.{hookLevel, lashLength}
-use Rattle.forces.specs.Ends.{End, lashesOf}
-use Rattle.forces.specs.Posts.{inCompression, inTension}
-use Rattle.forces.specs.Reported.{noLash}
-use Rattle.forces.specs.Facts.{LashFacts, countAt}
-use Rattle.forces.specs.Fixed.{noTier, levelLoad, halfWeight, stiffnessOf, levelStiffness, pullFigure, athwartFigure, verticalFigure, upwards, leePart, windwardPart, rackingPart, rackingFigure, leeFound, windwardFound, postFigure, InputsBy, Computed}
+use Rattle.figures.specs.Lashes.{hookLevel, lashLength}
+use Rattle.figures.specs.Ends.{End, lashesOf}
+use Rattle.figures.specs.Posts.{inCompression, inTension}
+use Rattle.figures.specs.Reported.{noLash}
+use Rattle.figures.specs.Facts.{LashFacts, countAt}
+use Rattle.figures.specs.Fixed.{noTier, levelLoad, halfWeight, stiffnessOf, levelStiffness, pullFigure, athwartFigure, verticalFigure, upwards, leePart, windwardPart, rackingPart, rackingFigure, leeFound, windwardFound, postFigure, InputsBy, Computed}
 
 -- the first n entries of a list are P, and those behind them blank
 pub record Filled {A : Type 0} (blank : A) (n : ℕ) (P : ℕ → A) (r : List A) : Type 0 where

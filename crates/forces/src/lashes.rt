@@ -3,10 +3,10 @@
 ghost use mathlib.Core.Path.{_≡_};
 ghost use Prim.Native.Nat.{ℕ, _+_, _*_, _/_, _<_, _≤_, _^_};
 ghost use lib.ListN.{take, getD};
-ghost use Rattle.forces.specs.Facts.{LashFacts};
-ghost use Rattle.forces.specs.Lashes.{hookLevel, lashLength};
-ghost use Rattle.forces.specs.Reported.{noLash};
-ghost use Rattle.forces.specs.Fixed.{ceil, lashPad, stiffnessOf, leePart, windwardPart};
+ghost use Rattle.figures.specs.Facts.{LashFacts};
+ghost use Rattle.figures.specs.Lashes.{hookLevel, lashLength};
+ghost use Rattle.figures.specs.Reported.{noLash};
+ghost use Rattle.figures.specs.Fixed.{ceil, lashPad, stiffnessOf, leePart, windwardPart};
 ghost use Rattle.forces.specs.Steps.{Geared, Pulled};
 use crate::Gear;
 use crate::NEWTON;

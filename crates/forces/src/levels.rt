@@ -6,7 +6,7 @@ ghost use lib.IntN.{pos, natAbs, negℤ, _+ℤ_, _-ℤ_, _*ℤ_};
 ghost use lib.ListN.{take};
 ghost use lib.Signed.{quotZ};
 ghost use Rattle.arith.specs.Sizes.{Small};
-ghost use Rattle.forces.specs.Fixed.{rackingFigure, postFigure, notBelow};
+ghost use Rattle.figures.specs.Fixed.{rackingFigure, postFigure, notBelow};
 ghost use Rattle.forces.specs.Steps.{compressed, tensed, Measured, Levelled};
 use crate::HalfWeights;
 use crate::LevelFigures;

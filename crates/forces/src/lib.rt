@@ -3,9 +3,11 @@
 ghost use Prim.Native.Nat.{_≤_};
 ghost use lib.ListN.{take};
 ghost use Rattle.sheet.specs.Fits.{Fits};
-ghost use Rattle.forces.specs.Ends.{door, closed};
-ghost use Rattle.forces.specs.Reported.{EndFigured};
+ghost use Rattle.figures.specs.Ends.{door, closed};
+ghost use Rattle.figures.specs.Reported.{EndFigured};
 ghost use Rattle.forces.specs.Steps.{Workable, EndWorked, Worked};
+use figures::EndFigures;
+use figures::Figures;
 use sheet::Lash;
 use sheet::Sheet;
 use sheet::Tier;
@@ -24,22 +26,6 @@ const CLASS_SHARE: u64 = 9;
 
 // 1 N in 2^-18 N.
 const NEWTON: u64 = 262144;
-
-// The figures of one end: racking per tier, compression per level from 0, tension per level from 0, and each lash's tension,
-// athwart and vertical part, all in N.
-pub struct EndFigures {
-    pub racking: [i32; 10],
-    pub compression: [u64; 11],
-    pub tension: [u64; 10],
-    pub pull: [u64; 8],
-    pub athwart: [u64; 8],
-    pub vertical: [u64; 8],
-}
-
-pub struct Figures {
-    pub door: EndFigures,
-    pub closed: EndFigures,
-}
 
 // Half of V above each level, with A_Vmax and with A_Vmin.
 pub struct HalfWeights {

@@ -3,9 +3,9 @@
 ghost use mathlib.Core.Path.{_≡_};
 ghost use Prim.Native.Nat.{ℕ, _+_, _*_, _-_, _/_, _<_, _≤_, _^_};
 ghost use lib.ListN.{take, getD};
-ghost use Rattle.forces.specs.Facts.{TierFacts};
-ghost use Rattle.forces.specs.Fixed.{noTier, push, gust};
-ghost use Rattle.forces.specs.Loads.{boxLength};
+ghost use Rattle.figures.specs.Facts.{TierFacts};
+ghost use Rattle.figures.specs.Fixed.{noTier, push, gust};
+ghost use Rattle.figures.specs.Loads.{boxLength};
 ghost use Rattle.forces.specs.Steps.{Loaded, Weighed};
 use crate::HalfWeights;
 use crate::NEWTON;

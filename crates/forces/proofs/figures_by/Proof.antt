@@ -1,5 +1,5 @@
-use Rattle.forces.specs.Ends.{door, closed}
-use Rattle.forces.proofs.Taken.{facts}
+use Rattle.figures.specs.Ends.{door, closed}
+use Rattle.figures.proofs.Taken.{facts}
 use Rattle.forces.proofs.EndLaws.{spring-at, workable, worked}
 use Rattle.forces.proofs.figures_by.Statement.{statement}
 use Rattle.forces.proofs.figures_by.Tie as tie

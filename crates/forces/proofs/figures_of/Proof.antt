@@ -1,5 +1,5 @@
 use Rattle.forces.proofs.EndLaws.{reports}
-use Rattle.forces.proofs.Taken.{facts}
+use Rattle.figures.proofs.Taken.{facts}
 use borrow.Author.Needs.{needs}
 use Rattle.forces.proofs.figures_of.Statement.{statement}
 use Rattle.forces.proofs.figures_of.Tie as tie

@@ -5,8 +5,8 @@ use Rattle.forces.proofs.LashLoops.{Listed, listed, Hung, hung-none, he
 use Prim.Native.Nat.{_-_}
 use native.Mathlib.Numerals.{add-one}
 use native.Mathlib.Omega.{arith}
-use Rattle.forces.specs.Facts.{LashFacts}
-use Rattle.forces.specs.Reported.{noLash}
+use Rattle.figures.specs.Facts.{LashFacts}
+use Rattle.figures.specs.Reported.{noLash}
 use borrow.Author.Needs.{needs}
 use Rattle.forces.proofs.lashes.gear_of.Statement.{statement}
 use Rattle.forces.proofs.lashes.gear_of.Tie as tie

@@ -1,6 +1,6 @@
 use native.Mathlib.Omega.{arith}
 use mathlib.Core.Path.{refl}
-use Rattle.forces.specs.Lashes.{hookLevel}
+use Rattle.figures.specs.Lashes.{hookLevel}
 use Rattle.forces.proofs.lashes.hook_level.Statement.{statement}
 use Rattle.forces.proofs.lashes.hook_level.Tie as tie
 

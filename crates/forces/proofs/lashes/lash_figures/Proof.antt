@@ -5,9 +5,9 @@ use native.Mathlib.Numerals.{add-one}
 use native.Mathlib.Omega.{arith}
 use lib.ListN.{getD, take}
 use lib.Seq.{getD-take}
-use Rattle.forces.specs.Facts.{LashFacts}
-use Rattle.forces.specs.Fixed.{leePart, windwardPart}
-use Rattle.forces.specs.Reported.{noLash}
+use Rattle.figures.specs.Facts.{LashFacts}
+use Rattle.figures.specs.Fixed.{leePart, windwardPart}
+use Rattle.figures.specs.Reported.{noLash}
 use Rattle.forces.proofs.LashLoops.{Listed, listed, Strained, strained-none, post-fits, strained-more, strained-all, lee-kept, windward-kept}
 use Rattle.forces.proofs.lashes.lash_figures.Statement.{statement}
 use Rattle.forces.proofs.lashes.lash_figures.Tie as tie

@@ -1,4 +1,4 @@
-use Rattle.forces.proofs.LashLength.{length-is}
+use Rattle.figures.proofs.LashLength.{length-is}
 use borrow.Author.Needs.{needs}
 use Rattle.forces.proofs.lashes.length_of.Statement.{statement}
 use Rattle.forces.proofs.lashes.length_of.Tie as tie

@@ -1,5 +1,5 @@
 use native.Mathlib.Omega.{arith}
-use Rattle.forces.proofs.LashStiffness.{stiffness-most}
+use Rattle.figures.proofs.LashStiffness.{stiffness-most}
 use Rattle.forces.proofs.LashLaws.{length-most}
 use borrow.Author.Needs.{needs}
 use Rattle.forces.proofs.lashes.pull_of.Statement.{statement}

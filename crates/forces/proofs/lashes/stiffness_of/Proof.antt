@@ -1,7 +1,7 @@
 use native.Mathlib.Nat.{lt-of-le-of-lt}
 use native.Mathlib.Omega.{arith}
 use lib.Dec.{lit<}
-use Rattle.forces.specs.Fixed.{stiffnessOf}
+use Rattle.figures.specs.Fixed.{stiffnessOf}
 use Rattle.forces.proofs.LashLaws.{force-le, side-le, top-le, square-le, cube-le, cube-above, quotient-le}
 use Rattle.forces.proofs.lashes.stiffness_of.Statement.{statement}
 use Rattle.forces.proofs.lashes.stiffness_of.Tie as tie

@@ -9,7 +9,7 @@ use mir.Syntax.{w32}
 use mir.ValLaws.{toZ-ofZ}
 use Rattle.arith.proofs.Sizes.{small-pos, small-weaken}
 use Rattle.sheet.specs.declared.Tier.{Tier}
-use Rattle.forces.specs.Fixed.{noTier, leeFound, windwardFound}
+use Rattle.figures.specs.Fixed.{noTier, leeFound, windwardFound}
 use Rattle.forces.proofs.Descent.{Descended, at-top, turned-once, at-foot}
 use Rattle.forces.proofs.Words.{held}
 use Rattle.forces.proofs.levels.level_figures.Statement.{statement}

@@ -1,6 +1,6 @@
 use mathlib.Core.Path.{refl}
 use lib.Dec.{lit<}
-use Rattle.forces.specs.Fixed.{leeFound, windwardFound}
+use Rattle.figures.specs.Fixed.{leeFound, windwardFound}
 use Rattle.forces.proofs.Words.{held}
 use borrow.Author.Needs.{needs}
 use Rattle.forces.proofs.levels.level_under.Statement.{statement}

@@ -1,6 +1,6 @@
 use lib.Dec.{lit<}
 use Rattle.arith.proofs.Sizes.{fits64}
-use Rattle.forces.specs.Fixed.{postFigure}
+use Rattle.figures.specs.Fixed.{postFigure}
 use Rattle.forces.proofs.LevelLaws.{padded}
 use Rattle.forces.proofs.Words.{held}
 use borrow.Author.Needs.{needs}

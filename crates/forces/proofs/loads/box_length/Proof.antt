@@ -1,6 +1,6 @@
 use borrow.Author.Tests.{eq-eqb, ne-eqb}
 use lib.Dec.{lit≤}
-use Rattle.forces.specs.Loads.{boxLength}
+use Rattle.figures.specs.Loads.{boxLength}
 use Rattle.forces.proofs.loads.box_length.Statement.{statement}
 use Rattle.forces.proofs.loads.box_length.Tie as tie
 

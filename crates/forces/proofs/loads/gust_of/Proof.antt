@@ -2,7 +2,7 @@ use native.Mathlib.Nat.{mul-le-mul}
 use native.Mathlib.Omega.{arith}
 use borrow.Author.Tests.{eq-eqb, ne-eqb}
 use lib.Dec.{lit≤}
-use Rattle.forces.specs.Fixed.{gust}
+use Rattle.figures.specs.Fixed.{gust}
 use borrow.Author.Needs.{needs}
 use Rattle.forces.proofs.loads.gust_of.Statement.{statement}
 use Rattle.forces.proofs.loads.gust_of.Tie as tie

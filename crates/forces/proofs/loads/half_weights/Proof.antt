@@ -3,8 +3,8 @@ use lib.ListN.{getD, length, take}
 use lib.Seq.{getD-take, length-take-le}
 use Prim.Native.Nat.{_-_}
 use native.Mathlib.Omega.{arith}
-use Rattle.forces.specs.Facts.{TierFacts}
-use Rattle.forces.specs.Fixed.{noTier}
+use Rattle.figures.specs.Facts.{TierFacts}
+use Rattle.figures.specs.Fixed.{noTier}
 use borrow.Author.Needs.{needs}
 use Rattle.forces.proofs.LoadLaws.{Carried, carried-none, carried-more, carried-all}
 use Rattle.forces.proofs.loads.half_weights.Statement.{statement}

@@ -3,7 +3,7 @@ use lib.Seq.{getD-take, length-take-le}
 use mathlib.Core.Path.{_≡_}
 use Prim.Native.Nat.{_-_}
 use native.Mathlib.Omega.{arith}
-use Rattle.forces.specs.Fixed.{noTier}
+use Rattle.figures.specs.Fixed.{noTier}
 use borrow.Author.Needs.{needs}
 use Rattle.forces.proofs.LoadLaws.{Pushed, pushed-none, pushed-more}
 use Rattle.forces.proofs.loads.level_loads.Statement.{statement}

@@ -1,7 +1,7 @@
 use mathlib.Core.Path.{refl}
 use native.Mathlib.Nat.{mul-le-mul}
 use native.Mathlib.Omega.{arith}
-use Rattle.forces.specs.Fixed.{push}
+use Rattle.figures.specs.Fixed.{push}
 use borrow.Author.Needs.{needs}
 use Rattle.forces.proofs.loads.thrust_of.Statement.{statement}
 use Rattle.forces.proofs.loads.thrust_of.Tie as tie

@@ -1,0 +1,35 @@
+-- The figures of an end, computed from shifts that keep the solver's promise, report its forces and fit four bytes.
+use mathlib.Core.List.{List}
+use Prim.Native.Nat.{ℕ}
+use native.Mathlib.Omega.{arith}
+use Rattle.arith.specs.Fractions.{nat, recip, _/q_, _⊑_}
+use Rattle.springs.specs.Promise.{Promised, lashError, rackingError}
+use Rattle.sheet.specs.declared.Sheet.{Sheet}
+use Rattle.figures.specs.declared.EndFigures.{EndFigures}
+use Rattle.figures.specs.Ends.{End}
+use Rattle.figures.specs.Reported.{EndFigured}
+use Rattle.figures.specs.Fixed.{Inputs, Computed}
+use Rattle.figures.proofs.Facts.{Facts}
+use Rattle.figures.proofs.Inputs.{near}
+use Rattle.figures.proofs.EndReported.{promised-close, reported}
+use Rattle.figures.proofs.Bounds.{Blank, figured}
+
+lash-error : lashError ⊑ nat 13 /q nat 100
+unfolding recip
+lash-error = record { cross = record { le = tt } }
+
+racking-error : rackingError ⊑ nat 25 /q nat 100
+unfolding recip
+racking-error = record { cross = record { le = tt } }
+
+module _ {e : End} {t : Sheet} {k κ ω d : List ℕ} {g : EndFigures} where
+  pub end-figured :
+      Facts t →
+      Inputs e t k κ ω →
+      Promised (t .ntiers) k κ ω d →
+      Computed e t d g →
+      Blank e t g →
+      EndFigured 20 e t g
+  end-figured f h p c b =
+      figured e f (omega arith)
+      (λ Ds s. reported e t d Ds f s (promised-close e t k κ ω d Ds lash-error racking-error p (near f h) s) g c) b

@@ -1,3 +1,0 @@
--- What the force proofs use of a taken sheet: the limits of document 01, entry by entry.
-pub use Rattle.forces.specs.Facts.{TierFacts, LashFacts, EndFacts, Facts}
-unfoldable pub use Rattle.forces.specs.Facts.{countAt}
