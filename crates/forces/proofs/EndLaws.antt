@@ -17,8 +17,6 @@ use Rattle.sheet.specs.declared.Sheet.{Sheet}
 use Rattle.sheet.specs.Lashings.{lashingOf}
 use Rattle.sheet.specs.Routes.{routePercent}
 use Rattle.figures.specs.declared.EndFigures.{EndFigures}
-use Rattle.forces.specs.declared.HalfWeights.{HalfWeights}
-use Rattle.forces.specs.declared.Gear.{Gear}
 use Rattle.forces.specs.declared.Pulls.{Pulls}
 use Rattle.forces.specs.declared.LevelFigures.{LevelFigures}
 use Rattle.figures.specs.Facts.{LashFacts, Facts}
@@ -26,7 +24,7 @@ use Rattle.figures.specs.Lashes.{hookLevel}
 use Rattle.figures.specs.Ends.{End, springOf, tiersOf, lashesOf}
 use Rattle.figures.specs.Reported.{noLash, EndFigured}
 use Rattle.figures.specs.Fixed.{upward, upwards, leePart, windwardPart, rackingPart, rackingFigure, momentPart, compressionFigure, tensionFigure, Computed}
-use Rattle.forces.specs.Steps.{Filled, Loaded, Weighed, total, momentOf, Measured, Levelled, Geared, Pulled, Workable, EndWorked, Worked}
+use Rattle.forces.specs.Steps.{Filled, Loaded, Weighed, total, momentOf, Measured, Levelled, Held, Pulled, Workable, EndWorked, Worked}
 use Rattle.figures.proofs.Figured.{end-figured}
 use Rattle.figures.proofs.Inputs.{spring-least, spring-most}
 use Rattle.figures.proofs.LevelStiffness.{level-most}
@@ -99,17 +97,17 @@ facts-ten h f =
       inside = omega (arith, f .inside);
     }
 
-module _ {n : ℕ} {k : List ℕ} {ts : List Tier} {m : ℕ} {ls : List Lash} {ω : List ℕ} {w : HalfWeights}
-    (h : Workable n k ts m ls ω w) (counted : length ls ≡ m) where
+module _ {n : ℕ} {k : List ℕ} {ts : List Tier} {m : ℕ} {ls : List Lash} {ω most least : List ℕ}
+    (h : Workable n k ts m ls ω most least) (counted : length ls ≡ m) where
   pub each-ten : (j : ℕ) → j < m → LashFacts 10 (getD ls j noLash)
   each-ten j q = facts-ten (h .few) (h .each j (omega arith))
 
-  pub end-solvable : {g : Gear} → Geared m ls g → Solvable n k (g .level) ω
+  pub end-solvable : {κ : List ℕ} → Held ls κ → Solvable n k κ ω
   end-solvable s =
       record {
         few = h .few;
         springs = h .springs;
-        held = λ i q. rw (s .held i) (omega (arith, level-most n ls (record { at = h .each }) (suc i), h .at-level (suc i)));
+        held = λ i q. rw (s i) (omega (arith, level-most n ls (record { at = h .each }) (suc i), h .at-level (suc i)));
         loaded = h .loaded;
       }
 
@@ -117,7 +115,7 @@ module _ {n : ℕ} {k : List ℕ} {ts : List Tier} {m : ℕ} {ls : List Lash} {�
       {κ d : List ℕ} {p : Pulls} →
       Promised n k κ ω d →
       Pulled m ls d p →
-      Measured n k ts d (w .most) (w .least) (p .lee) (p .windward)
+      Measured n k ts d most least (p .lee) (p .windward)
   end-measured o u =
       record {
         few = h .few;
@@ -133,11 +131,11 @@ module _ {n : ℕ} {k : List ℕ} {ts : List Tier} {m : ℕ} {ls : List Lash} {�
       }
 
   pub end-worked :
-      {g : Gear} {d : List ℕ} {p : Pulls} {v : LevelFigures} →
-      Geared m ls g →
-      Promised n k (g .level) ω d →
+      {κ d : List ℕ} {p : Pulls} {v : LevelFigures} →
+      Held ls κ →
+      Promised n k κ ω d →
       Pulled m ls d p →
-      Levelled n k ts d (w .most) (w .least) (p .lee) (p .windward) v →
+      Levelled n k ts d most least (p .lee) (p .windward) v →
       EndWorked n k ts ls ω
       (record {
         racking = v .racking;
@@ -147,19 +145,19 @@ module _ {n : ℕ} {k : List ℕ} {ts : List Tier} {m : ℕ} {ls : List Lash} {�
         athwart = p .athwart;
         vertical = p .vertical;
       })
-  end-worked {g} {d} {p} s o u l =
+  end-worked {κ} {d} {p} s o u l =
       record {
-        κ = g .level;
+        κ = κ;
         d = d;
-        held = λ i q. s .held i;
+        held = λ i q. s i;
         promised = o;
         racking = l .racking;
         compression =
-            refilled (λ i q. let e = lees i (omega arith) in let f = windwards i (omega arith) in rw (h .weighed .most i, e, f) refl)
+            refilled (λ i q. let e = lees i (omega arith) in let f = windwards i (omega arith) in rw (h .weighed .most-is i, e, f) refl)
             (l .compression);
         tension =
             refilled
-            (λ i q. let e = lees (suc i) (omega arith) in let f = windwards (suc i) (omega arith) in rw (h .weighed .least i, e, f) refl)
+            (λ i q. let e = lees (suc i) (omega arith) in let f = windwards (suc i) (omega arith) in rw (h .weighed .least-is i, e, f) refl)
             (l .tension);
         pull = rw counted (u .pull);
         athwart = rw counted (u .athwart);
@@ -184,12 +182,12 @@ module _ {t : Sheet} (f : Facts t) (e : End) where
   spring-at i h = getD-replicate 10 i (springOf e) 0 (omega (arith, f .few))
 
   pub workable :
-      (share factor m : ℕ) (ω : List ℕ) (w : HalfWeights) →
+      (share factor m : ℕ) (ω most least : List ℕ) →
       m ≤ 8 →
       Loaded share factor (t .ntiers) (tiersOf t) ω →
-      Weighed (tiersOf t) w →
-      Workable (t .ntiers) (springs e) (tiersOf t) m (lashesOf e t) ω w
-  workable share factor m ω w few l v =
+      Weighed (tiersOf t) most least →
+      Workable (t .ntiers) (springs e) (tiersOf t) m (lashesOf e t) ω most least
+  workable share factor m ω most least few l v =
       record {
         few = f .few;
         springs = λ i h. rw (spring-at i h) (spring-least e, spring-most e);

@@ -16,7 +16,7 @@ use Rattle.figures.specs.Facts.{LashFacts}
 use Rattle.figures.specs.Lashes.{hookLevel, lashLength}
 use Rattle.figures.specs.Reported.{noLash}
 use Rattle.figures.specs.Fixed.{ceil, lashPad, stiffnessOf, levelStiffness, part, upward, upwards, pullFigure, athwartFigure, verticalFigure, leePart, windwardPart}
-use Rattle.forces.specs.Steps.{Geared, Pulled}
+use Rattle.forces.specs.Steps.{Geared, Held, Pulled}
 use Rattle.forces.proofs.Arrays.{Between, between-none, fill-above, filled}
 use Rattle.figures.proofs.LashStiffness.{stiffness-most}
 use Rattle.forces.proofs.LashLaws.{part-le, upward-le}
@@ -93,13 +93,14 @@ module _ {m : ℕ} {ls : List Lash} (g : Listed m ls) where
           held = rw es (tallied-more (s .held) (first h own) (only-over ea) low);
         }
 
-  pub hung-all : {lengths stiffnesses levels : List ℕ} {j : ℕ} → m ≤ j → Hung m ls lengths stiffnesses levels j → Geared m ls (record { length = lengths; stiffness = stiffnesses; level = levels })
-  hung-all h s =
-      record {
-        lengths = λ k q. s .long .each k (omega arith) (omega arith);
-        stiff = λ k q. s .stiff .each k (omega arith) (omega arith);
-        held = λ i. tallied-all (s .held) (omega (arith, g .counted)) i ∙ sym (tally-stiffness (suc i) ls);
-      }
+  pub hung-all : {lengths stiffnesses levels : List ℕ} {j : ℕ} → m ≤ j → Hung m ls lengths stiffnesses levels j → Geared m ls lengths stiffnesses × Held ls levels
+  hung-all h s = (
+    record {
+      long = λ k q. s .long .each k (omega arith) (omega arith);
+      stiff = λ k q. s .stiff .each k (omega arith) (omega arith);
+    },
+    λ i. tallied-all (s .held) (omega (arith, g .counted)) i ∙ sym (tally-stiffness (suc i) ls),
+  )
 
 -- a post takes no more than the whole vertical part
 pub lee-kept : (g : Lashing) (x : ℕ) → leePart g x ≤ x

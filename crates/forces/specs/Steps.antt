@@ -12,8 +12,6 @@ use Rattle.sheet.specs.declared.Sheet.{Sheet}
 use Rattle.springs.specs.Promise.{Promised}
 use Rattle.figures.specs.declared.EndFigures.{EndFigures}
 use Rattle.forces.specs.declared.LevelFigures.{LevelFigures}
-use Rattle.forces.specs.declared.HalfWeights.{HalfWeights}
-use Rattle.forces.specs.declared.Gear.{Gear}
 use Rattle.forces.specs.declared.Pulls.{Pulls}
 use Rattle.figures.specs.Lashes.{hookLevel, lashLength}
 use Rattle.figures.specs.Ends.{End, lashesOf}
@@ -33,17 +31,20 @@ pub record Loaded (share factor n : ℕ) (ts : List Tier) (r : List ℕ) : Type 
   pub small : (i : ℕ) → i < n → getD r i 0 ≤ 2 ^ 46
 
 -- half of the weight above each level
-pub record Weighed (ts : List Tier) (w : HalfWeights) : Type 0 where
-  pub most : (i : ℕ) → getD (w .most) i 0 ≡ halfWeight (λ t. t .avmax) ts i
-  pub least : (i : ℕ) → getD (w .least) i 0 ≡ halfWeight (λ t. t .avmin) ts i
-  pub most-light : (i : ℕ) → getD (w .most) i 0 ≤ 2 ^ 40
-  pub least-light : (i : ℕ) → getD (w .least) i 0 ≤ 2 ^ 40
+pub record Weighed (ts : List Tier) (most least : List ℕ) : Type 0 where
+  pub most-is : (i : ℕ) → getD most i 0 ≡ halfWeight (λ t. t .avmax) ts i
+  pub least-is : (i : ℕ) → getD least i 0 ≡ halfWeight (λ t. t .avmin) ts i
+  pub most-light : (i : ℕ) → getD most i 0 ≤ 2 ^ 40
+  pub least-light : (i : ℕ) → getD least i 0 ≤ 2 ^ 40
 
--- lengths and stiffnesses of m lashes, and the stiffness at each level over the deck
-pub record Geared (m : ℕ) (ls : List Lash) (g : Gear) : Type 0 where
-  pub lengths : (j : ℕ) → j < m → getD (g .length) j 0 ≡ lashLength (getD ls j noLash)
-  pub stiff : (j : ℕ) → j < m → getD (g .stiffness) j 0 ≡ stiffnessOf (getD ls j noLash)
-  pub held : (i : ℕ) → getD (g .level) i 0 ≡ levelStiffness ls (suc i)
+-- lengths and stiffnesses of m lashes
+pub record Geared (m : ℕ) (ls : List Lash) (lengths stiffnesses : List ℕ) : Type 0 where
+  pub long : (j : ℕ) → j < m → getD lengths j 0 ≡ lashLength (getD ls j noLash)
+  pub stiff : (j : ℕ) → j < m → getD stiffnesses j 0 ≡ stiffnessOf (getD ls j noLash)
+
+-- the stiffness of all lashes at each level over the deck
+abbrev pub Held : List Lash → List ℕ → Type 0
+Held ls levels = (i : ℕ) → getD levels i 0 ≡ levelStiffness ls (suc i)
 
 -- the figures of m lashes at the shifts d, and the vertical parts on the posts at each level
 pub record Pulled (m : ℕ) (ls : List Lash) (d : List ℕ) (r : Pulls) : Type 0 where
@@ -111,7 +112,7 @@ module _ (n : ℕ) (k : List ℕ) (ts : List Tier) (d most least lee windward : 
     pub tension : Filled 0 n tensionAt (r .tension)
 
 -- an end may be worked: n tiers ts with springs k, m lashes ls, the loads ω on the levels, and half of the weights above them
-pub record Workable (n : ℕ) (k : List ℕ) (ts : List Tier) (m : ℕ) (ls : List Lash) (ω : List ℕ) (w : HalfWeights) : Type 0 where
+pub record Workable (n : ℕ) (k : List ℕ) (ts : List Tier) (m : ℕ) (ls : List Lash) (ω most least : List ℕ) : Type 0 where
   pub few : n ≤ 10
   pub springs : (i : ℕ) → i < n → (3730 ≤ getD k i 0) × (getD k i 0 ≤ 15690)
   pub heights : (i : ℕ) → i < n → getD ts i noTier .height ≤ 2896
@@ -119,7 +120,7 @@ pub record Workable (n : ℕ) (k : List ℕ) (ts : List Tier) (m : ℕ) (ls : Li
   pub each : (j : ℕ) → j < length ls → LashFacts n (getD ls j noLash)
   pub at-level : (i : ℕ) → countAt ls i ≤ 4
   pub loaded : (i : ℕ) → i < n → getD ω i 0 ≤ 2 ^ 46
-  pub weighed : Weighed ts w
+  pub weighed : Weighed ts most least
 
 -- the figures of an end, at shifts d that the solver found
 pub record EndWorked (n : ℕ) (k : List ℕ) (ts : List Tier) (ls : List Lash) (ω : List ℕ) (f : EndFigures) : Type 0 where

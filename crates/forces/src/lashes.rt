@@ -2,18 +2,19 @@
 
 ghost use mathlib.Core.Path.{_≡_};
 ghost use Prim.Native.Nat.{ℕ, _+_, _*_, _/_, _<_, _≤_, _^_};
-ghost use lib.ListN.{take, getD};
+ghost use lib.ListN.{take, getD, length};
 ghost use Rattle.figures.specs.Facts.{LashFacts};
 ghost use Rattle.figures.specs.Lashes.{hookLevel, lashLength};
 ghost use Rattle.figures.specs.Reported.{noLash};
 ghost use Rattle.figures.specs.Fixed.{ceil, lashPad, stiffnessOf, leePart, windwardPart};
-ghost use Rattle.forces.specs.Steps.{Geared, Pulled};
+ghost use Rattle.forces.specs.Steps.{Geared, Held, Pulled};
 use crate::Gear;
 use crate::NEWTON;
 use crate::PostParts;
 use crate::Pulls;
 use arith::roots::length;
 use arith::rounding::ceil_div;
+use arith::rounding::scaled;
 use arith::rounding::scaled_twice;
 use arith::rounding::split_product;
 use sheet::Lash;
@@ -38,23 +39,29 @@ fn length_of(l: Lash) -> u64
     length(l.lx, l.ly, l.lz)
 }
 
+// What a lash's force over its length's cube gives, in 2^-22 N/mm. A lash under 16,384 mm, as all are that ships carry, takes a division less.
+fn over_cube(force: u64, cube: u64) -> u64
+    requires { ⌜ (0 < cube) × (cube ≤ 22913 * 22913 * 22913) × (force / cube ≤ 400000) ⌝ }
+    ensures { λ r. ⌜ r ≡ force * 2 ^ 22 / cube ⌝ }
+{
+    if cube < 4398046511104 {
+        return scaled(force, 4194304, cube);
+    }
+    scaled_twice(force, 1048576, 4, cube)
+}
+
 // The athwart stiffness of a lash of this length.
 fn stiffness_of(l: Lash, length: u64) -> u64
     requires { ⌜ LashFacts 10 l × (length ≡ lashLength l) ⌝ }
     ensures { λ r. ⌜ r ≡ stiffnessOf l ⌝ }
 {
-    scaled_twice(
-        l.modulus * l.area * (l.ly * l.ly),
-        1048576,
-        4,
-        length * length * length,
-    )
+    over_cube(l.modulus * l.area * (l.ly * l.ly), length * length * length)
 }
 
 // Lengths and stiffnesses of an end's lashes, and the sums of the stiffnesses by level.
 pub fn gear_of(lashes: [Lash; 8], m: usize) -> Gear
     requires { ⌜ (m ≤ 8) × ((j : ℕ) → j < m → LashFacts 10 (getD (take m lashes) j noLash)) ⌝ }
-    ensures { λ r. ⌜ Geared m (take m lashes) r ⌝ }
+    ensures { λ r. ⌜ Geared m (take m lashes) (r .length) (r .stiffness) × Held (take m lashes) (r .level) ⌝ }
 {
     let mut lengths = [0u64; 8];
     let mut stiffnesses = [0u64; 8];
@@ -143,10 +150,17 @@ fn on_posts(l: Lashing, upward: u64) -> PostParts
 }
 
 // The figures of an end's lashes, and the sums of the vertical parts by level on each post.
-pub fn lash_figures(lashes: [Lash; 8], m: usize, gear: Gear, d: [u64; 11]) -> Pulls
+pub fn lash_figures<'a>(
+    lashes: [Lash; 8],
+    m: usize,
+    lengths: &'a [u64],
+    stiffnesses: &'a [u64],
+    d: &[u64],
+) -> Pulls
     requires { ⌜ (m ≤ 8) × ((j : ℕ) → j < m → LashFacts 10 (getD (take m lashes) j noLash)) ⌝ }
-    requires { ⌜ Geared m (take m lashes) gear × ((i : ℕ) → getD d i 0 ≤ 2 ^ 40) ⌝ }
-    ensures { λ r. ⌜ Pulled m (take m lashes) d r ⌝ }
+    requires { ⌜ Geared m (take m lashes) (now lengths) (now stiffnesses) × ((i : ℕ) → getD (now d) i 0 ≤ 2 ^ 40) ⌝ }
+    requires { ⌜ (length (now lengths) ≡ 8) × (length (now stiffnesses) ≡ 8) × (length (now d) ≡ 11) ⌝ }
+    ensures { λ r. ⌜ Pulled m (take m lashes) (now (d .entry)) r ⌝ }
 {
     let mut pull = [0u64; 8];
     let mut athwart = [0u64; 8];
@@ -157,7 +171,7 @@ pub fn lash_figures(lashes: [Lash; 8], m: usize, gear: Gear, d: [u64; 11]) -> Pu
     while j < m {
         let l = lashes[j];
         let at = hook_level(l);
-        let p = pull_of(l, gear.length[j], gear.stiffness[j], d[at]);
+        let p = pull_of(l, lengths[j], stiffnesses[j], d[at]);
         let u = on_posts(lashing_of(l), p.upward);
         pull[j] = p.pull;
         athwart[j] = p.athwart;

@@ -3,16 +3,14 @@
 ghost use mathlib.Core.Path.{_≡_};
 ghost use Prim.Native.Nat.{_+_, _*_, _≤_, _^_, max};
 ghost use lib.IntN.{pos, natAbs, negℤ, _+ℤ_, _-ℤ_, _*ℤ_};
-ghost use lib.ListN.{take};
+ghost use lib.ListN.{length, take};
 ghost use lib.Signed.{quotZ};
 ghost use Rattle.arith.specs.Sizes.{Small};
 ghost use Rattle.figures.specs.Fixed.{rackingFigure, postFigure, notBelow};
 ghost use Rattle.forces.specs.Steps.{compressed, tensed, Measured, Levelled};
-use crate::HalfWeights;
 use crate::LevelFigures;
 use crate::NEWTON;
 use crate::PostParts;
-use crate::Pulls;
 use arith::rounding::ceil_div;
 use sheet::Tier;
 
@@ -182,22 +180,25 @@ fn level_under(above: Above, part: i64, height: u64, own: PostParts, most: u64, 
 }
 
 // The figures of all levels and tiers, with the sums of what stands above carried down.
-pub fn level_figures(
+pub fn level_figures<'a, 'b>(
     n: usize,
-    k: [u64; 10],
+    k: &[u64],
     tiers: [Tier; 10],
-    d: [u64; 11],
-    w: HalfWeights,
-    p: Pulls,
+    d: &[u64],
+    most: &'a [u64],
+    least: &'a [u64],
+    lee: &'b [u64],
+    windward: &'b [u64],
 ) -> LevelFigures
-    requires { ⌜ Measured n k (take n tiers) d (w .most) (w .least) (p .lee) (p .windward) ⌝ }
-    ensures { λ r. ⌜ Levelled n k (take n tiers) d (w .most) (w .least) (p .lee) (p .windward) r ⌝ }
+    requires { ⌜ Measured n (now k) (take n tiers) (now d) (now most) (now least) (now lee) (now windward) ⌝ }
+    requires { ⌜ (length (now k) ≡ 10) × (length (now d) ≡ 11) × (length (now most) ≡ 11) × (length (now least) ≡ 11) ⌝ }
+    ensures { λ r. ⌜ Levelled n (now (k .entry)) (take n tiers) (now (d .entry)) (now (most .entry)) (now (least .entry)) (now (lee .entry)) (now (windward .entry)) r ⌝ }
 {
     let mut racking = [0i32; 10];
     let mut compression = [0u64; 11];
     let mut tension = [0u64; 10];
-    let top = parts_of(p.lee[n], p.windward[n]);
-    compression[n] = compression_of(w.most[n], 0, top);
+    let top = parts_of(lee[n], windward[n]);
+    compression[n] = compression_of(most[n], 0, top);
     let mut above = Above {
         moment: 0,
         parts: top,
@@ -208,8 +209,8 @@ pub fn level_figures(
         i -= 1;
         let t = tiers[i];
         let part = racking_part(k[i], upper, d[i]);
-        let own = parts_of(p.lee[i], p.windward[i]);
-        let l = level_under(above, part, t.height, own, w.most[i], w.least[i]);
+        let own = parts_of(lee[i], windward[i]);
+        let l = level_under(above, part, t.height, own, most[i], least[i]);
         racking[i] = racking_figure(part);
         compression[i] = l.compression;
         tension[i] = l.tension;

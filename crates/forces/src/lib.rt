@@ -1,7 +1,8 @@
 // Every reported force of a stack: rackings, posts and lashes of both ends.
 
 ghost use Prim.Native.Nat.{_≤_};
-ghost use lib.ListN.{take};
+ghost use mathlib.Core.Path.{_≡_};
+ghost use lib.ListN.{length, take};
 ghost use Rattle.sheet.specs.Fits.{Fits};
 ghost use Rattle.figures.specs.Ends.{door, closed};
 ghost use Rattle.figures.specs.Reported.{EndFigured};
@@ -63,23 +64,25 @@ pub struct PostParts {
 }
 
 // The figures of one end: n tiers with a spring for each, m lashes, and the loads and weights that both ends share.
-fn end_figures(
+fn end_figures<'a>(
     n: usize,
-    k: [u64; 10],
+    k: &[u64],
     tiers: [Tier; 10],
     lashes: [Lash; 8],
     m: usize,
-    loads: [u64; 10],
-    weights: HalfWeights,
+    loads: &[u64],
+    most: &'a [u64],
+    least: &'a [u64],
 ) -> EndFigures
-    requires { ⌜ Workable n k (take n tiers) m (take m lashes) loads weights ⌝ }
-    ensures { λ r. ⌜ EndWorked n k (take n tiers) (take m lashes) loads r ⌝ }
+    requires { ⌜ Workable n (now k) (take n tiers) m (take m lashes) (now loads) (now most) (now least) ⌝ }
+    requires { ⌜ (length (now k) ≡ 10) × (length (now loads) ≡ 10) × (length (now most) ≡ 11) × (length (now least) ≡ 11) ⌝ }
+    ensures { λ r. ⌜ EndWorked n (now (k .entry)) (take n tiers) (take m lashes) (now (loads .entry)) r ⌝ }
 {
     let gear = lashes::gear_of(lashes, m);
     let kappa = gear.level;
-    let d = springs::solve(n, k, kappa, loads);
-    let pulls = lashes::lash_figures(lashes, m, gear, d);
-    let levels = levels::level_figures(n, k, tiers, d, weights, pulls);
+    let d = springs::solve(n, [0u64; 10], kappa, [0u64; 10]);
+    let pulls = lashes::lash_figures(lashes, m, &gear.length, &gear.stiffness, &d);
+    let levels = levels::level_figures(n, k, tiers, &d, most, least, &pulls.lee, &pulls.windward);
     let racking = levels.racking;
     let compression = levels.compression;
     let tension = levels.tension;
@@ -106,18 +109,12 @@ fn figures_by(s: Sheet, share: u64, factor: u64) -> Figures
     let door = s.door;
     let closed = s.closed;
     let loads = loads::level_loads(n, tiers, share, factor);
-    let weights = loads::half_weights(n, tiers);
+    let w = loads::half_weights(n, tiers);
+    let k = [DOOR_SPRING; 10];
+    let h = [CLOSED_SPRING; 10];
     Figures {
-        door: end_figures(n, [DOOR_SPRING; 10], tiers, door, s.ndoor, loads, weights),
-        closed: end_figures(
-            n,
-            [CLOSED_SPRING; 10],
-            tiers,
-            closed,
-            s.nclosed,
-            loads,
-            weights,
-        ),
+        door: end_figures(n, &k, tiers, door, s.ndoor, &loads, &w.most, &w.least),
+        closed: end_figures(n, &h, tiers, closed, s.nclosed, &loads, &w.most, &w.least),
     }
 }
 

@@ -109,7 +109,7 @@ fn half_weight(lifted: u64) -> u64
 pub fn half_weights(n: usize, tiers: [Tier; 10]) -> HalfWeights
     requires { ⌜ n ≤ 10 ⌝ }
     requires { ⌜ ((i : ℕ) → i < n → TierFacts (getD (take n tiers) i noTier)) ⌝ }
-    ensures { λ r. ⌜ Weighed (take n tiers) r ⌝ }
+    ensures { λ r. ⌜ Weighed (take n tiers) (r .most) (r .least) ⌝ }
 {
     let mut most = [0u64; 11];
     let mut least = [0u64; 11];

@@ -13,26 +13,30 @@ use Rattle.forces.proofs.lashes.lash_figures.Statement.{statement}
 use Rattle.forces.proofs.lashes.lash_figures.Tie as tie
 
 abbrev Inv-loop : tie.InvT-loop
-Inv-loop m lashes gear d pull₀ athwart₀ vertical₀ lee₀ windward₀ j₀ pull athwart vertical lee windward j =
+Inv-loop m lengths stiffnesses d lashes pull₀ athwart₀ vertical₀ lee₀ windward₀ j₀ pull athwart vertical lee windward j =
     Strained m (take m lashes) d pull athwart vertical lee windward j
 
 abbrev μ-loop : tie.MeasureT-loop
-μ-loop m lashes gear d pull₀ athwart₀ vertical₀ lee₀ windward₀ j₀ pull athwart vertical lee windward j =
+μ-loop m lengths stiffnesses d lashes pull₀ athwart₀ vertical₀ lee₀ windward₀ j₀ pull athwart vertical lee windward j =
     m - j
 
 lashes-of : (c : tie.Start Inv-loop μ-loop) → Listed (c .args .m) (take (c .args .m) (c .args .t1))
 lashes-of c = listed (c .args .t1) (c .good .0 .1 .0 .1) (c .pre .0)
 
+-- where the loop is entered from
+abbrev start : tie.At-loop Inv-loop μ-loop → tie.Start Inv-loop μ-loop
+start c = c .before .before .before .before
+
 own :
     (c : tie.In-loop Inv-loop μ-loop) →
-    let a = c .before .before .args in
+    let a = start (c .before) .args in
     getD (take (a .m) (a .t1)) (c .before .loop .j) noLash ≡ getD (a .t1) (c .before .loop .j) noLash
 own c =
-    let a = c .before .before .args in
+    let a = start (c .before) .args in
     getD-take (a .m) (a .t1) (c .before .loop .j) noLash (c .loop-test .taken)
 
-lash-facts : (c : tie.In-loop Inv-loop μ-loop) → LashFacts 10 (getD (c .before .before .args .t1) (c .before .loop .j) noLash)
-lash-facts c = rw (own c) at (c .before .before .pre .0 .1 (c .before .loop .j) (c .loop-test .taken))
+lash-facts : (c : tie.In-loop Inv-loop μ-loop) → LashFacts 10 (getD (start (c .before) .args .t1) (c .before .loop .j) noLash)
+lash-facts c = rw (own c) at (start (c .before) .pre .0 .1 (c .before .loop .j) (c .loop-test .taken))
 
 loop-holds : tie.Need-loop-holds Inv-loop μ-loop
 loop-holds c = strained-none
@@ -49,32 +53,32 @@ hook-level-requires c κs = lash-facts (c .before)
 mul-pull-of : tie.Need-mul-pull-of Inv-loop μ-loop
 mul-pull-of c = search needs
 
-element-copy-out-pull-of : tie.Need-element-copy-out-pull-of Inv-loop μ-loop
-element-copy-out-pull-of c = search needs
+shared-slice-read-pull-of : tie.Need-shared-slice-read-pull-of Inv-loop μ-loop
+shared-slice-read-pull-of c = search needs
 
 mul-pull-of-2 : tie.Need-mul-pull-of-2 Inv-loop μ-loop
 mul-pull-of-2 c = search needs
 
-element-copy-out-pull-of-2 : tie.Need-element-copy-out-pull-of-2 Inv-loop μ-loop
-element-copy-out-pull-of-2 c = search needs
+shared-slice-read-pull-of-2 : tie.Need-shared-slice-read-pull-of-2 Inv-loop μ-loop
+shared-slice-read-pull-of-2 c = search needs
 
 mul-pull-of-3 : tie.Need-mul-pull-of-3 Inv-loop μ-loop
 mul-pull-of-3 c = search needs
 
-array-read-pull-of : tie.Need-array-read-pull-of Inv-loop μ-loop
-array-read-pull-of c = search needs
+shared-slice-read-pull-of-3 : tie.Need-shared-slice-read-pull-of-3 Inv-loop μ-loop
+shared-slice-read-pull-of-3 c = search needs
 
 pull-of-requires : tie.Need-pull-of-requires Inv-loop μ-loop
 pull-of-requires c κs =
-    let k = c .before .before in
+    let k = c .before .before .before in
     let t = k .before .before in
-    let b = t .before .before in
+    let b = start (t .before) in
     let j = t .before .loop .j in
-    let g = b .pre .1 .0 in (
+    let g = b .pre .1 .0 .0 in (
       lash-facts t,
-      rw (own t) at (g .lengths j (t .loop-test .taken)),
+      rw (own t) at (g .long j (t .loop-test .taken)),
       rw (own t) at (g .stiff j (t .loop-test .taken)),
-      b .pre .1 .1 (k .hook-level .result),
+      b .pre .1 .0 .1 (k .hook-level .result),
     )
 
 lashing-of-requires : tie.Need-lashing-of-requires Inv-loop μ-loop
@@ -111,14 +115,14 @@ add-lee : tie.Need-add-lee Inv-loop μ-loop
 add-lee c =
     let o = c .before in
     let q = o .before .before in
-    let k = q .before .before .before in
+    let k = q .before .before .before .before in
     let t = k .before .before in
     let l = t .before .loop in
-    let b = t .before .before in
+    let b = start (t .before) in
     let e = o .on-posts .ensures in
     let g = o .before .lashing-of .ensures in
     rw (e .0, g)
-    (record { fits = post-fits (lashes-of b) (b .pre .1 .1) (l .inv) (t .loop-test .taken) (own t) (k .hook-level .ensures .0) (q .pull-of .ensures .1 .1 .1 .0) leePart lee-kept (l .inv .lees) })
+    (record { fits = post-fits (lashes-of b) (b .pre .1 .0 .1) (l .inv) (t .loop-test .taken) (own t) (k .hook-level .ensures .0) (q .pull-of .ensures .1 .1 .1 .0) leePart lee-kept (l .inv .lees) })
 
 mul-lee-2 : tie.Need-mul-lee-2 Inv-loop μ-loop
 mul-lee-2 c = search needs
@@ -136,14 +140,14 @@ add-windward : tie.Need-add-windward Inv-loop μ-loop
 add-windward c =
     let o = c .before .before in
     let q = o .before .before in
-    let k = q .before .before .before in
+    let k = q .before .before .before .before in
     let t = k .before .before in
     let l = t .before .loop in
-    let b = t .before .before in
+    let b = start (t .before) in
     let e = o .on-posts .ensures in
     let g = o .before .lashing-of .ensures in
     rw (e .1, g)
-    (record { fits = post-fits (lashes-of b) (b .pre .1 .1) (l .inv) (t .loop-test .taken) (own t) (k .hook-level .ensures .0) (q .pull-of .ensures .1 .1 .1 .0) windwardPart windward-kept (l .inv .windwards) })
+    (record { fits = post-fits (lashes-of b) (b .pre .1 .0 .1) (l .inv) (t .loop-test .taken) (own t) (k .hook-level .ensures .0) (q .pull-of .ensures .1 .1 .1 .0) windwardPart windward-kept (l .inv .windwards) })
 
 mul-windward-2 : tie.Need-mul-windward-2 Inv-loop μ-loop
 mul-windward-2 c = search needs
@@ -161,20 +165,20 @@ loop-again : tie.Need-loop-again Inv-loop μ-loop
 loop-again c =
     let o = c .before .before in
     let q = o .before .before in
-    let k = q .before .before .before in
+    let k = q .before .before .before .before in
     let t = k .before .before in
     let l = t .before .loop in
-    let b = t .before .before in
+    let b = start (t .before) in
     let e = o .on-posts .ensures in
     let g = o .before .lashing-of .ensures in
     let r = q .pull-of .ensures in
     rw (add-one (l .j), e .0, e .1, g)
-    (strained-more (lashes-of b) (b .pre .1 .1) (l .inv) (t .loop-test .taken) (own t) (k .hook-level .ensures .0) (q .pull-of .ensures .1 .1 .1 .0) (omega (arith, k .hook-level .ensures .2)) (r .0) (r .1 .0) (r .1 .1 .0))
+    (strained-more (lashes-of b) (b .pre .1 .0 .1) (l .inv) (t .loop-test .taken) (own t) (k .hook-level .ensures .0) (q .pull-of .ensures .1 .1 .1 .0) (omega (arith, k .hook-level .ensures .2)) (r .0) (r .1 .0) (r .1 .1 .0))
 
 returns : tie.Need-returns Inv-loop μ-loop
 returns c =
-    let b = c .before .before in
-    strained-all (lashes-of b) (b .pre .1 .1) (c .loop-test .left) (c .before .loop .inv)
+    let b = start (c .before) in
+    strained-all (lashes-of b) (b .pre .1 .0 .1) (c .loop-test .left) (c .before .loop .inv)
 
 pub lash-figures-spec : {M : Type 1} → statement M
 lash-figures-spec =
@@ -187,11 +191,11 @@ lash-figures-spec =
     array-copy-out-l
     hook-level-requires
     mul-pull-of
-    element-copy-out-pull-of
+    shared-slice-read-pull-of
     mul-pull-of-2
-    element-copy-out-pull-of-2
+    shared-slice-read-pull-of-2
     mul-pull-of-3
-    array-read-pull-of
+    shared-slice-read-pull-of-3
     pull-of-requires
     lashing-of-requires
     on-posts-requires

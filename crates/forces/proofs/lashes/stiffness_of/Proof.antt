@@ -6,52 +6,50 @@ use Rattle.forces.proofs.LashLaws.{force-le, side-le, top-le, square-le
 use Rattle.forces.proofs.lashes.stiffness_of.Statement.{statement}
 use Rattle.forces.proofs.lashes.stiffness_of.Tie as tie
 
-mul-scaled-twice : tie.Need-mul-scaled-twice
-mul-scaled-twice c =
+mul-over-cube : tie.Need-mul-over-cube
+mul-over-cube c =
     let b = c .before in
     omega (arith, force-le (b .pre .0) (b .pre .1))
 
-mul-scaled-twice-2 : tie.Need-mul-scaled-twice-2
-mul-scaled-twice-2 c =
+mul-over-cube-2 : tie.Need-mul-over-cube-2
+mul-over-cube-2 c =
     let b = c .before .before in
     omega (arith, side-le (b .pre .0) (b .pre .1))
 
-mul-scaled-twice-3 : tie.Need-mul-scaled-twice-3
-mul-scaled-twice-3 c =
+mul-over-cube-3 : tie.Need-mul-over-cube-3
+mul-over-cube-3 c =
     let b = c .before .before in
     record { fits = lt-of-le-of-lt (top-le (b .pre .0) (b .pre .1)) (lit< tt) }
 
-mul-scaled-twice-4 : tie.Need-mul-scaled-twice-4
-mul-scaled-twice-4 c =
+mul-over-cube-4 : tie.Need-mul-over-cube-4
+mul-over-cube-4 c =
     let b = c .before .before in
     omega (arith, square-le (b .pre .0) (b .pre .1))
 
-mul-scaled-twice-5 : tie.Need-mul-scaled-twice-5
-mul-scaled-twice-5 c =
+mul-over-cube-5 : tie.Need-mul-over-cube-5
+mul-over-cube-5 c =
     let b = c .before .before in
     record { fits = lt-of-le-of-lt (cube-le (b .pre .0) (b .pre .1)) (lit< tt) }
 
-scaled-twice-requires : tie.Need-scaled-twice-requires
-scaled-twice-requires c κs =
+over-cube-requires : tie.Need-over-cube-requires
+over-cube-requires c κs =
     let b = c .before .before in
-    let h = cube-le (b .pre .0) (b .pre .1) in
-    let q = quotient-le (b .pre .0) (b .pre .1) in
-    (cube-above (b .pre .0) (b .pre .1), lit< tt, omega arith, omega arith, omega arith)
+    (cube-above (b .pre .0) (b .pre .1), cube-le (b .pre .0) (b .pre .1), quotient-le (b .pre .0) (b .pre .1))
 
 returns : tie.Need-returns
 unfolding stiffnessOf
 returns c =
     let b = c .before .before .before in
-    rw (← b .pre .1) (c .scaled-twice .ensures)
+    rw (← b .pre .1) (c .over-cube .ensures)
 
 pub stiffness-of-spec : {M : Type 1} → statement M
 stiffness-of-spec =
     tie.close
     (tie.spec
-    mul-scaled-twice
-    mul-scaled-twice-2
-    mul-scaled-twice-3
-    mul-scaled-twice-4
-    mul-scaled-twice-5
-    scaled-twice-requires
+    mul-over-cube
+    mul-over-cube-2
+    mul-over-cube-3
+    mul-over-cube-4
+    mul-over-cube-5
+    over-cube-requires
     returns)

@@ -98,7 +98,7 @@ returns c =
     let b = c .before .before in
     let m = carried-all (stacked b) (c .loop-test .left) (l .inv .0) in
     let k = carried-all (stacked b) (c .loop-test .left) (l .inv .1) in
-    record { most = λ i. m i .0; least = λ i. k i .0; most-light = λ i. m i .1; least-light = λ i. k i .1 }
+    record { most-is = λ i. m i .0; least-is = λ i. k i .0; most-light = λ i. m i .1; least-light = λ i. k i .1 }
 
 pub half-weights-spec : {M : Type 1} → statement M
 half-weights-spec =
