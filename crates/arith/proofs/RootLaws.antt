@@ -1,29 +1,70 @@
--- Least roots by halving, and how far a line's length lies above its longest side.
-use Prim.Native.Nat.{ℕ, _+_, _*_, _<_, _≤_}
-use native.Mathlib.Nat.{mul-le-mul}
+-- Least roots by Newton's steps from above: each number tried has a square that is enough.
+use Prim.Native.Nat.{ℕ, _+_, _*_, _-_, _/_, _<_, _≤_}
+use mathlib.Core.Path.{_≡_, sym, subst}
+use native.Mathlib.Nat.{mul-le-mul, lt-div-mul-add, div-le-of-le-mul}
+use native.Mathlib.Decide.{decLe}
 use native.Mathlib.Omega.{arith}
 use Rattle.arith.specs.Roots.{Least}
 
--- the last step: lo is too small, and the next number is enough
-module _ (s lo : ℕ) (below : lo * lo < s) where
-  too-small : (k : ℕ) → s ≤ k * k → k < lo + 1 → ⊥
+-- the square of each side is at most that of the longest
+module _ (x y z m : ℕ) (xm : x ≤ m) (ym : y ≤ m) (zm : z ≤ m) where
+  pub sides-le : x * x + y * y + z * z ≤ 3 * (m * m)
+  sides-le = omega (arith, mul-le-mul xm xm, mul-le-mul ym ym, mul-le-mul zm zm)
+
+-- the first number: 2 m for each further one is less than the square grows by
+module _ (s m : ℕ) (positive : 0 < m) (low : m * m ≤ s) where
+  pub above-enough : s ≤ (m + (s - m * m) / (2 * m) + 1) * (m + (s - m * m) / (2 * m) + 1)
+  above-enough =
+      let twice : 0 < 2 * m = omega arith in
+      enough (s - m * m) ((s - m * m) / (2 * m)) (omega arith) (lt-div-mul-add twice)
+    where
+      enough : (r q : ℕ) → s ≡ m * m + r → r < q * (2 * m) + 2 * m → s ≤ (m + q + 1) * (m + q + 1)
+      enough r q e l = omega arith
+
+  pub above-le : s ≤ 3 * (m * m) → (s - m * m) / (2 * m) ≤ m
+  above-le h = div-le-of-le-mul (2 * m) (omega arith)
+
+-- four times a product is at most the square of the sum
+four-from : (a d : ℕ) → 4 * (a * (a + d)) ≤ (a + (a + d)) * (a + (a + d))
+four-from a d = omega arith
+
+four-le : (a b : ℕ) → a ≤ b → 4 * (a * b) ≤ (a + b) * (a + b)
+four-le a b l =
+    let e : a + (b - a) ≡ b = omega arith in
+    subst (λ (z : ℕ). 4 * (a * z) ≤ (a + z) * (a + z)) e (four-from a (b - a))
+
+four : (a b : ℕ) → Dec (a ≤ b) → 4 * (a * b) ≤ (a + b) * (a + b)
+four a b (yes l) = four-le a b l
+four a b (no l) = omega (arith, four-le b a (omega arith))
+
+-- a step: with q the quotient, the next number is more than half of x + q, and s is less than x (q + 1)
+module _ (s x : ℕ) (positive : 0 < x) (enough : s ≤ x * x) where
+  pub quotient-le : s / x ≤ x
+  quotient-le = div-le-of-le-mul x enough
+
+  pub step-enough : s ≤ ((x + s / x) / 2 + 1) * ((x + s / x) / 2 + 1)
+  step-enough = go (s / x) ((x + s / x) / 2 + 1) (omega arith) (lt-div-mul-add positive)
+    where
+      go : (q y : ℕ) → x + (q + 1) ≤ 2 * y → s < q * x + x → s ≤ y * y
+      go q y h l = omega (arith, four x (q + 1) (decLe x (q + 1)), mul-le-mul h h)
+
+-- a number whose square is enough is not below one whose square is not more than s
+module _ (s m x : ℕ) (low : m * m ≤ s) (enough : s ≤ x * x) where
+  pub not-below : m ≤ x
+  not-below = go (decLe m x)
+    where
+      go : Dec (m ≤ x) → m ≤ x
+      go (yes l) = l
+      go (no l) =
+          let k : x + 1 ≤ m = omega arith in
+          omega (arith, mul-le-mul k k)
+
+-- the last number: the one below it is too small
+module _ (s x : ℕ) (positive : 0 < x) (below : (x - 1) * (x - 1) < s) where
+  too-small : (k : ℕ) → s ≤ k * k → k < x → ⊥
   too-small k h q =
-      let l : k ≤ lo = omega arith in
+      let l : k ≤ x - 1 = omega arith in
       omega (arith, mul-le-mul l l)
 
-  above : (k : ℕ) → s ≤ k * k → lo + 1 ≤ k
-  above k h = omega (arith, too-small k h)
-
-  pub last-step : s ≤ (lo + 1) * (lo + 1) → Least s (lo + 1)
-  last-step enough = record { enough = enough; least = above }
-
--- the first step: what is below the longest side is too small
-pub smaller-square : {k m : ℕ} → k < m → k * k < m * m
-smaller-square {k} {m} h =
-    let l : k + 1 ≤ m = omega arith in
-    omega (arith, mul-le-mul l l)
-
--- and 5,000 above it is enough
-module _ (x y z m : ℕ) (xm : x ≤ m) (ym : y ≤ m) (zm : z ≤ m) (x5 : x ≤ 5000) (y10 : y ≤ 10000) where
-  pub side-enough : x * x + y * y + z * z ≤ (m + 5000) * (m + 5000)
-  side-enough = omega (arith, mul-le-mul x5 x5, mul-le-mul y10 ym, mul-le-mul zm zm)
+  pub last-number : s ≤ x * x → Least s x
+  last-number enough = record { enough = enough; least = λ k h. omega (arith, too-small k h) }

@@ -29,27 +29,36 @@ fn square(x: u64) -> u64
     x * x
 }
 
-// The least root of s, found by halving, from a side m on and no more than 5,000 above it: lo is too small, hi is
-// enough.
-fn least_root(s: u64, m: u64) -> u64
-    requires { ⌜ (0 < m) × (m ≤ 20000) × (m * m ≤ s) × (s ≤ (m + 5000) * (m + 5000)) ⌝ }
-    ensures { λ r. ⌜ Least s r × (m ≤ r) ⌝ }
+// A first number whose square is s or more, from the side m: the line that touches the square at m lies under it.
+fn above(s: u64, m: u64) -> u64
+    requires { ⌜ (0 < m) × (m ≤ 20000) × (m * m ≤ s) × (s ≤ 3 * (m * m)) ⌝ }
+    ensures { λ r. ⌜ (s ≤ r * r) × (0 < r) × (r ≤ 40001) ⌝ }
 {
-    let mut lo = m - 1;
-    let mut hi = m + 5000;
-    while lo + 1 < hi {
-        let mid = lo + (hi - lo) / 2;
-        if mid * mid < s {
-            lo = mid;
-        } else {
-            hi = mid;
-        }
-    }
-    lo + 1
+    m + (s - m * m) / (2 * m) + 1
 }
 
-// The least whole length whose square is the sum of the sides' squares or more. Within these limits it is at most
-// 5,000 above the longest side.
+// Newton's step, rounded up: nearer the root, and the square is still s or more.
+fn nearer(s: u64, x: u64) -> u64
+    requires { ⌜ (s ≤ x * x) × (0 < x) × (x ≤ 40002) ⌝ }
+    ensures { λ r. ⌜ (s ≤ r * r) × (0 < r) × (r ≤ x + 1) ⌝ }
+{
+    (x + s / x) / 2 + 1
+}
+
+// The least root of s, a sum of three squares whose longest side is m. Unlike a search by halving, Newton's steps have no
+// branch to guess, and the loop after them seldom turns.
+fn least_root(s: u64, m: u64) -> u64
+    requires { ⌜ (0 < m) × (m ≤ 20000) × (m * m ≤ s) × (s ≤ 3 * (m * m)) ⌝ }
+    ensures { λ r. ⌜ Least s r × (m ≤ r) ⌝ }
+{
+    let mut x = nearer(s, nearer(s, above(s, m)));
+    while s <= (x - 1) * (x - 1) {
+        x -= 1;
+    }
+    x
+}
+
+// The least whole length whose square is the sum of the sides' squares or more.
 pub fn length(lx: u64, ly: u64, lz: u64) -> u64
     requires { ⌜ (lx ≤ 5000) × (0 < ly) × (ly ≤ 10000) × (lz ≤ 20000) ⌝ }
     ensures { λ r. ⌜ Least (lx * lx + ly * ly + lz * lz) r × (lx ≤ r) × (ly ≤ r) × (lz ≤ r) × (r ≤ 22913) ⌝ }

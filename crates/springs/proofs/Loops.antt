@@ -11,7 +11,7 @@ use Rattle.springs.specs.Steps.{stiffnessDown, loadDown, shiftUp, InRang
 use Rattle.springs.proofs.Ranges.{later, in-range, load-in-range, far-at}
 
 -- a new array holds zeros
-zeros : (m j : ℕ) → _≡_ {A = ℕ} (getD (replicate m 0) j 0) 0
+pub zeros : (m j : ℕ) → _≡_ {A = ℕ} (getD (replicate m 0) j 0) 0
 zeros zero j = refl
 zeros (suc m) zero = refl
 zeros (suc m) (suc j) = zeros m j
@@ -23,12 +23,12 @@ pub record Down (n : ℕ) (k κ ω x y : List ℕ) (i : ℕ) : Type 0 where
   pub long-y : length y ≡ 11
   pub done : HandedDown i n k κ ω x y
 
-pub down-start : (n : ℕ) (k κ ω : List ℕ) → Down n k κ ω (replicate 11 0) (replicate 11 0) n
-down-start n k κ ω = record {
+pub down-start : (n : ℕ) (k κ ω x y : List ℕ) → length x ≡ 11 → length y ≡ 11 → getD x n 0 ≡ 0 → getD y n 0 ≡ 0 → Down n k κ ω x y n
+down-start n k κ ω x y lx ly x0 y0 = record {
   within = omega arith;
-  long-x = refl;
-  long-y = refl;
-  done = record { top-stiffness = zeros 11 n; top-load = zeros 11 n; stiffness = λ j h l. absurd (omega arith); load = λ j h l. absurd (omega arith) };
+  long-x = lx;
+  long-y = ly;
+  done = record { top-stiffness = x0; top-load = y0; stiffness = λ j h l. absurd (omega arith); load = λ j h l. absurd (omega arith) };
 }
 
 -- a turn at tier i, of the entry j

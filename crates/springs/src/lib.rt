@@ -1,7 +1,9 @@
 // One end of a stack as a chain of springs: the shifts of its levels, in whole numbers. From the top down, each level learns what stiffness and load
 // the tiers over it hand down to it; then, from the deck up, each level's shift follows from the one under it.
+// Arrays are lent as slices, so that no call copies them.
 ghost use mathlib.Core.Path.{_≡_};
-ghost use Prim.Native.Nat.{_+_, _≤_};
+ghost use Prim.Native.Nat.{_+_, _<_, _≤_};
+ghost use lib.ListN.{length, getD};
 ghost use Rattle.springs.specs.Promise.{farthest, Solvable, Promised};
 ghost use Rattle.springs.specs.Steps.{stiffnessDown, loadDown, shiftUp, InRange, mostLoad, HandedDown, Climbed};
 use arith::rounding::scaled;
@@ -47,18 +49,12 @@ fn shift_up(k: u64, kappa: u64, omega: u64, x: u64, y: u64, p: u64) -> u64
     scaled(load + k * p, SCALE, k * SCALE + held)
 }
 
-// What is handed down to each level, 1 to n. The deck needs nothing.
-struct Handed {
-    stiffness: [u64; 11],
-    load: [u64; 11],
-}
-
-fn hand_down(n: usize, k: [u64; 10], kappa: [u64; 10], omega: [u64; 10]) -> Handed
-    requires { ⌜ Solvable n k kappa omega ⌝ }
-    ensures { λ r. ⌜ HandedDown 1 n k kappa omega (r .stiffness) (r .load) ⌝ }
+// What is handed down to each level, 1 to n: stiffness to x, load to y, where level n gets nothing. The deck needs nothing.
+fn hand_down(n: usize, k: &[u64], kappa: &[u64], omega: &[u64], x: &mut [u64], y: &mut [u64])
+    requires { ⌜ Solvable n (now k) (now kappa) (now omega) × (n ≤ length (now k)) × (n ≤ length (now kappa)) × (n ≤ length (now omega)) ⌝ }
+    requires { ⌜ (length (now x) ≡ 11) × (length (now y) ≡ 11) × (getD (now x) n 0 ≡ 0) × (getD (now y) n 0 ≡ 0) ⌝ }
+    ensures { λ _. ⌜ HandedDown 1 n (now (k .entry)) (now (kappa .entry)) (now (omega .entry)) (now (x .exit)) (now (y .exit)) ⌝ }
 {
-    let mut x = [0u64; 11];
-    let mut y = [0u64; 11];
     let mut i = n;
     while 1 < i {
         let j = i - 1;
@@ -68,23 +64,13 @@ fn hand_down(n: usize, k: [u64; 10], kappa: [u64; 10], omega: [u64; 10]) -> Hand
         y[j] = load;
         i = j;
     }
-    Handed {
-        stiffness: x,
-        load: y,
-    }
 }
 
 // The shifts of levels 0 to n, where x and y are handed down.
-fn climb(
-    n: usize,
-    k: [u64; 10],
-    kappa: [u64; 10],
-    omega: [u64; 10],
-    x: [u64; 11],
-    y: [u64; 11],
-) -> [u64; 11]
-    requires { ⌜ Solvable n k kappa omega × HandedDown 1 n k kappa omega x y ⌝ }
-    ensures { λ r. ⌜ Climbed n k kappa omega x y r ⌝ }
+fn climb(n: usize, k: &[u64], kappa: &[u64], omega: &[u64], x: &[u64], y: &[u64]) -> [u64; 11]
+    requires { ⌜ Solvable n (now k) (now kappa) (now omega) × (n ≤ length (now k)) × (n ≤ length (now kappa)) × (n ≤ length (now omega)) ⌝ }
+    requires { ⌜ HandedDown 1 n (now k) (now kappa) (now omega) (now x) (now y) × (n < length (now x)) × (n < length (now y)) ⌝ }
+    ensures { λ r. ⌜ Climbed n (now (k .entry)) (now (kappa .entry)) (now (omega .entry)) (now (x .entry)) (now (y .entry)) r ⌝ }
 {
     let mut d = [0u64; 11];
     let mut i = 0;
@@ -98,12 +84,12 @@ fn climb(
 
 // The shifts of levels 0 to n, in 2^-28 mm, of n tiers: k their springs, in N/mm; of the level over each, kappa the stiffness of its lashes, in 2^-22 N/mm,
 // and omega its load, in 2^-28 N.
-pub fn solve(n: usize, k: [u64; 10], kappa: [u64; 10], omega: [u64; 10]) -> [u64; 11]
-    requires { ⌜ Solvable n k kappa omega ⌝ }
-    ensures { λ r. ⌜ Promised n k kappa omega r ⌝ }
+pub fn solve(n: usize, k: &[u64], kappa: &[u64], omega: &[u64]) -> [u64; 11]
+    requires { ⌜ Solvable n (now k) (now kappa) (now omega) × (n ≤ length (now k)) × (n ≤ length (now kappa)) × (n ≤ length (now omega)) ⌝ }
+    ensures { λ r. ⌜ Promised n (now (k .entry)) (now (kappa .entry)) (now (omega .entry)) r ⌝ }
 {
-    let handed = hand_down(n, k, kappa, omega);
-    let x = handed.stiffness;
-    let y = handed.load;
-    climb(n, k, kappa, omega, x, y)
+    let mut x = [0u64; 11];
+    let mut y = [0u64; 11];
+    hand_down(n, k, kappa, omega, &mut x, &mut y);
+    climb(n, k, kappa, omega, &x, &y)
 }

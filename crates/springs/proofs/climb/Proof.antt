@@ -1,11 +1,11 @@
 -- `springs::climb` meets its contract: at each turn levels 0 to i have their shifts (Loops).
-use borrow.Author.Needs.{needs}
 use mathlib.Core.Path.{subst}
 use Prim.Native.Nat.{ℕ, _+_, _-_}
 use native.Mathlib.Omega.{arith}
 use native.Mathlib.Numerals.{add-one}
 use Rattle.springs.specs.Steps.{Climbed}
 use Rattle.springs.proofs.Loops.{Up, up-start, up-ready, up-next}
+use borrow.Author.Needs.{needs}
 use Rattle.springs.proofs.climb.Statement.{statement}
 use Rattle.springs.proofs.climb.Tie as tie
 
@@ -16,7 +16,9 @@ abbrev μ-loop : tie.MeasureT-loop
 μ-loop n k kappa omega x y d₀ i₀ d i = n - i
 
 loop-holds : tie.Need-loop-holds Inv-loop μ-loop
-loop-holds c = let g = c .args in up-start (g .n) (g .t2) (g .t3) (g .t4) (g .t5) (g .t6)
+loop-holds c =
+    let g = c .before .before .before .before .before .args in
+    up-start (g .n) (g .k .now) (g .kappa .now) (g .omega .now) (g .x .now) (g .y .now)
 
 add-j : tie.Need-add-j Inv-loop μ-loop
 add-j c = search needs
@@ -24,41 +26,45 @@ add-j c = search needs
 mul-shift-up : tie.Need-mul-shift-up Inv-loop μ-loop
 mul-shift-up c = search needs
 
-array-read-shift-up : tie.Need-array-read-shift-up Inv-loop μ-loop
-array-read-shift-up c = search needs
+shared-slice-read-shift-up : tie.Need-shared-slice-read-shift-up Inv-loop μ-loop
+shared-slice-read-shift-up c = search needs
 
 mul-shift-up-2 : tie.Need-mul-shift-up-2 Inv-loop μ-loop
 mul-shift-up-2 c = search needs
 
-array-read-shift-up-2 : tie.Need-array-read-shift-up-2 Inv-loop μ-loop
-array-read-shift-up-2 c = search needs
+shared-slice-read-shift-up-2 : tie.Need-shared-slice-read-shift-up-2 Inv-loop μ-loop
+shared-slice-read-shift-up-2 c = search needs
 
 mul-shift-up-3 : tie.Need-mul-shift-up-3 Inv-loop μ-loop
 mul-shift-up-3 c = search needs
 
-array-read-shift-up-3 : tie.Need-array-read-shift-up-3 Inv-loop μ-loop
-array-read-shift-up-3 c = search needs
+shared-slice-read-shift-up-3 : tie.Need-shared-slice-read-shift-up-3 Inv-loop μ-loop
+shared-slice-read-shift-up-3 c = search needs
 
 mul-shift-up-4 : tie.Need-mul-shift-up-4 Inv-loop μ-loop
 mul-shift-up-4 c = search needs
 
-array-read-shift-up-4 : tie.Need-array-read-shift-up-4 Inv-loop μ-loop
-array-read-shift-up-4 c = search needs
+shared-slice-read-shift-up-4 : tie.Need-shared-slice-read-shift-up-4 Inv-loop μ-loop
+shared-slice-read-shift-up-4 c = search needs
 
 mul-shift-up-5 : tie.Need-mul-shift-up-5 Inv-loop μ-loop
 mul-shift-up-5 c = search needs
 
-array-read-shift-up-5 : tie.Need-array-read-shift-up-5 Inv-loop μ-loop
-array-read-shift-up-5 c = search needs
+shared-slice-read-shift-up-5 : tie.Need-shared-slice-read-shift-up-5 Inv-loop μ-loop
+shared-slice-read-shift-up-5 c = search needs
 
 mul-shift-up-6 : tie.Need-mul-shift-up-6 Inv-loop μ-loop
 mul-shift-up-6 c = search needs
 
-array-read-shift-up-6 : tie.Need-array-read-shift-up-6 Inv-loop μ-loop
-array-read-shift-up-6 c = search needs
+array-read-shift-up : tie.Need-array-read-shift-up Inv-loop μ-loop
+array-read-shift-up c = search needs
 
 shift-up-requires : tie.Need-shift-up-requires Inv-loop μ-loop
-shift-up-requires c κs = let b = c .before .before in let l = c .before .loop in let g = b .args in up-ready (g .n) (g .t2) (g .t3) (g .t4) (g .t5) (g .t6) (l .d) (l .i) (l .i + 1) (add-one (l .i)) (c .loop-test .taken) (b .pre .0) (l .inv) (b .pre .1)
+shift-up-requires c κs =
+    let l = c .before .before .before .before .before .before in
+    let b = l .before .before .before .before .before .before in
+    let g = b .args in
+    up-ready (g .n) (g .k .now) (g .kappa .now) (g .omega .now) (g .x .now) (g .y .now) (l .loop .d) (l .loop .i) (l .loop .i + 1) (add-one (l .loop .i)) (omega arith) (b .pre .0 .0) (l .loop .inv) (b .pre .1 .0)
 
 mul-d : tie.Need-mul-d Inv-loop μ-loop
 mul-d c = search needs
@@ -70,10 +76,18 @@ loop-less : tie.Need-loop-less Inv-loop μ-loop
 loop-less c = search needs
 
 loop-again : tie.Need-loop-again Inv-loop μ-loop
-loop-again c = let b = c .before .before .before in let l = c .before .before .loop in let g = b .args in up-next (g .n) (g .t2) (g .t3) (g .t4) (g .t5) (g .t6) (l .d) (l .i) (l .i + 1) (add-one (l .i)) (c .before .loop-test .taken) (b .pre .0) (l .inv) (c .shift-up .result) (c .shift-up .ensures)
+loop-again c =
+    let l = c .before .before .before .before .before .before .before in
+    let b = l .before .before .before .before .before .before in
+    let g = b .args in
+    up-next (g .n) (g .k .now) (g .kappa .now) (g .omega .now) (g .x .now) (g .y .now) (l .loop .d) (l .loop .i) (l .loop .i + 1) (add-one (l .loop .i)) (omega arith) (b .pre .0 .0) (l .loop .inv) (c .shift-up .result) (c .shift-up .ensures)
 
 returns : tie.Need-returns Inv-loop μ-loop
-returns c = let b = c .before .before in let l = c .before .loop in let g = b .args in subst (λ (z : ℕ). Climbed z (g .t2) (g .t3) (g .t4) (g .t5) (g .t6) (l .d)) {x = l .i} {y = g .n} (omega (arith, l .inv .within)) (l .inv .done)
+returns c =
+    let l = c .before in
+    let b = l .before .before .before .before .before .before in
+    let g = b .args in
+    subst (λ (z : ℕ). Climbed z (g .k .now) (g .kappa .now) (g .omega .now) (g .x .now) (g .y .now) (l .loop .d)) {x = l .loop .i} {y = g .n} (omega (arith, l .loop .inv .within)) (l .loop .inv .done)
 
 pub climb-spec : {M : Type 1} → statement M
 climb-spec =
@@ -84,17 +98,17 @@ climb-spec =
     loop-holds
     add-j
     mul-shift-up
-    array-read-shift-up
+    shared-slice-read-shift-up
     mul-shift-up-2
-    array-read-shift-up-2
+    shared-slice-read-shift-up-2
     mul-shift-up-3
-    array-read-shift-up-3
+    shared-slice-read-shift-up-3
     mul-shift-up-4
-    array-read-shift-up-4
+    shared-slice-read-shift-up-4
     mul-shift-up-5
-    array-read-shift-up-5
+    shared-slice-read-shift-up-5
     mul-shift-up-6
-    array-read-shift-up-6
+    array-read-shift-up
     shift-up-requires
     mul-d
     array-write-d

@@ -3,7 +3,7 @@ use Prim.Native.Nat.{_*_, _+_, _≤_}
 use native.Mathlib.Nat.{mul-le-mul}
 use native.Mathlib.Omega.{arith}
 use Rattle.arith.specs.Roots.{Least}
-use Rattle.arith.proofs.RootLaws.{side-enough}
+use Rattle.arith.proofs.RootLaws.{sides-le}
 use borrow.Author.Needs.{needs}
 use Rattle.arith.proofs.roots.length.Statement.{statement}
 use Rattle.arith.proofs.roots.length.Tie as tie
@@ -29,9 +29,8 @@ longest-requires c κs = search needs
 least-root-requires : tie.Need-least-root-requires
 least-root-requires c κs =
     let s = c .before .before .before .before in
-    let p = s .pre in
     let m = c .longest .ensures in
-    omega (arith, side-enough (s .args .lx) (s .args .ly) (s .args .lz) (c .longest .result) (m .0) (m .1) (m .2) (p .0) (p .2))
+    omega (arith, sides-le (s .args .lx) (s .args .ly) (s .args .lz) (c .longest .result) (m .0) (m .1) (m .2))
 
 returns : tie.Need-returns
 returns c =
