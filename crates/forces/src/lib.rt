@@ -79,8 +79,7 @@ fn end_figures<'a>(
     ensures { λ r. ⌜ EndWorked n (now (k .entry)) (take n tiers) (take m lashes) (now (loads .entry)) r ⌝ }
 {
     let gear = lashes::gear_of(lashes, m);
-    let kappa = gear.level;
-    let d = springs::solve(n, [0u64; 10], kappa, [0u64; 10]);
+    let d = springs::solve(n, k, &gear.level, loads);
     let pulls = lashes::lash_figures(lashes, m, &gear.length, &gear.stiffness, &d);
     let levels = levels::level_figures(n, k, tiers, &d, most, least, &pulls.lee, &pulls.windward);
     let racking = levels.racking;
