@@ -35,7 +35,7 @@ fn length_of(l: Lash) -> u64
     requires { ⌜ LashFacts 10 l ⌝ }
     ensures { λ r. ⌜ r ≡ lashLength l ⌝ }
 {
-    length(l.lx, l.ly, l.lz)
+    length(l.lx as u64, l.ly as u64, l.lz as u64)
 }
 
 // The athwart stiffness of a lash of this length.
@@ -43,8 +43,9 @@ fn stiffness_of(l: Lash, length: u64) -> u64
     requires { ⌜ LashFacts 10 l × (length ≡ lashLength l) ⌝ }
     ensures { λ r. ⌜ r ≡ stiffnessOf l ⌝ }
 {
+    let ly = l.ly as u64;
     scaled_twice(
-        l.modulus * l.area * (l.ly * l.ly),
+        (l.modulus as u64) * (l.area as u64) * (ly * ly),
         1048576,
         4,
         length * length * length,
@@ -116,13 +117,15 @@ fn pull_of(l: Lash, length: u64, stiffness: u64, shift: u64) -> Pull
     ensures { λ r. ⌜ r .vertical ≡ ceil (ceil ((stiffnessOf l * shift / 2 ^ 32 + lashPad) * l .lz) (l .ly)) (2 ^ 18) ⌝ }
     ensures { λ r. ⌜ (r .upward ≡ stiffnessOf l * shift / 2 ^ 32 * l .lz / l .ly) × (r .upward ≤ 2 ^ 54) ⌝ }
 {
+    let ly = l.ly as u64;
+    let lz = l.lz as u64;
     let part = part_of(stiffness, shift);
     let padded = part + LASH_PAD;
     Pull {
-        pull: figure_along(padded, length, l.ly),
+        pull: figure_along(padded, length, ly),
         athwart: ceil_div(padded, NEWTON),
-        vertical: figure_along(padded, l.lz, l.ly),
-        upward: upward_of(part, l.ly, l.lz),
+        vertical: figure_along(padded, lz, ly),
+        upward: upward_of(part, ly, lz),
     }
 }
 
