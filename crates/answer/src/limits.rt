@@ -23,13 +23,13 @@ impl Limits {
 }
 
 // The safe working load (CR Table 3-3): breaking load / 1.67 for higher strength steel, / 2 for all else.
-pub fn safe_load(material: u64, breaking: u64) -> u64
+pub fn safe_load(material: u8, breaking: u32) -> u64
     ensures { λ r. ⌜ r ≡ safeLoad material breaking ⌝ }
 {
     if material == 1 {
-        return arith::rounding::scaled(breaking, 100, 167);
+        return (breaking as u64) * 100 / 167;
     }
-    breaking / 2
+    (breaking as u64) / 2
 }
 
 // The safe working load of each of n lashes.

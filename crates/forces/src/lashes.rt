@@ -36,7 +36,7 @@ fn length_of(l: Lash) -> u64
     requires { ⌜ LashFacts 10 l ⌝ }
     ensures { λ r. ⌜ r ≡ lashLength l ⌝ }
 {
-    length(l.lx, l.ly, l.lz)
+    length(l.lx as u64, l.ly as u64, l.lz as u64)
 }
 
 // What a lash's force over its length's cube gives, in 2^-22 N/mm. A lash under 16,384 mm, as all are that ships carry, takes a division less.
@@ -55,7 +55,11 @@ fn stiffness_of(l: Lash, length: u64) -> u64
     requires { ⌜ LashFacts 10 l × (length ≡ lashLength l) ⌝ }
     ensures { λ r. ⌜ r ≡ stiffnessOf l ⌝ }
 {
-    over_cube(l.modulus * l.area * (l.ly * l.ly), length * length * length)
+    let ly = l.ly as u64;
+    over_cube(
+        (l.modulus as u64) * (l.area as u64) * (ly * ly),
+        length * length * length,
+    )
 }
 
 // Lengths and stiffnesses of an end's lashes, and the sums of the stiffnesses by level.
@@ -123,13 +127,15 @@ fn pull_of(l: Lash, length: u64, stiffness: u64, shift: u64) -> Pull
     ensures { λ r. ⌜ r .vertical ≡ ceil (ceil ((stiffnessOf l * shift / 2 ^ 32 + lashPad) * l .lz) (l .ly)) (2 ^ 18) ⌝ }
     ensures { λ r. ⌜ (r .upward ≡ stiffnessOf l * shift / 2 ^ 32 * l .lz / l .ly) × (r .upward ≤ 2 ^ 54) ⌝ }
 {
+    let ly = l.ly as u64;
+    let lz = l.lz as u64;
     let part = part_of(stiffness, shift);
     let padded = part + LASH_PAD;
     Pull {
-        pull: figure_along(padded, length, l.ly),
+        pull: figure_along(padded, length, ly),
         athwart: ceil_div(padded, NEWTON),
-        vertical: figure_along(padded, l.lz, l.ly),
-        upward: upward_of(part, l.ly, l.lz),
+        vertical: figure_along(padded, lz, ly),
+        upward: upward_of(part, ly, lz),
     }
 }
 

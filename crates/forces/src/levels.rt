@@ -119,7 +119,7 @@ fn tension_of(weight: u64, couple: i64, parts: PostParts) -> u64
 }
 
 // The moment at the level under a tier: the tier's own, and that at the level over it.
-fn moment_under(above: i64, part: i64, height: u64) -> i64
+fn moment_under(above: i64, part: i64, height: u16) -> i64
     requires { ⌜ Small (2 ^ 60) above × Small (2 ^ 45) part × (height ≤ 2896) ⌝ }
     ensures { λ r. ⌜ (r ≡ pos height *ℤ part +ℤ above) × Small (2 ^ 61) r ⌝ }
 {
@@ -153,7 +153,7 @@ struct Level {
 }
 
 // The level under a tier of racking `part`, with the vertical parts of its own lashes.
-fn level_under(above: Above, part: i64, height: u64, own: PostParts, most: u64, least: u64) -> Level
+fn level_under(above: Above, part: i64, height: u16, own: PostParts, most: u64, least: u64) -> Level
     requires { ⌜ Small (2 ^ 60) (above .moment) × Small (2 ^ 45) part × (height ≤ 2896) ⌝ }
     requires { ⌜ (above .parts .lee ≤ 15 * 2 ^ 58) × (above .parts .windward ≤ 15 * 2 ^ 58) ⌝ }
     requires { ⌜ (own .lee ≤ 2 ^ 58) × (own .windward ≤ 2 ^ 58) × (most ≤ 2 ^ 40) × (least ≤ 2 ^ 40) ⌝ }

@@ -35,7 +35,7 @@ fn gust_of(t: Tier) -> u64
     ensures { λ r. ⌜ (r ≡ gust t) × (r ≤ 27 * 12192 * 2896) ⌝ }
 {
     if t.wind == 1 {
-        return 27 * box_length(t) * t.height;
+        return 27 * box_length(t) * (t.height as u64);
     }
     0
 }
@@ -51,7 +51,7 @@ fn thrust_of(t: Tier) -> Thrust
     ensures { λ r. ⌜ (r .push ≡ push t) × (r .push ≤ 30480 * 1500) × (r .gust ≡ gust t) × (r .gust ≤ 27 * 12192 * 2896) ⌝ }
 {
     Thrust {
-        push: t.mass * t.at,
+        push: (t.mass as u64) * (t.at as u64),
         gust: gust_of(t),
     }
 }
@@ -90,11 +90,11 @@ pub fn level_loads(n: usize, tiers: [Tier; 10], share: u64, factor: u64) -> [u64
 }
 
 // Mass × acceleration.
-fn lift(mass: u64, acceleration: u64) -> u64
+fn lift(mass: u16, acceleration: u16) -> u64
     requires { ⌜ (mass ≤ 30480) × (acceleration ≤ 3000) ⌝ }
     ensures { λ r. ⌜ (r ≡ mass * acceleration) × (r ≤ 30480 * 3000) ⌝ }
 {
-    mass * acceleration
+    (mass as u64) * (acceleration as u64)
 }
 
 // Half of V, from mass × acceleration of the tiers above.

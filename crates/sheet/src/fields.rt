@@ -3,6 +3,7 @@
 ghost use mathlib.Core.Path.{_≡_};
 ghost use Prim.Native.Nat.{_+_, _*_, _<_, _≤_};
 ghost use lib.ListN.{length};
+ghost use Rattle.arith.specs.Bytes.{le2, le4};
 ghost use Rattle.sheet.specs.declared.Reading.the-variants.{Taken};
 ghost use Rattle.sheet.specs.Layout.{byteAt, headOf, tierOf, lashOf, tierPlace, lashPlace, doorPlace, closedPlace, sparePlace, tiersIn, lashesIn, sheetOf, blankTier, blankLash, blankSheet};
 ghost use Rattle.sheet.specs.Refusals.{first, sheetRows};
@@ -24,16 +25,38 @@ pub fn byte_at(s: &[u8], at: usize) -> u64
     0
 }
 
+// A field of one byte, of two and of four, each at its own width.
+pub fn field1(s: &[u8], at: usize) -> u8
+    requires { ⌜ at < length (now s) ⌝ }
+    ensures { λ r. ⌜ r ≡ byteAt (now (s .entry)) at ⌝ }
+{
+    s[at]
+}
+
+fn field2(s: &[u8], at: usize) -> u16
+    requires { ⌜ at + 2 ≤ length (now s) ⌝ }
+    ensures { λ r. ⌜ r ≡ le2 (now (s .entry)) at ⌝ }
+{
+    read2(s, at) as u16
+}
+
+fn field4(s: &[u8], at: usize) -> u32
+    requires { ⌜ at + 4 ≤ length (now s) ⌝ }
+    ensures { λ r. ⌜ r ≡ le4 (now (s .entry)) at ⌝ }
+{
+    read4(s, at) as u32
+}
+
 pub fn head_of(s: &[u8]) -> Head
     requires { ⌜ 8 ≤ length (now s) ⌝ }
     ensures { λ r. ⌜ r ≡ headOf (now (s .entry)) ⌝ }
 {
     Head {
-        rule: read1(s, 0),
-        route: read1(s, 1),
-        lock: read1(s, 2),
-        zero: read1(s, 3),
-        breaking: read4(s, 4),
+        rule: field1(s, 0),
+        route: field1(s, 1),
+        lock: field1(s, 2),
+        zero: field1(s, 3),
+        breaking: field4(s, 4),
     }
 }
 
@@ -42,13 +65,13 @@ pub fn tier_of(s: &[u8], at: usize) -> Tier
     ensures { λ r. ⌜ r ≡ tierOf (now (s .entry)) at ⌝ }
 {
     Tier {
-        size: read1(s, at),
-        wind: read1(s, at + 1),
-        height: read2(s, at + 2),
-        mass: read2(s, at + 4),
-        at: read2(s, at + 6),
-        avmax: read2(s, at + 8),
-        avmin: read2(s, at + 10),
+        size: field1(s, at),
+        wind: field1(s, at + 1),
+        height: field2(s, at + 2),
+        mass: field2(s, at + 4),
+        at: field2(s, at + 6),
+        avmax: field2(s, at + 8),
+        avmin: field2(s, at + 10),
     }
 }
 
@@ -57,16 +80,16 @@ pub fn lash_of(s: &[u8], at: usize) -> Lash
     ensures { λ r. ⌜ r ≡ lashOf (now (s .entry)) at ⌝ }
 {
     Lash {
-        tier: read1(s, at),
-        hook: read1(s, at + 1),
-        kind: read1(s, at + 2),
-        material: read1(s, at + 3),
-        lx: read2(s, at + 4),
-        ly: read2(s, at + 6),
-        lz: read2(s, at + 8),
-        area: read2(s, at + 10),
-        modulus: read4(s, at + 12),
-        breaking: read4(s, at + 16),
+        tier: field1(s, at),
+        hook: field1(s, at + 1),
+        kind: field1(s, at + 2),
+        material: field1(s, at + 3),
+        lx: field2(s, at + 4),
+        ly: field2(s, at + 6),
+        lz: field2(s, at + 8),
+        area: field2(s, at + 10),
+        modulus: field4(s, at + 12),
+        breaking: field4(s, at + 16),
     }
 }
 

@@ -9,41 +9,43 @@ ghost use Rattle.sheet.specs.Lashings.{lashingOf};
 ghost use Rattle.sheet.specs.Refusals.{decoded};
 ghost use Rattle.sheet.specs.Routes.{routePercent};
 
+// Fields have the widths of the sheet's own fields, so that a sheet is cheap to copy.
+
 // The head: rule number, route, lock material (0 ordinary steel, 1 higher strength, 2 nodular iron), a zero byte,
 // lock breaking load in N.
 pub struct Head {
-    pub rule: u64,
-    pub route: u64,
-    pub lock: u64,
-    pub zero: u64,
-    pub breaking: u64,
+    pub rule: u8,
+    pub route: u8,
+    pub lock: u8,
+    pub zero: u8,
+    pub breaking: u32,
 }
 
 // A tier: size in feet, wind (0 sheltered, 1 exposed), height in mm, mass in kg; A_T, A_Vmax and A_Vmin in thousandths
 // of g.
 pub struct Tier {
-    pub size: u64,
-    pub wind: u64,
-    pub height: u64,
-    pub mass: u64,
-    pub at: u64,
-    pub avmax: u64,
-    pub avmin: u64,
+    pub size: u8,
+    pub wind: u8,
+    pub height: u16,
+    pub mass: u16,
+    pub at: u16,
+    pub avmax: u16,
+    pub avmin: u16,
 }
 
 // A lash: tier (from 1), hook (0 top corner, 1 bottom corner), kind (0 cross, 1 side), material (0 ordinary rod, 1 higher
 // strength rod, 2 wire, 3 chain); LX, LY, LZ in mm, area in mm², modulus in N/mm², breaking load in N.
 pub struct Lash {
-    pub tier: u64,
-    pub hook: u64,
-    pub kind: u64,
-    pub material: u64,
-    pub lx: u64,
-    pub ly: u64,
-    pub lz: u64,
-    pub area: u64,
-    pub modulus: u64,
-    pub breaking: u64,
+    pub tier: u8,
+    pub hook: u8,
+    pub kind: u8,
+    pub material: u8,
+    pub lx: u16,
+    pub ly: u16,
+    pub lz: u16,
+    pub area: u16,
+    pub modulus: u32,
+    pub breaking: u32,
 }
 
 // A decoded sheet. Entries of an array behind its count are blank.
@@ -103,7 +105,7 @@ pub fn lashing_of(l: Lash) -> Lashing
 // Route factor percents (CR 5.2.4(c)).
 pub const ROUTE_PERCENT: [u64; 13] = [100, 87, 96, 95, 94, 100, 95, 73, 86, 90, 90, 73, 87];
 
-pub fn route_percent(route: u64) -> u64
+pub fn route_percent(route: u8) -> u64
     requires { ⌜ route < 13 ⌝ }
     ensures { λ r. ⌜ (r ≡ routePercent route) × (73 ≤ r) × (r ≤ 100) ⌝ }
 {

@@ -10,7 +10,7 @@ use crate::Reading;
 use crate::Tier;
 use crate::fields;
 
-pub fn breaking_fits(load: u64) -> bool
+pub fn breaking_fits(load: u32) -> bool
     ensures { λ r. ⌜ r ≡ breakingFits load ⌝ }
 {
     (1 <= load) & (load <= 2000000)
@@ -47,7 +47,7 @@ pub fn lash_fits(l: Lash) -> bool
 fn off_tiers(n: u64, l: Lash) -> bool
     ensures { λ r. ⌜ r ≡ offTiers n l ⌝ }
 {
-    (l.tier == 0) | (n < l.tier) | ((l.tier == 1) & (l.hook == 1))
+    (l.tier == 0) | (n < l.tier as u64) | ((l.tier == 1) & (l.hook == 1))
 }
 
 // Whether b comes later than a, by tier, then hook, then kind.
@@ -89,7 +89,7 @@ fn test_tier(s: &[u8], k: usize) -> Reading
     if !tier_fits(t) {
         return Reading::Refused(7, at);
     }
-    if t.size != fields::byte_at(s, 9) {
+    if t.size != fields::field1(s, 9) {
         return Reading::Refused(8, at);
     }
     Reading::Taken

@@ -5,16 +5,16 @@ use Rattle.answer.specs.Limits.{safeLoad}
 use Rattle.answer.proofs.limits.safe_load.Statement.{statement}
 use Rattle.answer.proofs.limits.safe_load.Tie as tie
 
-scaled-requires : tie.Need-scaled-requires
-scaled-requires c κs = search needs
+mul-result : tie.Need-mul-result
+mul-result c = search needs
 
 returns : tie.Need-returns
 unfolding safeLoad
-returns c = simp (eq-eqb _ _ (c .before .if1 .taken)) (c .scaled .ensures)
+returns c = simp (eq-eqb _ _ (c .if1 .taken))
 
 returns-2 : tie.Need-returns-2
 unfolding safeLoad
 returns-2 c = simp (ne-eqb _ _ (c .if1 .left))
 
 pub safe-load-spec : {M : Type 1} → statement M
-safe-load-spec = tie.close (tie.spec scaled-requires returns returns-2)
+safe-load-spec = tie.close (tie.spec mul-result returns returns-2)

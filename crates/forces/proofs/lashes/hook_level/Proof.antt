@@ -1,6 +1,7 @@
 use native.Mathlib.Omega.{arith}
 use mathlib.Core.Path.{refl}
 use Rattle.figures.specs.Lashes.{hookLevel}
+use borrow.Author.Needs.{needs}
 use Rattle.forces.proofs.lashes.hook_level.Statement.{statement}
 use Rattle.forces.proofs.lashes.hook_level.Tie as tie
 
@@ -8,9 +9,12 @@ sub-result : tie.Need-sub-result
 unfolding hookLevel
 sub-result c = omega (arith, c .before .pre .raised)
 
+cast-result : tie.Need-cast-result
+cast-result c = search needs
+
 returns : tie.Need-returns
 unfolding hookLevel
 returns c = (refl, c .before .pre .raised, c .before .pre .inside)
 
 pub hook-level-spec : {M : Type 1} → statement M
-hook-level-spec = tie.close (tie.spec sub-result returns)
+hook-level-spec = tie.close (tie.spec sub-result cast-result returns)

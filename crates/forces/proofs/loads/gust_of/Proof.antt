@@ -13,6 +13,9 @@ box-length-requires c κs = search needs
 mul-result : tie.Need-mul-result
 mul-result c = search needs
 
+cast-result : tie.Need-cast-result
+cast-result c = search needs
+
 mul-result-2 : tie.Need-mul-result-2
 mul-result-2 c =
     let b = c .before .before .before .before in
@@ -30,4 +33,4 @@ unfolding gust
 returns-2 c = (simp (ne-eqb _ _ (c .if1 .left)), lit≤ tt)
 
 pub gust-of-spec : {M : Type 1} → statement M
-gust-of-spec = tie.close (tie.spec box-length-requires mul-result mul-result-2 returns returns-2)
+gust-of-spec = tie.close (tie.spec box-length-requires mul-result cast-result mul-result-2 returns returns-2)

@@ -6,8 +6,16 @@ use borrow.Author.Needs.{needs}
 use Rattle.forces.proofs.loads.thrust_of.Statement.{statement}
 use Rattle.forces.proofs.loads.thrust_of.Tie as tie
 
-mul-t2 : tie.Need-mul-t2
-mul-t2 c = omega (arith, mul-le-mul (c .before .pre .mass) (c .before .pre .at))
+cast-t2 : tie.Need-cast-t2
+cast-t2 c = search needs
+
+cast-t3 : tie.Need-cast-t3
+cast-t3 c = search needs
+
+mul-t4 : tie.Need-mul-t4
+mul-t4 c =
+    let b = c .before .before in
+    omega (arith, mul-le-mul (b .pre .mass) (b .pre .at))
 
 gust-of-requires : tie.Need-gust-of-requires
 gust-of-requires c κs = search needs
@@ -15,8 +23,8 @@ gust-of-requires c κs = search needs
 returns : tie.Need-returns
 unfolding push
 returns c =
-    let b = c .before .before in
+    let b = c .before .before .before in
     (refl, mul-le-mul (b .pre .mass) (b .pre .at), c .gust-of .ensures .0, c .gust-of .ensures .1)
 
 pub thrust-of-spec : {M : Type 1} → statement M
-thrust-of-spec = tie.close (tie.spec mul-t2 gust-of-requires returns)
+thrust-of-spec = tie.close (tie.spec cast-t2 cast-t3 mul-t4 gust-of-requires returns)

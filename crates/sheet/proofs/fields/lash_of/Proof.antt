@@ -4,62 +4,62 @@ use Rattle.sheet.specs.Layout.{lashOf}
 use Rattle.sheet.proofs.fields.lash_of.Statement.{statement}
 use Rattle.sheet.proofs.fields.lash_of.Tie as tie
 
-read1-requires : tie.Need-read1-requires
-read1-requires c κs = search needs
+field1-requires : tie.Need-field1-requires
+field1-requires c κs = search needs
 
-add-read1 : tie.Need-add-read1
-add-read1 c = search needs
+add-field1 : tie.Need-add-field1
+add-field1 c = search needs
 
-read1-requires-2 : tie.Need-read1-requires-2
-read1-requires-2 c κs = search needs
+field1-requires-2 : tie.Need-field1-requires-2
+field1-requires-2 c κs = search needs
 
-add-read1-2 : tie.Need-add-read1-2
-add-read1-2 c = search needs
+add-field1-2 : tie.Need-add-field1-2
+add-field1-2 c = search needs
 
-read1-requires-3 : tie.Need-read1-requires-3
-read1-requires-3 c κs = search needs
+field1-requires-3 : tie.Need-field1-requires-3
+field1-requires-3 c κs = search needs
 
-add-read1-3 : tie.Need-add-read1-3
-add-read1-3 c = search needs
+add-field1-3 : tie.Need-add-field1-3
+add-field1-3 c = search needs
 
-read1-requires-4 : tie.Need-read1-requires-4
-read1-requires-4 c κs = search needs
+field1-requires-4 : tie.Need-field1-requires-4
+field1-requires-4 c κs = search needs
 
-add-read2 : tie.Need-add-read2
-add-read2 c = search needs
+add-field2 : tie.Need-add-field2
+add-field2 c = search needs
 
-read2-requires : tie.Need-read2-requires
-read2-requires c κs = search needs
+field2-requires : tie.Need-field2-requires
+field2-requires c κs = search needs
 
-add-read2-2 : tie.Need-add-read2-2
-add-read2-2 c = search needs
+add-field2-2 : tie.Need-add-field2-2
+add-field2-2 c = search needs
 
-read2-requires-2 : tie.Need-read2-requires-2
-read2-requires-2 c κs = search needs
+field2-requires-2 : tie.Need-field2-requires-2
+field2-requires-2 c κs = search needs
 
-add-read2-3 : tie.Need-add-read2-3
-add-read2-3 c = search needs
+add-field2-3 : tie.Need-add-field2-3
+add-field2-3 c = search needs
 
-read2-requires-3 : tie.Need-read2-requires-3
-read2-requires-3 c κs = search needs
+field2-requires-3 : tie.Need-field2-requires-3
+field2-requires-3 c κs = search needs
 
-add-read2-4 : tie.Need-add-read2-4
-add-read2-4 c = search needs
+add-field2-4 : tie.Need-add-field2-4
+add-field2-4 c = search needs
 
-read2-requires-4 : tie.Need-read2-requires-4
-read2-requires-4 c κs = search needs
+field2-requires-4 : tie.Need-field2-requires-4
+field2-requires-4 c κs = search needs
 
-add-read4 : tie.Need-add-read4
-add-read4 c = search needs
+add-field4 : tie.Need-add-field4
+add-field4 c = search needs
 
-read4-requires : tie.Need-read4-requires
-read4-requires c κs = search needs
+field4-requires : tie.Need-field4-requires
+field4-requires c κs = search needs
 
-add-read4-2 : tie.Need-add-read4-2
-add-read4-2 c = search needs
+add-field4-2 : tie.Need-add-field4-2
+add-field4-2 c = search needs
 
-read4-requires-2 : tie.Need-read4-requires-2
-read4-requires-2 c κs = search needs
+field4-requires-2 : tie.Need-field4-requires-2
+field4-requires-2 c κs = search needs
 
 returns : tie.Need-returns
 unfolding lashOf
@@ -69,23 +69,23 @@ pub lash-of-spec : {M : Type 1} → statement M
 lash-of-spec =
     tie.close
     (tie.spec
-    read1-requires
-    add-read1
-    read1-requires-2
-    add-read1-2
-    read1-requires-3
-    add-read1-3
-    read1-requires-4
-    add-read2
-    read2-requires
-    add-read2-2
-    read2-requires-2
-    add-read2-3
-    read2-requires-3
-    add-read2-4
-    read2-requires-4
-    add-read4
-    read4-requires
-    add-read4-2
-    read4-requires-2
+    field1-requires
+    add-field1
+    field1-requires-2
+    add-field1-2
+    field1-requires-3
+    add-field1-3
+    field1-requires-4
+    add-field2
+    field2-requires
+    add-field2-2
+    field2-requires-2
+    add-field2-3
+    field2-requires-3
+    add-field2-4
+    field2-requires-4
+    add-field4
+    field4-requires
+    add-field4-2
+    field4-requires-2
     returns)

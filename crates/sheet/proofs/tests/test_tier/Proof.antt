@@ -31,8 +31,8 @@ returns-2 c =
     let f = c .before in
     simp (le-ltb _ _ (f .before .before .if1 .left), ← f .before .tier-of .ensures, ← f .tier-fits .ensures, c .if2 .taken)
 
-byte-at-requires : tie.Need-byte-at-requires
-byte-at-requires c κs = search needs
+field1-requires : tie.Need-field1-requires
+field1-requires c κs = search needs
 
 returns-3 : tie.Need-returns-3
 unfolding first
@@ -45,7 +45,7 @@ returns-3 c =
       ← f .before .tier-of .ensures,
       ← f .tier-fits .ensures,
       b .before .if2 .left,
-      ← b .byte-at .ensures .0,
+      ← b .field1 .ensures,
       ne-eqb _ _ (c .if3 .taken),
     )
 
@@ -60,7 +60,7 @@ returns-4 c =
       ← f .before .tier-of .ensures,
       ← f .tier-fits .ensures,
       b .before .if2 .left,
-      ← b .byte-at .ensures .0,
+      ← b .field1 .ensures,
       eq-eqb _ _ (c .if3 .left),
     )
 
@@ -75,6 +75,6 @@ test-tier-spec =
     tier-of-requires
     tier-fits-requires
     returns-2
-    byte-at-requires
+    field1-requires
     returns-3
     returns-4)
