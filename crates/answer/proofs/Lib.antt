@@ -6,9 +6,9 @@ pub mod Longest
 pub mod Numbers
 pub mod Consequences
 -- What they and the functions' proofs rest on.
-mod Arrays
 mod Sizes
 mod Stores
+mod Puts
 mod FindingLaws
 mod AnswerLaws
 mod CheckLaws

@@ -1,12 +1,13 @@
--- Runs of stores in a buffer: one behind another, one in front of another, entry after entry, and from the buffer's start.
+-- Runs of stores in a buffer: one behind another, one in front of another, entry after entry, byte after byte of a copy, and from the
+-- buffer's start.
 use mathlib.Core.Path.{_≡_, refl, sym, ap, _∙_}
 use mathlib.Core.List.{List, [], _∷_, _++_, flatMap, append-nil, append-assoc}
 use Prim.Native.Nat.{ℕ, zero, suc, _+_, _<_, _≤_}
 use native.Mathlib.Nat.{add-zero}
 use native.Mathlib.Numerals.{add-one}
 use native.Mathlib.Omega.{arith}
-use lib.ListN.{length, set, drop, length-append, length-set}
-use lib.Seq.{sets, sets-eq, set-comm, length-sets}
+use lib.ListN.{length, getD, set, take, drop, length-append, length-set}
+use lib.Seq.{sets, sets-eq, set-comm, take-suc, length-sets}
 use Rattle.answer.specs.Answers.{upFrom, below, counted}
 use Rattle.answer.specs.Steps.{Wrote}
 
@@ -65,7 +66,7 @@ module _ (entry : ℕ → List ℕ) where
       let e : i + suc n ≡ suc i + n = omega arith in
       rw (e, append-assoc) (ap (λ (l : List ℕ). entry i ++ l) (last (suc i) n))
 
-  one-more : (i : ℕ) → flatMap entry (below (i + 1)) ≡ flatMap entry (below i) ++ entry i
+  pub one-more : (i : ℕ) → flatMap entry (below (i + 1)) ≡ flatMap entry (below i) ++ entry i
   one-more i =
       let e : 0 + i ≡ i = omega arith in
       rw (add-one i) (rw e at (last 0 i))
@@ -86,3 +87,19 @@ module _ (entry : ℕ → List ℕ) where
   -- a count stored first, then n entries
   pub counted-all : {l k m : List ℕ} {at p : ℕ} (i n : ℕ) → k ≡ sets l at (n ∷ []) → Wrote k (at + 1) (flatMap entry (below i)) m p → i ≤ n → n ≤ i → Wrote l at (counted n entry) m p
   counted-all i n e w h g = then (run {bytes = n ∷ []} e refl) (entries-all i w n h g)
+
+-- the first bytes of a list copied: none, one more, and n
+module _ (s : List ℕ) where
+  pub copied-none : (l : List ℕ) (at : ℕ) → Wrote l at (take 0 s) l (at + 0)
+  copied-none l at = rw (add-zero at) (none l at)
+
+  module _ {l m : List ℕ} {at : ℕ} (i : ℕ) (w : Wrote l at (take i s) m (at + i)) where
+    pub copied-more : i < length s → Wrote l at (take (i + 1) s) (set m (at + i) (getD s i 0)) (at + (i + 1))
+    copied-more h =
+        let e : at + (i + 1) ≡ at + i + 1 = omega arith in
+        rw (e, add-one i, take-suc s i 0 h) (then w (run {bytes = getD s i 0 ∷ []} refl refl))
+
+    pub copied-all : (n : ℕ) → i ≤ n → n ≤ i → Wrote l at (take n s) m (at + n)
+    copied-all n h g =
+        let e : n ≡ i = omega arith in
+        rw e w

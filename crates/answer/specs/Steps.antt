@@ -2,10 +2,10 @@
 use mathlib.Core.Path.{_≡_}
 use mathlib.Core.Bool.{cond}
 use mathlib.Core.List.{List, [], _∷_, _++_, flatMap}
-use Prim.Native.Nat.{ℕ, _+_, _≤_}
+use Prim.Native.Nat.{ℕ, _+_, _-_, _≤_}
 use lib.Dec.{ltb}
 use lib.IntN.{pos, natAbs}
-use lib.ListN.{getD, length}
+use lib.ListN.{getD, length, take}
 use lib.Seq.{sets}
 use Rattle.arith.specs.Bytes.{bytes4, twos}
 use Rattle.sheet.specs.declared.Lash.{Lash}
@@ -21,6 +21,12 @@ use Rattle.answer.specs.Answers.{below, counted, findingBytes}
 -- `bytes` stored in a buffer from `at` on, and the place behind them
 pub record Wrote (before : List ℕ) (at : ℕ) (bytes after : List ℕ) (next : ℕ) : Type 0 where
   pub stored : after ≡ sets before at bytes
+  pub place : next ≡ at + length bytes
+  pub room : length after ≡ length before
+
+-- the same of a buffer in which any bytes may follow
+pub record Put (before : List ℕ) (at : ℕ) (bytes after : List ℕ) (next : ℕ) : Type 0 where
+  pub stored : take next after ≡ take at before ++ bytes
   pub place : next ≡ at + length bytes
   pub room : length after ≡ length before
 
@@ -40,17 +46,17 @@ lashLimit ls j = safeLoad (getD ls j noLash .material) (getD ls j noLash .breaki
 unfoldable pub findingWhere : ℕ → ℕ → ℕ → ℕ → ℕ → List ℕ
 findingWhere end kind index size limit = cond (ltb limit size) (end ∷ kind ∷ index ∷ []) []
 
--- the bytes of the findings of one kind: of n sizes and limits, the first of which has the index `first`
+-- the bytes of the findings of one kind, at n indexes from `first` on, with the size and the limit at an index
 unfoldable pub findingsOver : ℕ → ℕ → ℕ → (ℕ → ℕ) → (ℕ → ℕ) → ℕ → List ℕ
-findingsOver end kind first size limit n = flatMap (λ k. findingWhere end kind (first + k) (size k) (limit k)) (below n)
+findingsOver end kind first size limit n = flatMap (λ k. findingWhere end kind (first + k) (size (first + k)) (limit (first + k))) (below n)
 
 -- the bytes of an end's findings: kinds 1 to 4, of its tiers and levels, and kinds 5 to 7, of its lashes
 unfoldable pub tierFindings : ℕ → ℕ → ℕ → EndFigures → List ℕ
 tierFindings end n lock f =
-    findingsOver end 1 1 (λ k. natAbs (getD (f .racking) k (pos 0))) (λ k. rackingLimit) n
-    ++ findingsOver end 2 1 (λ k. getD (f .compression) (1 + k) 0) (λ k. compressionLimit) n
-    ++ findingsOver end 3 0 (λ k. getD (f .tension) k 0) (λ k. cornerTensionLimit) n
-    ++ findingsOver end 4 0 (λ k. getD (f .tension) k 0) (λ k. lock) n
+    findingsOver end 1 1 (λ i. natAbs (getD (f .racking) (i - 1) (pos 0))) (λ i. rackingLimit) n
+    ++ findingsOver end 2 1 (λ i. getD (f .compression) i 0) (λ i. compressionLimit) n
+    ++ findingsOver end 3 0 (λ i. getD (f .tension) i 0) (λ i. cornerTensionLimit) n
+    ++ findingsOver end 4 0 (λ i. getD (f .tension) i 0) (λ i. lock) n
 
 unfoldable pub lashFindings : ℕ → List Lash → ℕ → EndFigures → List ℕ
 lashFindings end ls m f =

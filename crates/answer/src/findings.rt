@@ -1,14 +1,15 @@
 // Document 01, "The answer sheet": a finding, of 3 bytes, wherever a reported size exceeds its limit.
 
 ghost use mathlib.Core.Path.{_≡_};
-ghost use mathlib.Core.List.{_++_};
-ghost use Prim.Native.Nat.{ℕ, _+_, _*_, _<_, _≤_};
+ghost use mathlib.Core.Bool.{cond};
+ghost use mathlib.Core.List.{[], _∷_, _++_};
+ghost use Prim.Native.Nat.{_+_, _-_, _*_, _<_, _≤_};
 ghost use lib.IntN.{pos, natAbs};
-ghost use lib.ListN.{length, getD};
-ghost use Rattle.answer.specs.Steps.{Wrote, Sized, findingWhere, findingsOver, tierFindings, lashFindings, findingsBytes};
+ghost use lib.ListN.{length, getD, take};
+ghost use Rattle.answer.specs.Limits.{rackingLimit};
+ghost use Rattle.answer.specs.Steps.{Wrote, Put, Sized, lashLimit, findingsOver, tierFindings, lashFindings, findingsBytes};
 use crate::limits::Limits;
 use crate::limits::safe_load;
-use crate::limits::safe_loads;
 use arith::bytes::write1;
 use figures::EndFigures;
 use figures::Figures;
@@ -25,155 +26,75 @@ fn size(x: i32) -> u64
     x as u64
 }
 
-fn sizes(racking: [i32; 10]) -> [u64; 10]
-    ensures { λ r. ⌜ (length r ≡ 10) × ((i : ℕ) → i < 10 → getD r i 0 ≡ natAbs (getD racking i (pos 0))) ⌝ }
+// A finding's bytes at `at`, and the place behind them if `over`, else `at` again. They are stored in any case: a branch on `over`
+// would often be predicted wrongly.
+fn put_where(found: &mut [u8], at: usize, end: u8, kind: u8, index: usize, over: bool) -> usize
+    requires { ⌜ (at + 3 ≤ length (now found)) × (index < 256) ⌝ }
+    ensures { λ r. ⌜ Put (now (found .entry)) at (cond over (end ∷ kind ∷ index ∷ []) []) (now (found .exit)) r × (r ≤ at + 3) ⌝ }
 {
-    let mut r = [0; 10];
-    let mut i = 0;
-    while i < 10 {
-        r[i] = size(racking[i]);
-        i += 1;
-    }
-    r
+    found[at] = end;
+    found[at + 1] = kind;
+    found[at + 2] = index as u8;
+    at + 3 * (over as usize)
 }
 
-// A finding at `at` if the size exceeds the limit, and the place behind it.
-fn write_where(
-    answer: &mut [u8],
-    at: usize,
-    end: u8,
-    kind: u8,
-    index: usize,
-    size: u64,
-    limit: u64,
-) -> usize
-    requires { ⌜ (at + 3 ≤ length (now answer)) × (index < 256) ⌝ }
-    ensures { λ r. ⌜ Wrote (now (answer .entry)) at (findingWhere end kind index size limit) (now (answer .exit)) r × (r ≤ at + 3) ⌝ }
-{
-    if limit < size {
-        answer[at] = end;
-        answer[at + 1] = kind;
-        answer[at + 2] = index as u8;
-        return at + 3;
-    }
-    at
-}
-
-// The findings of one kind: of n sizes with their limits, the first of which has the index `first`.
-fn write_over(
-    answer: &mut [u8],
-    at: usize,
-    end: u8,
-    kind: u8,
-    first: usize,
-    sizes: &[u64],
-    limits: &[u64],
-    n: usize,
-) -> usize
-    requires { ⌜ (at + 3 * n ≤ length (now answer)) × (first + n ≤ 256) × (n ≤ length (now sizes)) × (n ≤ length (now limits)) ⌝ }
-    ensures { λ r. ⌜ Wrote (now (answer .entry)) at (findingsOver end kind first (λ k. getD (now (sizes .entry)) k 0) (λ k. getD (now (limits .entry)) k 0) n) (now (answer .exit)) r × (r ≤ at + 3 * n) ⌝ }
+// The findings of n rackings: kind 1, tiers from 1 on.
+fn put_rackings(found: &mut [u8], at: usize, end: u8, xs: &[i32], n: usize) -> usize
+    requires { ⌜ (n ≤ 10) × (n ≤ length (now xs)) × (at + 3 * n ≤ length (now found)) ⌝ }
+    ensures { λ r. ⌜ Put (now (found .entry)) at (findingsOver end 1 1 (λ i. natAbs (getD (now (xs .entry)) (i - 1) (pos 0))) (λ i. rackingLimit) n) (now (found .exit)) r × (r ≤ at + 3 * n) ⌝ }
 {
     let mut next = at;
     let mut k = 0;
     while k < n {
-        next = write_where(answer, next, end, kind, first + k, sizes[k], limits[k]);
+        next = put_where(found, next, end, 1, 1 + k, Limits::RACKING < size(xs[k]));
         k += 1;
     }
     next
 }
 
-// The same where all n sizes have one limit: sizes by tier or by level from 0.
-fn write_tiers_over(
-    answer: &mut [u8],
+// The findings of n sizes with one limit, at the indexes from `first` on: compressions are checked from level 1 on.
+fn put_over(
+    found: &mut [u8],
     at: usize,
     end: u8,
     kind: u8,
     first: usize,
-    sizes: [u64; 10],
+    xs: &[u64],
     limit: u64,
     n: usize,
 ) -> usize
-    requires { ⌜ (n ≤ 10) × (first ≤ 1) × (at + 3 * n ≤ length (now answer)) ⌝ }
-    ensures { λ r. ⌜ Wrote (now (answer .entry)) at (findingsOver end kind first (λ k. getD sizes k 0) (λ k. limit) n) (now (answer .exit)) r × (r ≤ at + 3 * n) ⌝ }
+    requires { ⌜ (first ≤ 1) × (n ≤ 10) × (first + n ≤ length (now xs)) × (at + 3 * n ≤ length (now found)) ⌝ }
+    ensures { λ r. ⌜ Put (now (found .entry)) at (findingsOver end kind first (λ i. getD (now (xs .entry)) i 0) (λ i. limit) n) (now (found .exit)) r × (r ≤ at + 3 * n) ⌝ }
 {
-    write_over(answer, at, end, kind, first, &sizes, &[limit; 10], n)
+    let mut next = at;
+    let mut k = 0;
+    while k < n {
+        let i = first + k;
+        next = put_where(found, next, end, kind, i, limit < xs[i]);
+        k += 1;
+    }
+    next
 }
 
-// Compressions are checked from level 1 on.
-fn write_levels_over(
-    answer: &mut [u8],
-    at: usize,
-    end: u8,
-    kind: u8,
-    sizes: [u64; 11],
-    limit: u64,
-    n: usize,
-) -> usize
-    requires { ⌜ (n ≤ 10) × (at + 3 * n ≤ length (now answer)) ⌝ }
-    ensures { λ r. ⌜ Wrote (now (answer .entry)) at (findingsOver end kind 1 (λ k. getD sizes (1 + k) 0) (λ k. limit) n) (now (answer .exit)) r × (r ≤ at + 3 * n) ⌝ }
+// The findings of m lashes whose tension exceeds their own safe load: kind 5.
+fn put_pulls(found: &mut [u8], at: usize, end: u8, lashes: [Lash; 8], xs: &[u64], m: usize) -> usize
+    requires { ⌜ (m ≤ 8) × (m ≤ length (now xs)) × (at + 3 * m ≤ length (now found)) ⌝ }
+    ensures { λ r. ⌜ Put (now (found .entry)) at (findingsOver end 5 0 (λ j. getD (now (xs .entry)) j 0) (lashLimit lashes) m) (now (found .exit)) r × (r ≤ at + 3 * m) ⌝ }
 {
-    write_over(answer, at, end, kind, 1, &sizes[1..], &[limit; 10], n)
-}
-
-fn write_lashes_over(
-    answer: &mut [u8],
-    at: usize,
-    end: u8,
-    kind: u8,
-    sizes: [u64; 8],
-    limits: [u64; 8],
-    m: usize,
-) -> usize
-    requires { ⌜ (m ≤ 8) × (at + 3 * m ≤ length (now answer)) ⌝ }
-    ensures { λ r. ⌜ Wrote (now (answer .entry)) at (findingsOver end kind 0 (λ j. getD sizes j 0) (λ j. getD limits j 0) m) (now (answer .exit)) r × (r ≤ at + 3 * m) ⌝ }
-{
-    write_over(answer, at, end, kind, 0, &sizes, &limits, m)
-}
-
-// The findings of an end's tiers and levels: kinds 1 to 4.
-fn write_tier_findings(
-    answer: &mut [u8],
-    at: usize,
-    end: u8,
-    n: usize,
-    lock: u64,
-    f: EndFigures,
-) -> usize
-    requires { ⌜ (n ≤ 10) × (at + 12 * n ≤ length (now answer)) ⌝ }
-    ensures { λ r. ⌜ Wrote (now (answer .entry)) at (tierFindings end n lock f) (now (answer .exit)) r × (r ≤ at + 12 * n) ⌝ }
-{
-    let racking = f.racking;
-    let compression = f.compression;
-    let tension = f.tension;
-    let p = write_tiers_over(answer, at, end, 1, 1, sizes(racking), Limits::RACKING, n);
-    let q = write_levels_over(answer, p, end, 2, compression, Limits::COMPRESSION, n);
-    let s = write_tiers_over(answer, q, end, 3, 0, tension, Limits::CORNER_TENSION, n);
-    write_tiers_over(answer, s, end, 4, 0, tension, lock, n)
-}
-
-// The findings of an end's m lashes: kinds 5 to 7.
-fn write_lash_findings(
-    answer: &mut [u8],
-    at: usize,
-    end: u8,
-    lashes: [Lash; 8],
-    m: usize,
-    f: EndFigures,
-) -> usize
-    requires { ⌜ (m ≤ 8) × (at + 9 * m ≤ length (now answer)) ⌝ }
-    ensures { λ r. ⌜ Wrote (now (answer .entry)) at (lashFindings end lashes m f) (now (answer .exit)) r × (r ≤ at + 9 * m) ⌝ }
-{
-    let pull = f.pull;
-    let vertical = f.vertical;
-    let athwart = f.athwart;
-    let p = write_lashes_over(answer, at, end, 5, pull, safe_loads(lashes, m), m);
-    let q = write_lashes_over(answer, p, end, 6, vertical, [Limits::LASH_VERTICAL; 8], m);
-    write_lashes_over(answer, q, end, 7, athwart, [Limits::LASH_ATHWART; 8], m)
+    let mut next = at;
+    let mut j = 0;
+    while j < m {
+        let l = lashes[j];
+        let limit = safe_load(l.material, l.breaking);
+        next = put_where(found, next, end, 5, j, limit < xs[j]);
+        j += 1;
+    }
+    next
 }
 
 // The findings of an end of n tiers and m lashes.
-fn write_end_findings(
-    answer: &mut [u8],
+fn put_end(
+    found: &mut [u8],
     at: usize,
     end: u8,
     n: usize,
@@ -182,14 +103,32 @@ fn write_end_findings(
     m: usize,
     f: EndFigures,
 ) -> usize
-    requires { ⌜ (n ≤ 10) × (m ≤ 8) × (at + 12 * n + 9 * m ≤ length (now answer)) ⌝ }
-    ensures { λ r. ⌜ Wrote (now (answer .entry)) at (tierFindings end n lock f ++ lashFindings end lashes m f) (now (answer .exit)) r × (r ≤ at + 12 * n + 9 * m) ⌝ }
+    requires { ⌜ (n ≤ 10) × (m ≤ 8) × (at + 12 * n + 9 * m ≤ length (now found)) ⌝ }
+    ensures { λ r. ⌜ Put (now (found .entry)) at (tierFindings end n lock f ++ lashFindings end lashes m f) (now (found .exit)) r × (r ≤ at + 12 * n + 9 * m) ⌝ }
 {
-    let p = write_tier_findings(answer, at, end, n, lock, f);
-    write_lash_findings(answer, p, end, lashes, m, f)
+    let p = put_rackings(found, at, end, &f.racking, n);
+    let q = put_over(found, p, end, 2, 1, &f.compression, Limits::COMPRESSION, n);
+    let r = put_over(found, q, end, 3, 0, &f.tension, Limits::CORNER_TENSION, n);
+    let s = put_over(found, r, end, 4, 0, &f.tension, lock, n);
+    let u = put_pulls(found, s, end, lashes, &f.pull, m);
+    let v = put_over(found, u, end, 6, 0, &f.vertical, Limits::LASH_VERTICAL, m);
+    put_over(found, v, end, 7, 0, &f.athwart, Limits::LASH_ATHWART, m)
 }
 
-// All findings behind their count: the door end's, then the closed end's. The count is stored last.
+// The first n bytes found, into the answer at `at`.
+fn write_found(answer: &mut [u8], at: usize, found: &[u8], n: usize)
+    requires { ⌜ (n ≤ length (now found)) × (at + n ≤ length (now answer)) ⌝ }
+    ensures { λ r. ⌜ Wrote (now (answer .entry)) at (take n (now (found .entry))) (now (answer .exit)) (at + n) ⌝ }
+{
+    let mut i = 0;
+    while i < n {
+        answer[at + i] = found[i];
+        i += 1;
+    }
+}
+
+// All findings behind their count: the door end's, then the closed end's. They go through a buffer of their own, since bytes are stored
+// behind the last finding too.
 pub fn write_findings(answer: &mut [u8], at: usize, t: Sheet, f: Figures) -> usize
     requires { ⌜ Sized t × (at + 385 ≤ length (now answer)) ⌝ }
     ensures { λ r. ⌜ Wrote (now (answer .entry)) at (findingsBytes t f) (now (answer .exit)) r × (r ≤ at + 385) ⌝ }
@@ -199,8 +138,10 @@ pub fn write_findings(answer: &mut [u8], at: usize, t: Sheet, f: Figures) -> usi
     let lock = safe_load(head.lock, head.breaking);
     let door = t.door;
     let closed = t.closed;
-    let p = write_end_findings(answer, at + 1, 0, n, lock, door, t.ndoor, f.door);
-    let q = write_end_findings(answer, p, 1, n, lock, closed, t.nclosed, f.closed);
-    write1(answer, at, ((q - at - 1) / 3) as u64);
-    q
+    let mut found = [0u8; 384];
+    let p = put_end(&mut found, 0, 0, n, lock, door, t.ndoor, f.door);
+    let q = put_end(&mut found, p, 1, n, lock, closed, t.nclosed, f.closed);
+    write1(answer, at, (q / 3) as u64);
+    write_found(answer, at + 1, &found, q);
+    at + 1 + q
 }

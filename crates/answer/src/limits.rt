@@ -1,11 +1,7 @@
 // Document 01, "Permissible loads", in whole newtons.
 
 ghost use mathlib.Core.Path.{_≡_};
-ghost use Prim.Native.Nat.{ℕ, _<_, _≤_};
-ghost use lib.ListN.{length, getD};
 ghost use Rattle.answer.specs.Limits.{safeLoad};
-ghost use Rattle.answer.specs.Steps.{lashLimit};
-use sheet::Lash;
 
 // The limits of CR Table 2-3.
 pub struct Limits {}
@@ -30,19 +26,4 @@ pub fn safe_load(material: u8, breaking: u32) -> u64
         return (breaking as u64) * 100 / 167;
     }
     (breaking as u64) / 2
-}
-
-// The safe working load of each of n lashes.
-pub fn safe_loads(lashes: [Lash; 8], n: usize) -> [u64; 8]
-    requires { ⌜ n ≤ 8 ⌝ }
-    ensures { λ r. ⌜ (length r ≡ 8) × ((j : ℕ) → j < n → getD r j 0 ≡ lashLimit lashes j) ⌝ }
-{
-    let mut loads = [0; 8];
-    let mut j = 0;
-    while j < n {
-        let l = lashes[j];
-        loads[j] = safe_load(l.material, l.breaking);
-        j += 1;
-    }
-    loads
 }
