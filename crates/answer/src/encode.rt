@@ -23,15 +23,15 @@ use sheet::Sheet;
 pub const LONGEST: usize = 834;
 
 // A count n and n rackings; the place behind them.
-fn write_rackings(answer: &mut [u8], at: usize, racking: [i32; 10], n: usize) -> usize
-    requires { ⌜ (n ≤ 10) × (at + 1 + 4 * n ≤ length (now answer)) ⌝ }
-    ensures { λ r. ⌜ Wrote (now (answer .entry)) at (counted n (λ i. bytes4 (twos (getD racking i (pos 0))))) (now (answer .exit)) r × (r ≡ at + 1 + 4 * n) ⌝ }
+fn write_rackings(answer: &mut [u8], at: usize, xs: &[i32], n: usize) -> usize
+    requires { ⌜ (n ≤ 10) × (n ≤ length (now xs)) × (at + 1 + 4 * n ≤ length (now answer)) ⌝ }
+    ensures { λ r. ⌜ Wrote (now (answer .entry)) at (counted n (λ i. bytes4 (twos (getD (now (xs .entry)) i (pos 0))))) (now (answer .exit)) r × (r ≡ at + 1 + 4 * n) ⌝ }
 {
     write1(answer, at, n as u64);
     let mut next = at + 1;
     let mut i = 0;
     while i < n {
-        write_signed(answer, next, racking[i]);
+        write_signed(answer, next, xs[i]);
         next += 4;
         i += 1;
     }
@@ -54,20 +54,6 @@ fn write_figures(answer: &mut [u8], at: usize, xs: &[u64], n: usize) -> usize
     next
 }
 
-fn write_compressions(answer: &mut [u8], at: usize, xs: [u64; 11], n: usize) -> usize
-    requires { ⌜ (n ≤ 11) × (at + 1 + 4 * n ≤ length (now answer)) × ((i : ℕ) → getD xs i 0 < 4294967296) ⌝ }
-    ensures { λ r. ⌜ Wrote (now (answer .entry)) at (counted n (λ i. bytes4 (getD xs i 0))) (now (answer .exit)) r × (r ≡ at + 1 + 4 * n) ⌝ }
-{
-    write_figures(answer, at, &xs, n)
-}
-
-fn write_tensions(answer: &mut [u8], at: usize, xs: [u64; 10], n: usize) -> usize
-    requires { ⌜ (n ≤ 10) × (at + 1 + 4 * n ≤ length (now answer)) × ((i : ℕ) → getD xs i 0 < 4294967296) ⌝ }
-    ensures { λ r. ⌜ Wrote (now (answer .entry)) at (counted n (λ i. bytes4 (getD xs i 0))) (now (answer .exit)) r × (r ≡ at + 1 + 4 * n) ⌝ }
-{
-    write_figures(answer, at, &xs, n)
-}
-
 // The three forces of a lash.
 fn write_lash(answer: &mut [u8], at: usize, pull: u64, athwart: u64, vertical: u64) -> usize
     requires { ⌜ (at + 12 ≤ length (now answer)) × (pull < 4294967296) × (athwart < 4294967296) × (vertical < 4294967296) ⌝ }
@@ -80,16 +66,16 @@ fn write_lash(answer: &mut [u8], at: usize, pull: u64, athwart: u64, vertical: u
 }
 
 // A count m and the three forces of each of m lashes.
-fn write_lashes(
+fn write_lashes<'a>(
     answer: &mut [u8],
     at: usize,
-    pull: [u64; 8],
-    athwart: [u64; 8],
-    vertical: [u64; 8],
+    pull: &'a [u64],
+    athwart: &'a [u64],
+    vertical: &'a [u64],
     m: usize,
 ) -> usize
-    requires { ⌜ (m ≤ 8) × (at + 1 + 12 * m ≤ length (now answer)) × ((j : ℕ) → getD pull j 0 < 4294967296) × ((j : ℕ) → getD athwart j 0 < 4294967296) × ((j : ℕ) → getD vertical j 0 < 4294967296) ⌝ }
-    ensures { λ r. ⌜ Wrote (now (answer .entry)) at (counted m (λ j. lashBytes (getD pull j 0) (getD athwart j 0) (getD vertical j 0))) (now (answer .exit)) r × (r ≡ at + 1 + 12 * m) ⌝ }
+    requires { ⌜ (m ≤ 8) × (m ≤ length (now pull)) × (m ≤ length (now athwart)) × (m ≤ length (now vertical)) × (at + 1 + 12 * m ≤ length (now answer)) × ((j : ℕ) → getD (now pull) j 0 < 4294967296) × ((j : ℕ) → getD (now athwart) j 0 < 4294967296) × ((j : ℕ) → getD (now vertical) j 0 < 4294967296) ⌝ }
+    ensures { λ r. ⌜ Wrote (now (answer .entry)) at (counted m (λ j. lashBytes (getD (now (pull .entry)) j 0) (getD (now (athwart .entry)) j 0) (getD (now (vertical .entry)) j 0))) (now (answer .exit)) r × (r ≡ at + 1 + 12 * m) ⌝ }
 {
     write1(answer, at, m as u64);
     let mut next = at + 1;
@@ -106,16 +92,10 @@ fn write_end(answer: &mut [u8], at: usize, n: usize, m: usize, f: EndFigures) ->
     requires { ⌜ (n ≤ 10) × (m ≤ 8) × (at + 8 + 12 * n + 12 * m ≤ length (now answer)) × Fitting f ⌝ }
     ensures { λ r. ⌜ Wrote (now (answer .entry)) at (endBytesOf n m f) (now (answer .exit)) r × (r ≡ at + 8 + 12 * n + 12 * m) ⌝ }
 {
-    let racking = f.racking;
-    let compression = f.compression;
-    let tension = f.tension;
-    let pull = f.pull;
-    let athwart = f.athwart;
-    let vertical = f.vertical;
-    let p = write_rackings(answer, at, racking, n);
-    let q = write_compressions(answer, p, compression, n + 1);
-    let s = write_tensions(answer, q, tension, n);
-    write_lashes(answer, s, pull, athwart, vertical, m)
+    let p = write_rackings(answer, at, &f.racking, n);
+    let q = write_figures(answer, p, &f.compression, n + 1);
+    let s = write_figures(answer, q, &f.tension, n);
+    write_lashes(answer, s, &f.pull, &f.athwart, &f.vertical, m)
 }
 
 // 0 accepted, 1 not: findings stand from `first` to `end`.

@@ -17,10 +17,10 @@ use Rattle.answer.proofs.encode.write_rackings.Statement.{statement}
 use Rattle.answer.proofs.encode.write_rackings.Tie as tie
 
 abbrev Inv-loop : tie.InvT-loop
-Inv-loop answer₀ at n racking next₀ i₀ answer next i = (i ≤ n) × (next ≡ next₀ + 4 * i) × Wrote answer₀ next₀ (flatMap (λ k. bytes4 (twos (getD racking k (pos 0)))) (below i)) answer next
+Inv-loop answer₀ at xs n next₀ i₀ answer next i = (i ≤ n) × (next ≡ next₀ + 4 * i) × Wrote answer₀ next₀ (flatMap (λ k. bytes4 (twos (getD xs k (pos 0)))) (below i)) answer next
 
 abbrev μ-loop : tie.MeasureT-loop
-μ-loop answer₀ at n racking next₀ i₀ answer next i = n - i
+μ-loop answer₀ at xs n next₀ i₀ answer next i = n - i
 
 write1-requires : tie.Need-write1-requires Inv-loop μ-loop
 write1-requires c κs = search needs
@@ -34,8 +34,8 @@ loop-holds c = (search needs, omega arith, entries-none _ _ _)
 mul-write-signed : tie.Need-mul-write-signed Inv-loop μ-loop
 mul-write-signed c = search needs
 
-array-copy-out-write-signed : tie.Need-array-copy-out-write-signed Inv-loop μ-loop
-array-copy-out-write-signed c = search needs
+shared-slice-copy-out-write-signed : tie.Need-shared-slice-copy-out-write-signed Inv-loop μ-loop
+shared-slice-copy-out-write-signed c = search needs
 
 write-signed-requires : tie.Need-write-signed-requires Inv-loop μ-loop
 write-signed-requires c κs = search needs
@@ -52,7 +52,7 @@ loop-less c = search needs
 loop-again : tie.Need-loop-again Inv-loop μ-loop
 loop-again c =
     let l = c .before .before .before .before .before .before in
-    let xs = l .before .before .before .before .before .before .args .t3 in
+    let xs = l .before .before .before .before .before .before .args .xs .now in
     let g : SFits w32 (getD xs (l .loop .i) (pos 0)) = search needs in
     let e = rw (toZ-ofZ w32 _ g) at (c .before .before .write-signed .ensures) in
     (search needs, omega arith, entries-more _ (l .loop .i) (l .loop .inv .2) (run e refl))
@@ -76,7 +76,7 @@ write-rackings-spec =
     add-next
     loop-holds
     mul-write-signed
-    array-copy-out-write-signed
+    shared-slice-copy-out-write-signed
     write-signed-requires
     add-next-2
     add-i
