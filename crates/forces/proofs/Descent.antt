@@ -157,8 +157,8 @@ module _ {n : ℕ} {k : List ℕ} {ts : List Tier} {d most least lee windward : 
         {i : ℕ} →
         i ≤ 0 →
         Descended n k ts d most least lee windward racking compressions tensions moment lees windwards i →
-        Levelled n k ts d most least lee windward (record { racking = racking; compression = compressions; tension = tensions })
+        Levelled n k ts d most least lee windward racking compressions tensions
     at-foot {i} h s =
         let e : i ≡ 0 = omega arith in
         let f = subst (λ (z : ℕ). Descended n k ts d most least lee windward racking compressions tensions moment lees windwards z) e s in
-        record { racking = filled (f .racked); compression = filled (f .pressed); tension = filled (f .tensed) }
+        record { racking-is = filled (f .racked); compression-is = filled (f .pressed); tension-is = filled (f .tensed) }

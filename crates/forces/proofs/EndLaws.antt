@@ -7,7 +7,7 @@ use native.Mathlib.Decide.{decLt, ℕ-discrete}
 use native.Mathlib.Omega.{arith}
 use borrow.Author.Tests.{le-leb, lt-leb, eq-eqb, ne-eqb}
 use lib.Dec.{leb, eqb}
-use lib.IntN.{pos, _+ℤ_, _*ℤ_}
+use lib.IntN.{ℤ, pos, _+ℤ_, _*ℤ_}
 use lib.ListN.{length, getD, take, drop, replicate, length-drop, getD-replicate}
 use Rattle.springs.specs.Promise.{Solvable, Promised}
 use Rattle.sheet.specs.declared.Tier.{Tier}
@@ -17,14 +17,12 @@ use Rattle.sheet.specs.declared.Sheet.{Sheet}
 use Rattle.sheet.specs.Lashings.{lashingOf}
 use Rattle.sheet.specs.Routes.{routePercent}
 use Rattle.figures.specs.declared.EndFigures.{EndFigures}
-use Rattle.forces.specs.declared.Pulls.{Pulls}
-use Rattle.forces.specs.declared.LevelFigures.{LevelFigures}
 use Rattle.figures.specs.Facts.{LashFacts, Facts}
 use Rattle.figures.specs.Lashes.{hookLevel}
 use Rattle.figures.specs.Ends.{End, springOf, tiersOf, lashesOf}
 use Rattle.figures.specs.Reported.{noLash, EndFigured}
 use Rattle.figures.specs.Fixed.{upward, upwards, leePart, windwardPart, rackingPart, rackingFigure, momentPart, compressionFigure, tensionFigure, Computed}
-use Rattle.forces.specs.Steps.{Filled, Loaded, Weighed, total, momentOf, Measured, Levelled, Held, Pulled, Workable, EndWorked, Worked}
+use Rattle.forces.specs.Steps.{Filled, Loaded, Weighed, total, momentOf, Measured, Levelled, Held, Pulled, Borne, Workable, EndWorked, Worked}
 use Rattle.figures.proofs.Figured.{end-figured}
 use Rattle.figures.proofs.Inputs.{spring-least, spring-most}
 use Rattle.figures.proofs.LevelStiffness.{level-most}
@@ -112,11 +110,12 @@ module _ {n : ℕ} {k : List ℕ} {ts : List Tier} {m : ℕ} {ls : List Lash} {�
       }
 
   pub end-measured :
-      {κ d : List ℕ} {p : Pulls} →
+      {κ d lee windward : List ℕ} →
       Promised n k κ ω d →
-      Pulled m ls d p →
-      Measured n k ts d most least (p .lee) (p .windward)
-  end-measured o u =
+      Borne leePart ls d lee →
+      Borne windwardPart ls d windward →
+      Measured n k ts d most least lee windward
+  end-measured o u v =
       record {
         few = h .few;
         springs = λ i q. h .springs i q .1;
@@ -124,54 +123,56 @@ module _ {n : ℕ} {k : List ℕ} {ts : List Tier} {m : ℕ} {ls : List Lash} {�
         shifts = o .far;
         most-light = h .weighed .most-light;
         least-light = h .weighed .least-light;
-        lee-small = u .lee-small;
-        windward-small = u .windward-small;
-        lee-long = u .lee-long;
-        windward-long = u .windward-long;
+        lee-small = u .small;
+        windward-small = v .small;
+        lee-long = u .long;
+        windward-long = v .long;
       }
 
   pub end-worked :
-      {κ d : List ℕ} {p : Pulls} {v : LevelFigures} →
+      {κ d pull athwart vertical lee windward : List ℕ} {racking : List ℤ} {compression tension : List ℕ} →
       Held ls κ →
       Promised n k κ ω d →
-      Pulled m ls d p →
-      Levelled n k ts d most least (p .lee) (p .windward) v →
+      Pulled m ls d pull athwart vertical →
+      Borne leePart ls d lee →
+      Borne windwardPart ls d windward →
+      Levelled n k ts d most least lee windward racking compression tension →
       EndWorked n k ts ls ω
       (record {
-        racking = v .racking;
-        compression = v .compression;
-        tension = v .tension;
-        pull = p .pull;
-        athwart = p .athwart;
-        vertical = p .vertical;
+        racking = racking;
+        compression = compression;
+        tension = tension;
+        pull = pull;
+        athwart = athwart;
+        vertical = vertical;
       })
-  end-worked {κ} {d} {p} s o u l =
+  end-worked {κ} {d} {lee = lee} {windward = windward} s o u x y l =
       record {
         κ = κ;
         d = d;
         held = λ i q. s i;
         promised = o;
-        racking = l .racking;
+        racking = l .racking-is;
         compression =
             refilled (λ i q. let e = lees i (omega arith) in let f = windwards i (omega arith) in rw (h .weighed .most-is i, e, f) refl)
-            (l .compression);
+            (l .compression-is);
         tension =
             refilled
             (λ i q. let e = lees (suc i) (omega arith) in let f = windwards (suc i) (omega arith) in rw (h .weighed .least-is i, e, f) refl)
-            (l .tension);
-        pull = rw counted (u .pull);
-        athwart = rw counted (u .athwart);
-        vertical = rw counted (u .vertical);
+            (l .tension-is);
+        pull = rw counted (u .pull-is);
+        athwart = rw counted (u .athwart-is);
+        vertical = rw counted (u .vertical-is);
       }
     where
       under : (j : ℕ) → j < length ls → hookLevel (getD ls j noLash) ≤ n
       under j q = h .each j q .inside
 
-      lees : (i : ℕ) → i ≤ suc n → total (drop i (take (suc n) (p .lee))) ≡ upwards leePart (λ l. leb i (hookLevel l)) d ls
-      lees = sum-from leePart n d ls (p .lee) (omega (arith, h .few, u .lee-long)) under (u .lee)
+      lees : (i : ℕ) → i ≤ suc n → total (drop i (take (suc n) lee)) ≡ upwards leePart (λ l. leb i (hookLevel l)) d ls
+      lees = sum-from leePart n d ls lee (omega (arith, h .few, x .long)) under (x .each)
 
-      windwards : (i : ℕ) → i ≤ suc n → total (drop i (take (suc n) (p .windward))) ≡ upwards windwardPart (λ l. leb i (hookLevel l)) d ls
-      windwards = sum-from windwardPart n d ls (p .windward) (omega (arith, h .few, u .windward-long)) under (u .windward)
+      windwards : (i : ℕ) → i ≤ suc n → total (drop i (take (suc n) windward)) ≡ upwards windwardPart (λ l. leb i (hookLevel l)) d ls
+      windwards = sum-from windwardPart n d ls windward (omega (arith, h .few, y .long)) under (y .each)
 
 -- the springs of an end, and that its figures may be computed
 abbrev pub springs : End → List ℕ

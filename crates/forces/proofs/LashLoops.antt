@@ -16,7 +16,7 @@ use Rattle.figures.specs.Facts.{LashFacts}
 use Rattle.figures.specs.Lashes.{hookLevel, lashLength}
 use Rattle.figures.specs.Reported.{noLash}
 use Rattle.figures.specs.Fixed.{ceil, lashPad, stiffnessOf, levelStiffness, part, upward, upwards, pullFigure, athwartFigure, verticalFigure, leePart, windwardPart}
-use Rattle.forces.specs.Steps.{Geared, Held, Pulled}
+use Rattle.forces.specs.Steps.{Geared, Held, Pulled, Borne}
 use Rattle.forces.proofs.Arrays.{Between, between-none, fill-above, filled}
 use Rattle.figures.proofs.LashStiffness.{stiffness-most}
 use Rattle.forces.proofs.LashLaws.{part-le, upward-le}
@@ -189,24 +189,27 @@ module _ {m : ℕ} {ls : List Lash} {d : List ℕ} (g : Listed m ls) (small : (i
           windwards = post-more windwardPart low (s .windwards);
         }
 
+  borne : (post : Lashing → ℕ → ℕ) → ((g : Lashing) (x : ℕ) → post g x ≤ x) → {r : List ℕ} {j : ℕ} → m ≤ j → Tallied at-level (on post d) ls 11 j r → Borne post ls d r
+  borne post kept h t =
+      let x = tallied-all t (omega (arith, g .counted)) in
+      record {
+        each = λ i. x i ∙ sym (tally-upwards post (at-level i) d ls);
+        small = λ i. omega (arith, x i, post-le d g small post kept i);
+        long = t .long;
+      }
+
   pub strained-all :
       {pull athwart vertical lee windward : List ℕ} {j : ℕ} →
       m ≤ j →
       Strained m ls d pull athwart vertical lee windward j →
-      Pulled m ls d (record { pull = pull; athwart = athwart; vertical = vertical; lee = lee; windward = windward })
+      Pulled m ls d pull athwart vertical × Borne leePart ls d lee × Borne windwardPart ls d windward
   strained-all {j = j} h s =
-      let e : j ≡ m = omega (arith, s .within) in
-      let q : length ls ≤ j = omega (arith, g .counted) in
-      let x = tallied-all (s .lees) q in
-      let y = tallied-all (s .windwards) q in
-      record {
-        pull = filled (rw e at (s .pulls));
-        athwart = filled (rw e at (s .athwarts));
-        vertical = filled (rw e at (s .verticals));
-        lee = λ i. x i ∙ sym (tally-upwards leePart (at-level i) d ls);
-        windward = λ i. y i ∙ sym (tally-upwards windwardPart (at-level i) d ls);
-        lee-small = λ i. omega (arith, x i, post-le d g small leePart lee-kept i);
-        windward-small = λ i. omega (arith, y i, post-le d g small windwardPart windward-kept i);
-        lee-long = s .lees .long;
-        windward-long = s .windwards .long;
-      }
+      let e : j ≡ m = omega (arith, s .within) in (
+        record {
+          pull-is = filled (rw e at (s .pulls));
+          athwart-is = filled (rw e at (s .athwarts));
+          vertical-is = filled (rw e at (s .verticals));
+        },
+        borne leePart lee-kept h (s .lees),
+        borne windwardPart windward-kept h (s .windwards),
+      )

@@ -8,11 +8,10 @@ use lib.ListN.{drop, take, getD, length}
 use lib.IntN.{ℤ, pos, negℤ, _+ℤ_, _-ℤ_, _*ℤ_}
 use Rattle.sheet.specs.declared.Tier.{Tier}
 use Rattle.sheet.specs.declared.Lash.{Lash}
+use Rattle.sheet.specs.declared.Lashing.{Lashing}
 use Rattle.sheet.specs.declared.Sheet.{Sheet}
 use Rattle.springs.specs.Promise.{Promised}
 use Rattle.figures.specs.declared.EndFigures.{EndFigures}
-use Rattle.forces.specs.declared.LevelFigures.{LevelFigures}
-use Rattle.forces.specs.declared.Pulls.{Pulls}
 use Rattle.figures.specs.Lashes.{hookLevel, lashLength}
 use Rattle.figures.specs.Ends.{End, lashesOf}
 use Rattle.figures.specs.Posts.{inCompression, inTension}
@@ -46,17 +45,17 @@ pub record Geared (m : ℕ) (ls : List Lash) (lengths stiffnesses : List ℕ) : 
 abbrev pub Held : List Lash → List ℕ → Type 0
 Held ls levels = (i : ℕ) → getD levels i 0 ≡ levelStiffness ls (suc i)
 
--- the figures of m lashes at the shifts d, and the vertical parts on the posts at each level
-pub record Pulled (m : ℕ) (ls : List Lash) (d : List ℕ) (r : Pulls) : Type 0 where
-  pub pull : Filled 0 m (λ j. pullFigure d (getD ls j noLash)) (r .pull)
-  pub athwart : Filled 0 m (λ j. athwartFigure d (getD ls j noLash)) (r .athwart)
-  pub vertical : Filled 0 m (λ j. verticalFigure d (getD ls j noLash)) (r .vertical)
-  pub lee : (i : ℕ) → getD (r .lee) i 0 ≡ upwards leePart (λ l. eqb i (hookLevel l)) d ls
-  pub windward : (i : ℕ) → getD (r .windward) i 0 ≡ upwards windwardPart (λ l. eqb i (hookLevel l)) d ls
-  pub lee-small : (i : ℕ) → getD (r .lee) i 0 ≤ 2 ^ 58
-  pub windward-small : (i : ℕ) → getD (r .windward) i 0 ≤ 2 ^ 58
-  pub lee-long : length (r .lee) ≡ 11
-  pub windward-long : length (r .windward) ≡ 11
+-- the figures of m lashes at the shifts d
+pub record Pulled (m : ℕ) (ls : List Lash) (d pull athwart vertical : List ℕ) : Type 0 where
+  pub pull-is : Filled 0 m (λ j. pullFigure d (getD ls j noLash)) pull
+  pub athwart-is : Filled 0 m (λ j. athwartFigure d (getD ls j noLash)) athwart
+  pub vertical-is : Filled 0 m (λ j. verticalFigure d (getD ls j noLash)) vertical
+
+-- the vertical parts of the lashes on a post at each level
+pub record Borne (post : Lashing → ℕ → ℕ) (ls : List Lash) (d r : List ℕ) : Type 0 where
+  pub each : (i : ℕ) → getD r i 0 ≡ upwards post (λ l. eqb i (hookLevel l)) d ls
+  pub small : (i : ℕ) → getD r i 0 ≤ 2 ^ 58
+  pub long : length r ≡ 11
 
 unfoldable pub total : List ℕ → ℕ
 total [] = 0
@@ -106,10 +105,10 @@ module _ (n : ℕ) (k : List ℕ) (ts : List Tier) (d most least lee windward : 
       (total (drop (suc i) (take (suc n) lee)))
       (total (drop (suc i) (take (suc n) windward)))
 
-  pub record Levelled (r : LevelFigures) : Type 0 where
-    pub racking : Filled (pos 0) n (λ i. rackingFigure (rackingPart (getD k i 0) d i)) (r .racking)
-    pub compression : Filled 0 (suc n) compressionAt (r .compression)
-    pub tension : Filled 0 n tensionAt (r .tension)
+  pub record Levelled (racking : List ℤ) (compression tension : List ℕ) : Type 0 where
+    pub racking-is : Filled (pos 0) n (λ i. rackingFigure (rackingPart (getD k i 0) d i)) racking
+    pub compression-is : Filled 0 (suc n) compressionAt compression
+    pub tension-is : Filled 0 n tensionAt tension
 
 -- an end may be worked: n tiers ts with springs k, m lashes ls, the loads ω on the levels, and half of the weights above them
 pub record Workable (n : ℕ) (k : List ℕ) (ts : List Tier) (m : ℕ) (ls : List Lash) (ω most least : List ℕ) : Type 0 where

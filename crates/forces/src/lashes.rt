@@ -2,16 +2,14 @@
 
 ghost use mathlib.Core.Path.{_≡_};
 ghost use Prim.Native.Nat.{ℕ, _+_, _*_, _/_, _<_, _≤_, _^_};
-ghost use lib.ListN.{take, getD, length};
+ghost use lib.ListN.{take, getD, length, replicate};
 ghost use Rattle.figures.specs.Facts.{LashFacts};
 ghost use Rattle.figures.specs.Lashes.{hookLevel, lashLength};
 ghost use Rattle.figures.specs.Reported.{noLash};
 ghost use Rattle.figures.specs.Fixed.{ceil, lashPad, stiffnessOf, leePart, windwardPart};
-ghost use Rattle.forces.specs.Steps.{Geared, Held, Pulled};
-use crate::Gear;
+ghost use Rattle.forces.specs.Steps.{Geared, Held, Pulled, Borne};
 use crate::NEWTON;
 use crate::PostParts;
-use crate::Pulls;
 use arith::roots::length;
 use arith::rounding::ceil_div;
 use arith::rounding::scaled;
@@ -63,13 +61,17 @@ fn stiffness_of(l: Lash, length: u64) -> u64
 }
 
 // Lengths and stiffnesses of an end's lashes, and the sums of the stiffnesses by level.
-pub fn gear_of(lashes: [Lash; 8], m: usize) -> Gear
+pub fn gear_of(
+    lashes: [Lash; 8],
+    m: usize,
+    lengths: &mut [u64],
+    stiffnesses: &mut [u64],
+    levels: &mut [u64],
+)
     requires { ⌜ (m ≤ 8) × ((j : ℕ) → j < m → LashFacts 10 (getD (take m lashes) j noLash)) ⌝ }
-    ensures { λ r. ⌜ Geared m (take m lashes) (r .length) (r .stiffness) × Held (take m lashes) (r .level) ⌝ }
+    requires { ⌜ (now lengths ≡ replicate 8 0) × (now stiffnesses ≡ replicate 8 0) × (now levels ≡ replicate 10 0) ⌝ }
+    ensures { λ _. ⌜ Geared m (take m lashes) (now (lengths .exit)) (now (stiffnesses .exit)) × Held (take m lashes) (now (levels .exit)) ⌝ }
 {
-    let mut lengths = [0u64; 8];
-    let mut stiffnesses = [0u64; 8];
-    let mut levels = [0u64; 10];
     let mut j = 0;
     while j < m {
         let l = lashes[j];
@@ -80,11 +82,6 @@ pub fn gear_of(lashes: [Lash; 8], m: usize) -> Gear
         stiffnesses[j] = stiff;
         levels[at] = levels[at] + stiff;
         j += 1;
-    }
-    Gear {
-        length: lengths,
-        stiffness: stiffnesses,
-        level: levels,
     }
 }
 
@@ -156,23 +153,25 @@ fn on_posts(l: Lashing, upward: u64) -> PostParts
 }
 
 // The figures of an end's lashes, and the sums of the vertical parts by level on each post.
-pub fn lash_figures<'a>(
+pub fn lash_figures(
     lashes: [Lash; 8],
     m: usize,
-    lengths: &'a [u64],
-    stiffnesses: &'a [u64],
+    lengths: &[u64],
+    stiffnesses: &[u64],
     d: &[u64],
-) -> Pulls
+    pull: &mut [u64],
+    athwart: &mut [u64],
+    vertical: &mut [u64],
+    lee: &mut [u64],
+    windward: &mut [u64],
+)
     requires { ⌜ (m ≤ 8) × ((j : ℕ) → j < m → LashFacts 10 (getD (take m lashes) j noLash)) ⌝ }
     requires { ⌜ Geared m (take m lashes) (now lengths) (now stiffnesses) × ((i : ℕ) → getD (now d) i 0 ≤ 2 ^ 40) ⌝ }
     requires { ⌜ (length (now lengths) ≡ 8) × (length (now stiffnesses) ≡ 8) × (length (now d) ≡ 11) ⌝ }
-    ensures { λ r. ⌜ Pulled m (take m lashes) (now (d .entry)) r ⌝ }
+    requires { ⌜ (now pull ≡ replicate 8 0) × (now athwart ≡ replicate 8 0) × (now vertical ≡ replicate 8 0) × (now lee ≡ replicate 11 0) × (now windward ≡ replicate 11 0) ⌝ }
+    ensures { λ _. ⌜ Pulled m (take m lashes) (now (d .entry)) (now (pull .exit)) (now (athwart .exit)) (now (vertical .exit)) ⌝ }
+    ensures { λ _. ⌜ Borne leePart (take m lashes) (now (d .entry)) (now (lee .exit)) × Borne windwardPart (take m lashes) (now (d .entry)) (now (windward .exit)) ⌝ }
 {
-    let mut pull = [0u64; 8];
-    let mut athwart = [0u64; 8];
-    let mut vertical = [0u64; 8];
-    let mut lee = [0u64; 11];
-    let mut windward = [0u64; 11];
     let mut j = 0;
     while j < m {
         let l = lashes[j];
@@ -185,12 +184,5 @@ pub fn lash_figures<'a>(
         lee[at] = lee[at] + u.lee;
         windward[at] = windward[at] + u.windward;
         j += 1;
-    }
-    Pulls {
-        pull,
-        athwart,
-        vertical,
-        lee,
-        windward,
     }
 }

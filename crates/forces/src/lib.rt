@@ -28,35 +28,6 @@ const CLASS_SHARE: u64 = 9;
 // 1 N in 2^-18 N.
 const NEWTON: u64 = 262144;
 
-// Half of V above each level, with A_Vmax and with A_Vmin.
-pub struct HalfWeights {
-    pub most: [u64; 11],
-    pub least: [u64; 11],
-}
-
-// Lengths and stiffnesses of an end's lashes, and the stiffness of all lashes at levels 1 to 10.
-pub struct Gear {
-    pub length: [u64; 8],
-    pub stiffness: [u64; 8],
-    pub level: [u64; 10],
-}
-
-// The figures of an end's lashes, and the vertical parts on each post at levels 0 to 10.
-pub struct Pulls {
-    pub pull: [u64; 8],
-    pub athwart: [u64; 8],
-    pub vertical: [u64; 8],
-    pub lee: [u64; 11],
-    pub windward: [u64; 11],
-}
-
-// Of each level: racking of the tier over it, compression and tension.
-pub struct LevelFigures {
-    pub racking: [i32; 10],
-    pub compression: [u64; 11],
-    pub tension: [u64; 10],
-}
-
 // Vertical parts of lashes on the two posts.
 pub struct PostParts {
     pub lee: u64,
@@ -64,30 +35,58 @@ pub struct PostParts {
 }
 
 // The figures of one end: n tiers with a spring for each, m lashes, and the loads and weights that both ends share.
-fn end_figures<'a>(
+fn end_figures(
     n: usize,
     k: &[u64],
     tiers: [Tier; 10],
     lashes: [Lash; 8],
     m: usize,
     loads: &[u64],
-    most: &'a [u64],
-    least: &'a [u64],
+    most: &[u64],
+    least: &[u64],
 ) -> EndFigures
     requires { ⌜ Workable n (now k) (take n tiers) m (take m lashes) (now loads) (now most) (now least) ⌝ }
     requires { ⌜ (length (now k) ≡ 10) × (length (now loads) ≡ 10) × (length (now most) ≡ 11) × (length (now least) ≡ 11) ⌝ }
     ensures { λ r. ⌜ EndWorked n (now (k .entry)) (take n tiers) (take m lashes) (now (loads .entry)) r ⌝ }
 {
-    let gear = lashes::gear_of(lashes, m);
-    let d = springs::solve(n, k, &gear.level, loads);
-    let pulls = lashes::lash_figures(lashes, m, &gear.length, &gear.stiffness, &d);
-    let levels = levels::level_figures(n, k, tiers, &d, most, least, &pulls.lee, &pulls.windward);
-    let racking = levels.racking;
-    let compression = levels.compression;
-    let tension = levels.tension;
-    let pull = pulls.pull;
-    let athwart = pulls.athwart;
-    let vertical = pulls.vertical;
+    let mut lengths = [0u64; 8];
+    let mut stiffnesses = [0u64; 8];
+    let mut kappa = [0u64; 10];
+    lashes::gear_of(lashes, m, &mut lengths, &mut stiffnesses, &mut kappa);
+    let d = springs::solve(n, k, &kappa, loads);
+    let mut pull = [0u64; 8];
+    let mut athwart = [0u64; 8];
+    let mut vertical = [0u64; 8];
+    let mut lee = [0u64; 11];
+    let mut windward = [0u64; 11];
+    lashes::lash_figures(
+        lashes,
+        m,
+        &lengths,
+        &stiffnesses,
+        &d,
+        &mut pull,
+        &mut athwart,
+        &mut vertical,
+        &mut lee,
+        &mut windward,
+    );
+    let mut racking = [0i32; 10];
+    let mut compression = [0u64; 11];
+    let mut tension = [0u64; 10];
+    levels::level_figures(
+        n,
+        k,
+        tiers,
+        &d,
+        most,
+        least,
+        &lee,
+        &windward,
+        &mut racking,
+        &mut compression,
+        &mut tension,
+    );
     EndFigures {
         racking,
         compression,
@@ -107,13 +106,15 @@ fn figures_by(s: Sheet, share: u64, factor: u64) -> Figures
     let tiers = s.tiers;
     let door = s.door;
     let closed = s.closed;
-    let loads = loads::level_loads(n, tiers, share, factor);
-    let w = loads::half_weights(n, tiers);
+    let mut loads = [0u64; 10];
+    let mut most = [0u64; 11];
+    let mut least = [0u64; 11];
+    loads::loads_of(n, tiers, share, factor, &mut loads, &mut most, &mut least);
     let k = [DOOR_SPRING; 10];
     let h = [CLOSED_SPRING; 10];
     Figures {
-        door: end_figures(n, &k, tiers, door, s.ndoor, &loads, &w.most, &w.least),
-        closed: end_figures(n, &h, tiers, closed, s.nclosed, &loads, &w.most, &w.least),
+        door: end_figures(n, &k, tiers, door, s.ndoor, &loads, &most, &least),
+        closed: end_figures(n, &h, tiers, closed, s.nclosed, &loads, &most, &least),
     }
 }
 

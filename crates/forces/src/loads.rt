@@ -2,12 +2,11 @@
 
 ghost use mathlib.Core.Path.{_≡_};
 ghost use Prim.Native.Nat.{ℕ, _+_, _*_, _-_, _/_, _<_, _≤_, _^_};
-ghost use lib.ListN.{take, getD};
+ghost use lib.ListN.{take, getD, replicate};
 ghost use Rattle.figures.specs.Facts.{TierFacts};
 ghost use Rattle.figures.specs.Fixed.{noTier, push, gust};
 ghost use Rattle.figures.specs.Loads.{boxLength};
 ghost use Rattle.forces.specs.Steps.{Loaded, Weighed};
-use crate::HalfWeights;
 use crate::NEWTON;
 use arith::rounding::scaled;
 use sheet::Tier;
@@ -71,24 +70,6 @@ fn level_load(share: u64, factor: u64, tier: Thrust, over: Thrust) -> u64
     )
 }
 
-// The loads on levels 1 to n.
-pub fn level_loads(n: usize, tiers: [Tier; 10], share: u64, factor: u64) -> [u64; 10]
-    requires { ⌜ (n ≤ 10) × (share ≤ 20) × (factor ≤ 1000) ⌝ }
-    requires { ⌜ ((i : ℕ) → i < n → TierFacts (getD (take n tiers) i noTier)) ⌝ }
-    ensures { λ r. ⌜ Loaded share factor n (take n tiers) r ⌝ }
-{
-    let mut loads = [0u64; 10];
-    let mut over = Thrust { push: 0, gust: 0 };
-    let mut i = n;
-    while 0 < i {
-        i -= 1;
-        let tier = thrust_of(tiers[i]);
-        loads[i] = level_load(share, factor, tier, over);
-        over = tier;
-    }
-    loads
-}
-
 // Mass × acceleration.
 fn lift(mass: u16, acceleration: u16) -> u64
     requires { ⌜ (mass ≤ 30480) × (acceleration ≤ 3000) ⌝ }
@@ -105,24 +86,34 @@ fn half_weight(lifted: u64) -> u64
     981 * lifted * NEWTON / 400000
 }
 
-// Half of V above levels 0 to n, with A_Vmax and with A_Vmin.
-pub fn half_weights(n: usize, tiers: [Tier; 10]) -> HalfWeights
-    requires { ⌜ n ≤ 10 ⌝ }
+// The loads on levels 1 to n, and half of V above levels 0 to n, with A_Vmax and with A_Vmin.
+pub fn loads_of(
+    n: usize,
+    tiers: [Tier; 10],
+    share: u64,
+    factor: u64,
+    loads: &mut [u64],
+    most: &mut [u64],
+    least: &mut [u64],
+)
+    requires { ⌜ (n ≤ 10) × (share ≤ 20) × (factor ≤ 1000) ⌝ }
     requires { ⌜ ((i : ℕ) → i < n → TierFacts (getD (take n tiers) i noTier)) ⌝ }
-    ensures { λ r. ⌜ Weighed (take n tiers) (r .most) (r .least) ⌝ }
+    requires { ⌜ (now loads ≡ replicate 10 0) × (now most ≡ replicate 11 0) × (now least ≡ replicate 11 0) ⌝ }
+    ensures { λ _. ⌜ Loaded share factor n (take n tiers) (now (loads .exit)) × Weighed (take n tiers) (now (most .exit)) (now (least .exit)) ⌝ }
 {
-    let mut most = [0u64; 11];
-    let mut least = [0u64; 11];
+    let mut over = Thrust { push: 0, gust: 0 };
     let mut most_lifted = 0;
     let mut least_lifted = 0;
     let mut i = n;
     while 0 < i {
         i -= 1;
         let t = tiers[i];
+        let tier = thrust_of(t);
+        loads[i] = level_load(share, factor, tier, over);
+        over = tier;
         most_lifted += lift(t.mass, t.avmax);
         least_lifted += lift(t.mass, t.avmin);
         most[i] = half_weight(most_lifted);
         least[i] = half_weight(least_lifted);
     }
-    HalfWeights { most, least }
 }

@@ -1,6 +1,6 @@
 -- `forces::end_figures`: its steps give the figures of an end (EndLaws).
 use borrow.Author.Needs.{needs}
-use mathlib.Core.Path.{_≡_}
+use mathlib.Core.Path.{_≡_, refl}
 use native.Mathlib.Omega.{arith}
 use lib.ListN.{length, take}
 use lib.Seq.{length-take-le}
@@ -10,69 +10,140 @@ use Rattle.forces.proofs.end_figures.Tie as tie
 
 -- from each step to the one before it
 abbrev entered : tie.After-gear-of → tie.Start
-entered c = c .before .before .before .before .before
+entered c = c .before .before .before .before .before .before .before .before
 
 abbrev geared : tie.After-solve → tie.After-gear-of
-geared c = c .before .before .before .before
+geared c = c .before .before .before .before .before
 
 abbrev solved : tie.After-lash-figures → tie.After-solve
-solved c = c .before .before .before .before .before .before .before
+solved c = c .before .before .before .before .before .before .before .before .before
 
 abbrev pulled : tie.After-level-figures → tie.After-lash-figures
-pulled c = c .before .before .before .before .before .before .before
+pulled c = c .before .before .before .before .before .before .before .before .before .before .before .before
 
 counted : (c : tie.Start) → length (take (c .args .m) (c .args .lashes)) ≡ c .args .m
 counted c = length-take-le (c .args .m) (c .args .lashes) (omega (arith, c .pre .0 .few-lashes, c .good .1 .1 .1 .0 .1 .0 .1))
 
+slice-aggregate-gear-of : tie.Need-slice-aggregate-gear-of
+slice-aggregate-gear-of c = search needs
+
+slice-aggregate-gear-of-2 : tie.Need-slice-aggregate-gear-of-2
+slice-aggregate-gear-of-2 c = search needs
+
+slice-aggregate-gear-of-3 : tie.Need-slice-aggregate-gear-of-3
+slice-aggregate-gear-of-3 c = search needs
+
 gear-of-requires : tie.Need-gear-of-requires
 gear-of-requires c κs =
-    let b = c .before .before .before .before in
-    (b .pre .0 .few-lashes, each-ten (b .pre .0) (counted b))
+    let b = c .before .before .before .before .before .before .before in
+    ((b .pre .0 .few-lashes, each-ten (b .pre .0) (counted b)), (refl, refl, refl))
+
+slice-aggregate-solve : tie.Need-slice-aggregate-solve
+slice-aggregate-solve c = search needs
 
 solve-requires : tie.Need-solve-requires
 solve-requires c κs =
-    let g = c .before .before .before in
+    let g = c .before .before .before .before in
     let b = entered g in
-    let l : length (g .gear-of .result .level) ≡ 10 = search needs in
-    (end-solvable (b .pre .0) (counted b) (g .gear-of .ensures .1), omega (arith, b .pre .0 .few, b .pre .1 .0), omega (arith, b .pre .0 .few), omega (arith, b .pre .0 .few, b .pre .1 .1))
+    let p = b .pre in
+    (end-solvable (p .0) (counted b) (g .gear-of .ensures .1), omega (arith, p .0 .few, p .1 .0), omega (arith, p .0 .few, g .gear-of .kept .1 .1 .1 .1 .0), omega (arith, p .0 .few, p .1 .1))
 
 slice-aggregate-lash-figures : tie.Need-slice-aggregate-lash-figures
 slice-aggregate-lash-figures c = search needs
 
+slice-aggregate-lash-figures-2 : tie.Need-slice-aggregate-lash-figures-2
+slice-aggregate-lash-figures-2 c = search needs
+
+slice-aggregate-lash-figures-3 : tie.Need-slice-aggregate-lash-figures-3
+slice-aggregate-lash-figures-3 c = search needs
+
+slice-aggregate-lash-figures-4 : tie.Need-slice-aggregate-lash-figures-4
+slice-aggregate-lash-figures-4 c = search needs
+
+slice-aggregate-lash-figures-5 : tie.Need-slice-aggregate-lash-figures-5
+slice-aggregate-lash-figures-5 c = search needs
+
+slice-aggregate-lash-figures-6 : tie.Need-slice-aggregate-lash-figures-6
+slice-aggregate-lash-figures-6 c = search needs
+
+slice-aggregate-lash-figures-7 : tie.Need-slice-aggregate-lash-figures-7
+slice-aggregate-lash-figures-7 c = search needs
+
+slice-aggregate-lash-figures-8 : tie.Need-slice-aggregate-lash-figures-8
+slice-aggregate-lash-figures-8 c = search needs
+
 lash-figures-requires : tie.Need-lash-figures-requires
 lash-figures-requires c κs =
-    let s = c .before .before .before .before .before .before in
+    let s = c .before .before .before .before .before .before .before .before in
     let g = geared s in
     let b = entered g in
-    ((b .pre .0 .few-lashes, each-ten (b .pre .0) (counted b)), ((g .gear-of .ensures .0, s .solve .ensures .far), (search needs, search needs, s .solve .ok .1 .0 .1)))
+    let long = g .gear-of .kept .1 .1 in (
+      (b .pre .0 .few-lashes, each-ten (b .pre .0) (counted b)),
+      ((g .gear-of .ensures .0, s .solve .ensures .far), ((long .0, long .1 .0, s .solve .ok .1 .0 .1), (refl, refl, refl, refl, refl))),
+    )
 
 slice-aggregate-level-figures : tie.Need-slice-aggregate-level-figures
 slice-aggregate-level-figures c = search needs
 
+slice-aggregate-level-figures-2 : tie.Need-slice-aggregate-level-figures-2
+slice-aggregate-level-figures-2 c = search needs
+
+slice-aggregate-level-figures-3 : tie.Need-slice-aggregate-level-figures-3
+slice-aggregate-level-figures-3 c = search needs
+
+slice-aggregate-level-figures-4 : tie.Need-slice-aggregate-level-figures-4
+slice-aggregate-level-figures-4 c = search needs
+
+slice-aggregate-level-figures-5 : tie.Need-slice-aggregate-level-figures-5
+slice-aggregate-level-figures-5 c = search needs
+
+slice-aggregate-level-figures-6 : tie.Need-slice-aggregate-level-figures-6
+slice-aggregate-level-figures-6 c = search needs
+
 level-figures-requires : tie.Need-level-figures-requires
 level-figures-requires c κs =
-    let p = c .before .before .before .before .before .before in
+    let p = c .before .before .before .before .before .before .before .before .before .before .before in
     let s = solved p in
     let b = entered (geared s) in
-    (end-measured (b .pre .0) (counted b) (s .solve .ensures) (p .lash-figures .ensures), (b .pre .1 .0, s .solve .ok .1 .0 .1, b .pre .1 .2, b .pre .1 .3))
+    let posts = p .lash-figures .ensures .1 in (
+      end-measured (b .pre .0) (counted b) (s .solve .ensures) (posts .0) (posts .1),
+      ((b .pre .1 .0, s .solve .ok .1 .0 .1, b .pre .1 .2, b .pre .1 .3), (refl, refl, refl)),
+    )
 
 returns : tie.Need-returns
 returns c =
-    let v = c .before .before .before .before .before .before in
+    let v = c .before .before .before in
     let p = pulled v in
     let s = solved p in
     let g = geared s in
     let b = entered g in
-    end-worked (b .pre .0) (counted b) (g .gear-of .ensures .1) (s .solve .ensures) (p .lash-figures .ensures) (v .level-figures .ensures)
+    let posts = p .lash-figures .ensures .1 in
+    end-worked (b .pre .0) (counted b) (g .gear-of .ensures .1) (s .solve .ensures) (p .lash-figures .ensures .0) (posts .0) (posts .1) (v .level-figures .ensures)
 
 pub end-figures-spec : {M : Type 1} → statement M
 end-figures-spec =
     tie.close
     (tie.spec
+    slice-aggregate-gear-of
+    slice-aggregate-gear-of-2
+    slice-aggregate-gear-of-3
     gear-of-requires
+    slice-aggregate-solve
     solve-requires
     slice-aggregate-lash-figures
+    slice-aggregate-lash-figures-2
+    slice-aggregate-lash-figures-3
+    slice-aggregate-lash-figures-4
+    slice-aggregate-lash-figures-5
+    slice-aggregate-lash-figures-6
+    slice-aggregate-lash-figures-7
+    slice-aggregate-lash-figures-8
     lash-figures-requires
     slice-aggregate-level-figures
+    slice-aggregate-level-figures-2
+    slice-aggregate-level-figures-3
+    slice-aggregate-level-figures-4
+    slice-aggregate-level-figures-5
+    slice-aggregate-level-figures-6
     level-figures-requires
     returns)
