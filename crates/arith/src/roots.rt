@@ -44,7 +44,7 @@ fn least_root(s: u64, m: u64, rest: u64) -> u64
     requires { ⌜ (0 < m) × (m ≤ 20000) × (rest ≤ 40000) × (m * m ≤ s) × (s ≤ 1200000000) ⌝ }
     ensures { λ r. ⌜ Least s r × (m ≤ r) ⌝ }
 {
-    let mut x = nearer(s, nearer(s, m + rest * 3 / 8));
+    let mut x = nearer(s, nearer(s, m + rest * 5 / 16));
     while s <= (x - 1) * (x - 1) {
         x -= 1;
     }
