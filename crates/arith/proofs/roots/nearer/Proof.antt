@@ -18,7 +18,7 @@ add-result-2 c = omega (arith, div-le-self (c .args .s) (c .args .x))
 returns : tie.Need-returns
 returns c =
     let g = c .args in
-    (step-enough (g .s) (g .x) (c .pre .1), omega arith, omega (arith, div-le-self (g .s) (g .x)))
+    (omega (arith, step-enough (g .s) (g .x) (c .pre .1)), omega arith, omega (arith, div-le-self (g .s) (g .x)))
 
 pub nearer-spec : {M : Type 1} → statement M
 nearer-spec = tie.close (tie.spec div-result add-result add-result-2 returns)
