@@ -1,28 +1,10 @@
--- Least roots by Newton's steps from above: each number tried has a square that is enough.
+-- Least roots by Newton's steps: each number that a step gives has a square that is enough.
 use Prim.Native.Nat.{ℕ, _+_, _*_, _-_, _/_, _<_, _≤_}
-use mathlib.Core.Path.{_≡_, sym, subst}
-use native.Mathlib.Nat.{mul-le-mul, lt-div-mul-add, div-le-of-le-mul}
+use mathlib.Core.Path.{_≡_, subst}
+use native.Mathlib.Nat.{mul-le-mul, lt-div-mul-add}
 use native.Mathlib.Decide.{decLe}
 use native.Mathlib.Omega.{arith}
 use Rattle.arith.specs.Roots.{Least}
-
--- the square of each side is at most that of the longest
-module _ (x y z m : ℕ) (xm : x ≤ m) (ym : y ≤ m) (zm : z ≤ m) where
-  pub sides-le : x * x + y * y + z * z ≤ 3 * (m * m)
-  sides-le = omega (arith, mul-le-mul xm xm, mul-le-mul ym ym, mul-le-mul zm zm)
-
--- the first number: 2 m for each further one is less than the square grows by
-module _ (s m : ℕ) (positive : 0 < m) (low : m * m ≤ s) where
-  pub above-enough : s ≤ (m + (s - m * m) / (2 * m) + 1) * (m + (s - m * m) / (2 * m) + 1)
-  above-enough =
-      let twice : 0 < 2 * m = omega arith in
-      enough (s - m * m) ((s - m * m) / (2 * m)) (omega arith) (lt-div-mul-add twice)
-    where
-      enough : (r q : ℕ) → s ≡ m * m + r → r < q * (2 * m) + 2 * m → s ≤ (m + q + 1) * (m + q + 1)
-      enough r q e l = omega arith
-
-  pub above-le : s ≤ 3 * (m * m) → (s - m * m) / (2 * m) ≤ m
-  above-le h = div-le-of-le-mul (2 * m) (omega arith)
 
 -- four times a product is at most the square of the sum
 four-from : (a d : ℕ) → 4 * (a * (a + d)) ≤ (a + (a + d)) * (a + (a + d))
@@ -37,11 +19,8 @@ four : (a b : ℕ) → Dec (a ≤ b) → 4 * (a * b) ≤ (a + b) * (a + b)
 four a b (yes l) = four-le a b l
 four a b (no l) = omega (arith, four-le b a (omega arith))
 
--- a step: with q the quotient, the next number is more than half of x + q, and s is less than x (q + 1)
-module _ (s x : ℕ) (positive : 0 < x) (enough : s ≤ x * x) where
-  pub quotient-le : s / x ≤ x
-  quotient-le = div-le-of-le-mul x enough
-
+-- a step from any x: with q the quotient, the next number is more than half of x + q, and s is less than x (q + 1)
+module _ (s x : ℕ) (positive : 0 < x) where
   pub step-enough : s ≤ ((x + s / x) / 2 + 1) * ((x + s / x) / 2 + 1)
   step-enough = go (s / x) ((x + s / x) / 2 + 1) (omega arith) (lt-div-mul-add positive)
     where

@@ -7,7 +7,7 @@ ghost use Rattle.arith.specs.Roots.{Least};
 // The longest of three sides, which is no longer than their line.
 fn longest(x: u64, y: u64, z: u64) -> u64
     requires { ⌜ (x ≤ 20000) × (y ≤ 20000) × (z ≤ 20000) ⌝ }
-    ensures { λ r. ⌜ (x ≤ r) × (y ≤ r) × (z ≤ r) × (r ≤ 20000) × (r * r ≤ x * x + y * y + z * z) ⌝ }
+    ensures { λ r. ⌜ (x ≤ r) × (y ≤ r) × (z ≤ r) × (r ≤ 20000) × (r ≤ x + y + z) × (r * r ≤ x * x + y * y + z * z) ⌝ }
 {
     if x <= z {
         if y <= z {
@@ -29,29 +29,22 @@ fn square(x: u64) -> u64
     x * x
 }
 
-// A first number whose square is s or more, from the side m: the line that touches the square at m lies under it.
-fn above(s: u64, m: u64) -> u64
-    requires { ⌜ (0 < m) × (m ≤ 20000) × (m * m ≤ s) × (s ≤ 3 * (m * m)) ⌝ }
-    ensures { λ r. ⌜ (s ≤ r * r) × (0 < r) × (r ≤ 40001) ⌝ }
-{
-    m + (s - m * m) / (2 * m) + 1
-}
-
-// Newton's step, rounded up: nearer the root, and the square is still s or more.
+// Newton's step, rounded up: whatever x is, the square of the next number is s or more.
 fn nearer(s: u64, x: u64) -> u64
-    requires { ⌜ (s ≤ x * x) × (0 < x) × (x ≤ 40002) ⌝ }
-    ensures { λ r. ⌜ (s ≤ r * r) × (0 < r) × (r ≤ x + 1) ⌝ }
+    requires { ⌜ (s ≤ 1200000000) × (0 < x) × (x ≤ 2000000000) ⌝ }
+    ensures { λ r. ⌜ (s ≤ r * r) × (0 < r) × (r ≤ 2000000000) ⌝ }
 {
     (x + s / x) / 2 + 1
 }
 
-// The least root of s, a sum of three squares whose longest side is m. Unlike a search by halving, Newton's steps have no
-// branch to guess, and the loop after them seldom turns.
-fn least_root(s: u64, m: u64) -> u64
-    requires { ⌜ (0 < m) × (m ≤ 20000) × (m * m ≤ s) × (s ≤ 3 * (m * m)) ⌝ }
+// The least root of s, a sum of three squares: m is the longest side, rest the other two together. Unlike a search by
+// halving, Newton's steps have no branch to guess. They start from a number that takes no division, near enough to the
+// root that after two steps the loop seldom turns, and never twice.
+fn least_root(s: u64, m: u64, rest: u64) -> u64
+    requires { ⌜ (0 < m) × (m ≤ 20000) × (rest ≤ 40000) × (m * m ≤ s) × (s ≤ 1200000000) ⌝ }
     ensures { λ r. ⌜ Least s r × (m ≤ r) ⌝ }
 {
-    let mut x = nearer(s, nearer(s, above(s, m)));
+    let mut x = nearer(s, nearer(s, m + rest * 5 / 16));
     while s <= (x - 1) * (x - 1) {
         x -= 1;
     }
@@ -63,5 +56,6 @@ pub fn length(lx: u64, ly: u64, lz: u64) -> u64
     requires { ⌜ (lx ≤ 5000) × (0 < ly) × (ly ≤ 10000) × (lz ≤ 20000) ⌝ }
     ensures { λ r. ⌜ Least (lx * lx + ly * ly + lz * lz) r × (lx ≤ r) × (ly ≤ r) × (lz ≤ r) × (r ≤ 22913) ⌝ }
 {
-    least_root(square(lx) + square(ly) + square(lz), longest(lx, ly, lz))
+    let m = longest(lx, ly, lz);
+    least_root(square(lx) + square(ly) + square(lz), m, lx + ly + lz - m)
 }

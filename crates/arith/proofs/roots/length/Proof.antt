@@ -1,12 +1,14 @@
--- `arith::roots::length`: the least root of the sum of squares, sought from the longest side on.
+-- `arith::roots::length`: the least root of the sum of squares, which is none below the longest side.
 use Prim.Native.Nat.{_*_, _+_, _≤_}
 use native.Mathlib.Nat.{mul-le-mul}
 use native.Mathlib.Omega.{arith}
 use Rattle.arith.specs.Roots.{Least}
-use Rattle.arith.proofs.RootLaws.{sides-le}
 use borrow.Author.Needs.{needs}
 use Rattle.arith.proofs.roots.length.Statement.{statement}
 use Rattle.arith.proofs.roots.length.Tie as tie
+
+longest-requires : tie.Need-longest-requires
+longest-requires c κs = search needs
 
 square-requires : tie.Need-square-requires
 square-requires c κs = search needs
@@ -23,14 +25,17 @@ square-requires-3 c κs = search needs
 add-least-root-2 : tie.Need-add-least-root-2
 add-least-root-2 c = search needs
 
-longest-requires : tie.Need-longest-requires
-longest-requires c κs = search needs
+add-least-root-3 : tie.Need-add-least-root-3
+add-least-root-3 c = search needs
+
+add-least-root-4 : tie.Need-add-least-root-4
+add-least-root-4 c = search needs
+
+sub-least-root : tie.Need-sub-least-root
+sub-least-root c = search needs
 
 least-root-requires : tie.Need-least-root-requires
-least-root-requires c κs =
-    let s = c .before .before .before .before in
-    let m = c .longest .ensures in
-    omega (arith, sides-le (s .args .lx) (s .args .ly) (s .args .lz) (c .longest .result) (m .0) (m .1) (m .2))
+least-root-requires c κs = search needs
 
 returns : tie.Need-returns
 returns c =
@@ -38,7 +43,7 @@ returns c =
     let s = q .before .before .before .before in
     let p = s .pre in
     let e : Least (s .args .lx * s .args .lx + s .args .ly * s .args .ly + s .args .lz * s .args .lz) (c .least-root .result) =
-    rw (← q .before .before .before .square .ensures .0, ← q .before .before .square2 .ensures .0, ← q .before .square3 .ensures .0)
+    rw (← q .before .before .square .ensures .0, ← q .before .square2 .ensures .0, ← q .square3 .ensures .0)
     (c .least-root .ensures .0) in
     let l : s .args .lx * s .args .lx + s .args .ly * s .args .ly + s .args .lz * s .args .lz ≤ 22913 * 22913 =
     omega (arith, mul-le-mul (p .0) (p .0), mul-le-mul (p .2) (p .2), mul-le-mul (p .3) (p .3)) in
@@ -48,11 +53,14 @@ pub length-spec : {M : Type 1} → statement M
 length-spec =
     tie.close
     (tie.spec
+    longest-requires
     square-requires
     square-requires-2
     add-least-root
     square-requires-3
     add-least-root-2
-    longest-requires
+    add-least-root-3
+    add-least-root-4
+    sub-least-root
     least-root-requires
     returns)
