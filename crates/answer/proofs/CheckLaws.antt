@@ -20,11 +20,11 @@ use Rattle.figures.proofs.Facts.{Facts}
 use Rattle.figures.proofs.Margins.{figured-wider}
 use Rattle.figures.proofs.OneSolution as S
 use Rattle.figures.proofs.Taken.{facts}
-use Rattle.answer.specs.declared.Outcome.{Outcome}
-use Rattle.answer.specs.declared.Outcome.the-variants as O
-use Rattle.answer.specs.Findings.{figuresOf}
-use Rattle.answer.specs.Answers.{answerBytes}
-use Rattle.answer.specs.Checked.{OneSolution, Answered, CheckedAs, Checked, kept, demanded}
+use Rattle.report.specs.declared.Outcome.{Outcome}
+use Rattle.report.specs.declared.Outcome.the-variants as O
+use Rattle.report.specs.Findings.{figuresOf}
+use Rattle.report.specs.Answers.{answerBytes}
+use Rattle.report.specs.Checked.{OneSolution, Answered, CheckedAs, Checked, kept, demanded}
 use Rattle.answer.specs.Steps.{Sized}
 use Rattle.answer.proofs.AnswerLaws.{sized}
 

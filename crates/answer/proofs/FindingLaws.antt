@@ -2,7 +2,7 @@
 use mathlib.Core.Path.{_≡_, refl, ap, ap₂, _∙_}
 use mathlib.Core.Bool.{Bool, true, false, cond}
 use mathlib.Core.List.{List, [], _∷_, _++_, flatMap, append-assoc, append-nil}
-use Prim.Native.Nat.{ℕ, zero, suc, _+_, _*_, _/_, _<_, _≤_}
+use Prim.Native.Nat.{ℕ, zero, suc, _+_, _/_, _<_, _≤_}
 use native.Mathlib.Nat.{add-zero}
 use native.Mathlib.Omega.{arith}
 use lib.Dec.{ltb}
@@ -14,10 +14,11 @@ use Rattle.figures.specs.declared.EndFigures.{EndFigures}
 use Rattle.figures.specs.declared.Figures.{Figures}
 use Rattle.figures.specs.Ends.{End, door, closed, lashesOf}
 use Rattle.figures.specs.Reported.{noLash}
-use Rattle.answer.specs.Limits.{safeLoad}
-use Rattle.answer.specs.Findings.{Finding, Kind, racking, compression, cornerTension, lockTension, lashTension, lashVertical, lashAthwart, endCode, kindCode, figuresOf, firstIndex, indexCount, reportedSize, limitAt, findingsFrom, endFindings, findings}
-use Rattle.answer.specs.Answers.{upFrom, findingBytes}
+use Rattle.report.specs.Limits.{safeLoad}
+use Rattle.report.specs.Findings.{Finding, Kind, racking, compression, cornerTension, lockTension, lashTension, lashVertical, lashAthwart, endCode, kindCode, figuresOf, firstIndex, indexCount, reportedSize, limitAt, findingsFrom, endFindings, findings}
+use Rattle.report.specs.Answers.{upFrom, findingBytes}
 use Rattle.answer.specs.Steps.{Wrote, Put, Sized, lashLimit, findingWhere, findingsOver, tierFindings, lashFindings, findingsBytes}
+use Rattle.report.proofs.ReadBack.{bytes-length}
 use Rattle.answer.proofs.Stores.{run, then}
 
 -- entries that agree from i on, and entries counted from another place
@@ -39,16 +40,11 @@ unfolding findingsOver
 over-same end kind first n size a b h =
     entries-same _ _ 0 n (λ k _ u. ap (λ (x : ℕ). findingWhere end kind (first + k) (size (first + k)) x) (h (first + k) (omega arith)))
 
--- findings in bytes: of a list and a list, three bytes each
+-- findings in bytes: of a list and a list
 bytes-append : (xs ys : List Finding) → flatMap findingBytes (xs ++ ys) ≡ flatMap findingBytes xs ++ flatMap findingBytes ys
 unfolding flatMap
 bytes-append [] ys = refl
 bytes-append (x ∷ xs) ys = ap (λ (l : List ℕ). findingBytes x ++ l) (bytes-append xs ys)
-
-pub bytes-length : (xs : List Finding) → length (flatMap findingBytes xs) ≡ 3 * length xs
-unfolding flatMap
-bytes-length [] = refl
-bytes-length (x ∷ xs) = omega (arith, bytes-length xs)
 
 where-found : (b : Bool) (x : Finding) (xs : List Finding) → flatMap findingBytes (cond b (x ∷ xs) xs) ≡ cond b (findingBytes x) [] ++ flatMap findingBytes xs
 unfolding flatMap

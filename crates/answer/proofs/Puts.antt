@@ -9,7 +9,7 @@ use lib.Dec.{ltb}
 use lib.ListN.{length, take, drop, length-append}
 use lib.Seq.{sets, sets-eq, length-sets, length-take-le, take-at}
 use mir.Val.{boolByte}
-use Rattle.answer.specs.Answers.{upFrom}
+use Rattle.report.specs.Answers.{upFrom}
 use Rattle.answer.specs.Steps.{Put, findingWhere, findingsOver}
 use Rattle.answer.proofs.Stores.{one-more}
 

@@ -8,7 +8,7 @@ use native.Mathlib.Numerals.{add-one}
 use native.Mathlib.Omega.{arith}
 use lib.ListN.{length, getD, set, take, drop, length-append, length-set}
 use lib.Seq.{sets, sets-eq, set-comm, take-suc, length-sets}
-use Rattle.answer.specs.Answers.{upFrom, below, counted}
+use Rattle.report.specs.Answers.{upFrom, below, counted}
 use Rattle.answer.specs.Steps.{Wrote}
 
 sets-append : (l xs ys : List ℕ) (i : ℕ) → sets l i (xs ++ ys) ≡ sets (sets l i xs) (i + length xs) ys

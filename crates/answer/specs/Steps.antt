@@ -14,9 +14,9 @@ use Rattle.figures.specs.declared.EndFigures.{EndFigures}
 use Rattle.figures.specs.declared.Figures.{Figures}
 use Rattle.figures.specs.Ends.{door, closed, lashesOf}
 use Rattle.figures.specs.Reported.{noLash}
-use Rattle.answer.specs.Limits.{rackingLimit, compressionLimit, cornerTensionLimit, lashVerticalLimit, lashAthwartLimit, safeLoad}
-use Rattle.answer.specs.Findings.{findings}
-use Rattle.answer.specs.Answers.{below, counted, findingBytes}
+use Rattle.report.specs.Limits.{rackingLimit, compressionLimit, cornerTensionLimit, lashVerticalLimit, lashAthwartLimit, safeLoad}
+use Rattle.report.specs.Findings.{findings}
+use Rattle.report.specs.Answers.{below, counted, findingBytes}
 
 -- `bytes` stored in a buffer from `at` on, and the place behind them
 pub record Wrote (before : List ℕ) (at : ℕ) (bytes after : List ℕ) (next : ℕ) : Type 0 where

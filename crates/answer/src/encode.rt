@@ -9,7 +9,7 @@ ghost use lib.Dec.{eqb};
 ghost use lib.ListN.{length, getD, drop};
 ghost use Rattle.arith.specs.Bytes.{bytes4, twos};
 ghost use Rattle.figures.specs.Reported.{Fitting};
-ghost use Rattle.answer.specs.Answers.{counted, answerBytes};
+ghost use Rattle.report.specs.Answers.{counted, answerBytes};
 ghost use Rattle.answer.specs.Steps.{Wrote, Sized, lashBytes, endBytesOf};
 use crate::findings::write_findings;
 use arith::bytes::write_signed;

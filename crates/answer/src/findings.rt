@@ -6,7 +6,7 @@ ghost use mathlib.Core.List.{[], _∷_, _++_};
 ghost use Prim.Native.Nat.{_+_, _-_, _*_, _<_, _≤_};
 ghost use lib.IntN.{pos, natAbs};
 ghost use lib.ListN.{length, getD, take};
-ghost use Rattle.answer.specs.Limits.{rackingLimit};
+ghost use Rattle.report.specs.Limits.{rackingLimit};
 ghost use Rattle.answer.specs.Steps.{Wrote, Put, Sized, lashLimit, findingsOver, tierFindings, lashFindings, findingsBytes};
 use crate::limits::Limits;
 use crate::limits::safe_load;

@@ -4,14 +4,9 @@ mod encode; // encode.rt: the answer's bytes
 mod findings; // findings.rt: where a reported size exceeds its limit
 mod limits; // limits.rt: permissible loads
 
-ghost use Rattle.answer.specs.Checked.{Checked, demanded, kept};
+ghost use Rattle.report.specs.Checked.{Checked, demanded, kept};
+use report::Outcome;
 use sheet::Reading;
-
-// What a check returns: the answer's length, or the two numbers of a refusal.
-pub enum Outcome {
-    Taken(usize),
-    Refused(u64, usize),
-}
 
 // The check of a stack sheet. A taken sheet's answer is written from the buffer's start; a refusal leaves the buffer as it was.
 pub fn check(sheet: &[u8], answer: &mut [u8]) -> Outcome

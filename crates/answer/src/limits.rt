@@ -1,7 +1,7 @@
 // Document 01, "Permissible loads", in whole newtons.
 
 ghost use mathlib.Core.Path.{_≡_};
-ghost use Rattle.answer.specs.Limits.{safeLoad};
+ghost use Rattle.report.specs.Limits.{safeLoad};
 
 // The limits of CR Table 2-3.
 pub struct Limits {}

@@ -1,9 +1,9 @@
 // The check for programs in C: its two numbers in one.
 ghost use mathlib.Core.Path.{_≡_};
 ghost use Prim.Native.Nat.{_+_, _*_, _≤_};
-ghost use Rattle.answer.specs.Checked.{demanded, kept};
+ghost use Rattle.report.specs.Checked.{demanded, kept};
 ghost use Rattle.lash.specs.Called.{Called};
-use answer::Outcome;
+use report::Outcome;
 
 // Checks a sheet as answer::check does. The number is in the low 8 bits of what is returned, the second number above them.
 #[no_mangle]

@@ -2,11 +2,11 @@
 ghost use Prim.Native.Nat.{_+_, _≤_};
 ghost use lib.ListN.{length, take};
 ghost use Rattle.io.specs.Counts.{Counts};
-ghost use Rattle.answer.specs.Checked.{demanded, kept};
+ghost use Rattle.report.specs.Checked.{demanded, kept};
 ghost use Rattle.lashcheck.specs.Lines.{Line};
 ghost use Rattle.lashcheck.specs.Replies.{Reply};
 ghost use Rattle.lashcheck.specs.Steps.{Put};
-use answer::Outcome;
+use report::Outcome;
 
 // Puts what is written for the sheet at the start of `out`, and answers its length.
 pub fn reply(sheet: &[u8], out: &mut [u8; 834]) -> usize

@@ -1,5 +1,5 @@
 -- `answer::check`: the refusals in their order, then the answer.
-use Rattle.answer.specs.Checked.{kept, demanded}
+use Rattle.report.specs.Checked.{kept, demanded}
 use Rattle.answer.proofs.CheckLaws.{refused, short-room, taken-fits, taken-sized, taken-both}
 use borrow.Author.Needs.{needs}
 use Rattle.answer.proofs.check.Statement.{statement}

@@ -5,7 +5,7 @@ use mathlib.Core.List.{flatMap}
 use native.Mathlib.Omega.{arith}
 use lib.ListN.{getD}
 use Rattle.arith.specs.Bytes.{bytes4}
-use Rattle.answer.specs.Answers.{below}
+use Rattle.report.specs.Answers.{below}
 use Rattle.answer.specs.Steps.{Wrote}
 use Rattle.answer.proofs.Stores.{run, entries-none, entries-more, counted-all}
 use borrow.Author.Needs.{needs}

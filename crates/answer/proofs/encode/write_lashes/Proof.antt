@@ -4,7 +4,7 @@ use mathlib.Core.Path.{_≡_}
 use mathlib.Core.List.{flatMap}
 use native.Mathlib.Omega.{arith}
 use lib.ListN.{getD}
-use Rattle.answer.specs.Answers.{below}
+use Rattle.report.specs.Answers.{below}
 use Rattle.answer.specs.Steps.{Wrote, lashBytes}
 use Rattle.answer.proofs.Stores.{entries-none, entries-more, counted-all}
 use borrow.Author.Needs.{needs}

@@ -7,7 +7,7 @@ use lib.IntN.{pos, natAbs}
 use mir.Syntax.{w32}
 use mir.Val.{SFits}
 use mir.ValLaws.{toZ-ofZ}
-use Rattle.answer.specs.Limits.{rackingLimit}
+use Rattle.report.specs.Limits.{rackingLimit}
 use Rattle.answer.specs.Steps.{Put, findingsOver}
 use Rattle.answer.proofs.Puts.{over-none, over-more, over-all}
 use borrow.Author.Needs.{needs}

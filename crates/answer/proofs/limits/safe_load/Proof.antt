@@ -1,7 +1,7 @@
 -- `answer::limits::safe_load`, by the test of the material.
 use borrow.Author.Needs.{needs}
 use borrow.Author.Tests.{eq-eqb, ne-eqb}
-use Rattle.answer.specs.Limits.{safeLoad}
+use Rattle.report.specs.Limits.{safeLoad}
 use Rattle.answer.proofs.limits.safe_load.Statement.{statement}
 use Rattle.answer.proofs.limits.safe_load.Tie as tie
 

@@ -18,9 +18,9 @@ use Rattle.springs.proofs.OneSolution.{handedStiffness, handedLoad, shiftOf, so
 use Rattle.figures.specs.Ends.{door, tiersOf, lashesOf, chainTiers, chainLash, chainLashes, routeFactor, Settled}
 use Rattle.figures.specs.Posts.{levelHeight, turning, moment, atMost, tension}
 use Rattle.figures.proofs.LashLength.{length-is}
-use Rattle.answer.specs.Limits.{safeLoad}
-use Rattle.answer.specs.Table.{boxB, rodS, rodOf, exposed, sheetWith, alone, pair, held, heldAbove, doorTiers, lowestLoad, Table}
-use Rattle.answer.specs.Checked.{OneSolution}
+use Rattle.report.specs.Limits.{safeLoad}
+use Rattle.report.specs.Table.{boxB, rodS, rodOf, exposed, sheetWith, alone, pair, held, heldAbove, doorTiers, lowestLoad, Table}
+use Rattle.report.specs.Checked.{OneSolution}
 
 -- (a), (b)
 figure-a : lowestLoad alone ≈ nat 220725 /q nat 10

@@ -13,8 +13,8 @@ use Rattle.figures.specs.Loads.{transverse, wind, classShare}
 use Rattle.figures.specs.Lashes.{lashLength, athwartPart}
 use Rattle.figures.specs.Ends.{door, tiersOf, lashesOf, chainTiers, routeFactor, Settled}
 use Rattle.figures.specs.Posts.{moment, tension}
-use Rattle.answer.specs.Limits.{safeLoad}
-use Rattle.answer.specs.Checked.{OneSolution}
+use Rattle.report.specs.Limits.{safeLoad}
+use Rattle.report.specs.Checked.{OneSolution}
 
 -- box B: 40 ft, 2591 mm, A_T 500, A_Vmax 1,500, A_Vmin 800, sheltered; of 20,000 kg where no other mass is named
 abbrev pub boxOf : ℕ → Tier

@@ -15,7 +15,7 @@ use Rattle.figures.specs.Lashes as L
 use Rattle.figures.specs.Ends.{End, door, closed, tiersOf, lashesOf, chainTiers, routeFactor}
 use Rattle.figures.specs.Posts as P
 use Rattle.figures.specs.Reported.{noLash, forceOf}
-use Rattle.answer.specs.Limits.{rackingLimit, compressionLimit, cornerTensionLimit, lashVerticalLimit, lashAthwartLimit, safeLoad}
+use Rattle.report.specs.Limits.{rackingLimit, compressionLimit, cornerTensionLimit, lashVerticalLimit, lashAthwartLimit, safeLoad}
 
 -- 0 door, 1 closed
 abbrev pub endCode : End → ℕ

@@ -19,8 +19,8 @@ use Rattle.figures.specs.declared.EndFigures.{EndFigures}
 use Rattle.figures.specs.declared.Figures.{Figures}
 use Rattle.figures.specs.Ends.{End, door, closed}
 use Rattle.figures.specs.Reported.{Reported, EndReported, EndFigured}
-use Rattle.answer.specs.Findings.{Kind, racking, compression, cornerTension, lockTension, lashTension, lashVertical, lashAthwart, kinds, Finding, endCode, kindCode, figuresOf, firstIndex, indexCount, reportedSize, limitAt, exactForce, findingsFrom, endFindings, findings, verdict}
-use Rattle.answer.specs.Consequences.{CheckedAt, WithinLimits, Justified}
+use Rattle.report.specs.Findings.{Kind, racking, compression, cornerTension, lockTension, lashTension, lashVertical, lashAthwart, kinds, Finding, endCode, kindCode, figuresOf, firstIndex, indexCount, reportedSize, limitAt, exactForce, findingsFrom, endFindings, findings, verdict}
+use Rattle.report.specs.Consequences.{CheckedAt, WithinLimits, Justified}
 
 -- what the report says of a checked force
 told : (margin : ℕ) (e : End) (t : Sheet) (Ds : List Frac) (f : EndFigures) → EndReported margin e t Ds f → (k : Kind) (i : ℕ) → CheckedAt e t k i → Reported margin (exactForce e t Ds k i) (reportedSize f k i)

@@ -9,8 +9,8 @@ use Rattle.sheet.specs.declared.Sheet.{Sheet}
 use Rattle.figures.specs.declared.EndFigures.{EndFigures}
 use Rattle.figures.specs.declared.Figures.{Figures}
 use Rattle.figures.specs.Ends.{End, door, closed, lashesOf}
-use Rattle.answer.specs.Findings.{Finding, figuresOf, findings, verdict}
-use Rattle.answer.specs.Answers.{below}
+use Rattle.report.specs.Findings.{Finding, figuresOf, findings, verdict}
+use Rattle.report.specs.Answers.{below}
 
 abbrev pub byteAt : List ℕ → ℕ → ℕ
 byteAt s at = getD s at 0

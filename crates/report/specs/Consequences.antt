@@ -6,8 +6,8 @@ use Rattle.arith.specs.Fractions.{Frac, nat, _+q_, absq, _⊑_, _⊏_}
 use Rattle.sheet.specs.declared.Sheet.{Sheet}
 use Rattle.figures.specs.Ends.{End, Settled}
 use Rattle.figures.specs.Reported.{EndReported}
-use Rattle.answer.specs.Findings.{Kind, Finding, endCode, kindCode, firstIndex, indexCount, limitAt, exactForce}
-use Rattle.answer.specs.Places.{byteAt, findingsPlace, ReadBack, reportedIn, figuresIn, findingIn}
+use Rattle.report.specs.Findings.{Kind, Finding, endCode, kindCode, firstIndex, indexCount, limitAt, exactForce}
+use Rattle.report.specs.Places.{byteAt, findingsPlace, ReadBack, reportedIn, figuresIn, findingIn}
 
 -- kind k is checked at index i of an end
 pub record CheckedAt (e : End) (t : Sheet) (k : Kind) (i : ℕ) : Type 0 where

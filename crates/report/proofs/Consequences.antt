@@ -23,15 +23,15 @@ use Rattle.figures.proofs.Facts.{Facts}
 use Rattle.figures.proofs.Bounds.{racking-within}
 use Rattle.figures.proofs.Taken.{facts}
 use Rattle.figures.proofs.Within.{reported-below}
-use Rattle.answer.specs.declared.Outcome.{Outcome}
-use Rattle.answer.specs.Findings.{Kind, racking, compression, cornerTension, lockTension, lashTension, lashVertical, lashAthwart, kinds, Finding, endCode, kindCode, figuresOf, firstIndex, indexCount, reportedSize, limitAt, findingsFrom, endFindings, findings, verdict}
-use Rattle.answer.specs.Answers.{upFrom, below, answerBytes}
-use Rattle.answer.specs.Checked.{Answered, CheckedAs, Checked}
-use Rattle.answer.specs.Places.{EndReadBack, noFinding, ReadBack, reportedIn, figuresIn}
-use Rattle.answer.specs.Consequences.{CheckedAt, Justified, Told}
-use Rattle.answer.proofs.Accepted as A
-use Rattle.answer.proofs.ReadBack as R
-use Rattle.answer.proofs.ReadBack.{Signed}
+use Rattle.report.specs.declared.Outcome.{Outcome}
+use Rattle.report.specs.Findings.{Kind, racking, compression, cornerTension, lockTension, lashTension, lashVertical, lashAthwart, kinds, Finding, endCode, kindCode, figuresOf, firstIndex, indexCount, reportedSize, limitAt, findingsFrom, endFindings, findings, verdict}
+use Rattle.report.specs.Answers.{upFrom, below, answerBytes}
+use Rattle.report.specs.Checked.{Answered, CheckedAs, Checked}
+use Rattle.report.specs.Places.{EndReadBack, noFinding, ReadBack, reportedIn, figuresIn}
+use Rattle.report.specs.Consequences.{CheckedAt, Justified, Told}
+use Rattle.report.proofs.Accepted as A
+use Rattle.report.proofs.ReadBack as R
+use Rattle.report.proofs.ReadBack.{Signed}
 
 -- entry i of a list made by index
 made-at : {A : Type 0} (g : ℕ → A) (d : A) (a n i : ℕ) → i < n → getD (map g (upFrom a n)) i d ≡ g (a + i)

@@ -9,10 +9,9 @@ use Rattle.sheet.specs.declared.Sheet.{Sheet}
 use Rattle.figures.specs.declared.EndFigures.{EndFigures}
 use Rattle.figures.specs.declared.Figures.{Figures}
 use Rattle.figures.specs.Ends.{End, door, closed, lashesOf}
-use Rattle.answer.specs.Findings.{Kind, racking, compression, cornerTension, lockTension, lashTension, lashVertical, lashAthwart, Finding, endCode, kindCode, figuresOf, limitAt, reportedSize, findingsFrom, endFindings, findings}
-use Rattle.answer.specs.Answers.{answerBytes}
-use Rattle.answer.proofs.FindingLaws.{bytes-length}
-use Rattle.answer.proofs.ReadBack.{end-length}
+use Rattle.report.specs.Findings.{Kind, racking, compression, cornerTension, lockTension, lashTension, lashVertical, lashAthwart, Finding, endCode, kindCode, figuresOf, limitAt, reportedSize, findingsFrom, endFindings, findings}
+use Rattle.report.specs.Answers.{answerBytes}
+use Rattle.report.proofs.ReadBack.{end-length, bytes-length}
 
 -- how many findings there can be
 from-few : (e : End) (t : Sheet) (f : EndFigures) (k : Kind) (i n : ℕ) → length (findingsFrom e t f k i n) ≤ n

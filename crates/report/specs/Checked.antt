@@ -13,10 +13,10 @@ use Rattle.sheet.specs.Refusals.{refusal}
 use Rattle.figures.specs.declared.Figures.{Figures}
 use Rattle.figures.specs.Ends.{End, Settled}
 use Rattle.figures.specs.Reported.{EndFigured}
-use Rattle.answer.specs.declared.Outcome.{Outcome}
-use Rattle.answer.specs.declared.Outcome.the-variants as O
-use Rattle.answer.specs.Findings.{figuresOf}
-use Rattle.answer.specs.Answers.{answerBytes}
+use Rattle.report.specs.declared.Outcome.{Outcome}
+use Rattle.report.specs.declared.Outcome.the-variants as O
+use Rattle.report.specs.Findings.{figuresOf}
+use Rattle.report.specs.Answers.{answerBytes}
 
 -- the two numbers that document 01 returns: 0 and the answer's length, or a refusal's number and second number
 abbrev pub number : Outcome → ℕ

@@ -8,7 +8,7 @@ use Rattle.sheet.specs.declared.Sheet.{Sheet}
 use Rattle.figures.specs.declared.EndFigures.{EndFigures}
 use Rattle.figures.specs.declared.Figures.{Figures}
 use Rattle.figures.specs.Ends.{End, door, closed, lashesOf}
-use Rattle.answer.specs.Findings.{Finding, figuresOf, findings, verdict}
+use Rattle.report.specs.Findings.{Finding, figuresOf, findings, verdict}
 
 -- i, i + 1, .. of which there are `more`; the first n from 0
 unfoldable pub upFrom : ℕ → ℕ → List ℕ

@@ -15,9 +15,9 @@ use Rattle.figures.specs.declared.EndFigures.{EndFigures}
 use Rattle.figures.specs.declared.Figures.{Figures}
 use Rattle.figures.specs.Ends.{End, door, closed, lashesOf}
 use Rattle.figures.specs.Reported.{Fitting}
-use Rattle.answer.specs.Findings.{Finding, figuresOf, findings, verdict}
-use Rattle.answer.specs.Answers.{upFrom, below, counted, endBytes, findingBytes, answerBytes}
-use Rattle.answer.specs.Places.{byteAt, sectionSize, entryPlace, endSize, endPlace, findingsPlace, compressionsPlace, tensionsPlace, lashesPlace, EndReadBack, noFinding, ReadBack}
+use Rattle.report.specs.Findings.{Finding, figuresOf, findings, verdict}
+use Rattle.report.specs.Answers.{upFrom, below, counted, endBytes, findingBytes, answerBytes}
+use Rattle.report.specs.Places.{byteAt, sectionSize, entryPlace, endSize, endPlace, findingsPlace, compressionsPlace, tensionsPlace, lashesPlace, EndReadBack, noFinding, ReadBack}
 
 -- xs stands in l from `at` on
 record Stands (l : List ℕ) (at : ℕ) (xs : List ℕ) : Type 0 where
@@ -190,6 +190,11 @@ module _ (t : Sheet) (e : End) (f : EndFigures) where
         }
 
 -- findings, three bytes each
+pub bytes-length : (xs : List Finding) → length (flatMap findingBytes xs) ≡ 3 * length xs
+unfolding flatMap
+bytes-length [] = refl
+bytes-length (x ∷ xs) = omega (arith, bytes-length xs)
+
 abbrev findingFrom : List ℕ → ℕ → Finding
 findingFrom l p = record { end = byteAt l p; kind = byteAt l (p + 1); index = byteAt l (p + 2) }
 
