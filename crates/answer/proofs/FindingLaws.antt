@@ -8,12 +8,12 @@ use native.Mathlib.Omega.{arith}
 use lib.Dec.{ltb}
 use lib.ListN.{length, getD, take}
 use lib.Seq.{sets, getD-take}
+use Rattle.sheet.specs.Layout.{blankLash}
 use Rattle.sheet.specs.declared.Lash.{Lash}
 use Rattle.sheet.specs.declared.Sheet.{Sheet}
 use Rattle.figures.specs.declared.EndFigures.{EndFigures}
 use Rattle.figures.specs.declared.Figures.{Figures}
 use Rattle.figures.specs.Ends.{End, door, closed, lashesOf}
-use Rattle.figures.specs.Reported.{noLash}
 use Rattle.report.specs.Limits.{safeLoad}
 use Rattle.report.specs.Findings.{Finding, Kind, racking, compression, cornerTension, lockTension, lashTension, lashVertical, lashAthwart, endCode, kindCode, figuresOf, firstIndex, indexCount, reportedSize, limitAt, findingsFrom, endFindings, findings}
 use Rattle.report.specs.Answers.{upFrom, findingBytes}
@@ -73,7 +73,7 @@ module _ (e : End) (t : Sheet) (f : EndFigures) (k : Kind) where
       ∙ over-same (endCode e) (kindCode k) (firstIndex k) n (reportedSize f k) (limitAt e t k) limit h)
 
 -- an end: kinds 1 to 7
-module _ (t : Sheet) (f : Figures) (e : End) (ls : List Lash) (m : ℕ) (few : length (lashesOf e t) ≡ m) (each : (j : ℕ) → j < m → getD (lashesOf e t) j noLash ≡ getD ls j noLash) where
+module _ (t : Sheet) (f : Figures) (e : End) (ls : List Lash) (m : ℕ) (few : length (lashesOf e t) ≡ m) (each : (j : ℕ) → j < m → getD (lashesOf e t) j blankLash ≡ getD ls j blankLash) where
   pub end-bytes : tierFindings (endCode e) (t .ntiers) (safeLoad (t .head .lock) (t .head .breaking)) (figuresOf e f) ++ lashFindings (endCode e) ls m (figuresOf e f) ≡ flatMap findingBytes (endFindings t f e)
   unfolding tierFindings lashFindings flatMap
   end-bytes =
@@ -101,8 +101,8 @@ module _ (t : Sheet) (f : Figures) (s : Sized t) (lock : ℕ) (safe : lock ≡ s
       rw (safe, bytes-append)
       (ap₂
       (λ (a b : List ℕ). a ++ b)
-      (end-bytes t f door (t .door) (t .ndoor) (s .door-lashes) (λ j h. getD-take (t .ndoor) (t .door) j noLash h))
-      (end-bytes t f closed (t .closed) (t .nclosed) (s .closed-lashes) (λ j h. getD-take (t .nclosed) (t .closed) j noLash h)))
+      (end-bytes t f door (t .door) (t .ndoor) (s .door-lashes) (λ j h. getD-take (t .ndoor) (t .door) j blankLash h))
+      (end-bytes t f closed (t .closed) (t .nclosed) (s .closed-lashes) (λ j h. getD-take (t .nclosed) (t .closed) j blankLash h)))
 
   -- the count stored, and the bytes that were found copied behind it
   pub behind-count : {r found l m n : List ℕ} {at q : ℕ} → Put r 0 both found q → m ≡ sets l at (q / 3 ∷ []) → Wrote m (at + 1) (take q found) n (at + 1 + q) → Wrote l at (findingsBytes t f) n (at + 1 + q)

@@ -7,13 +7,13 @@ use lib.Dec.{ltb}
 use lib.IntN.{pos, natAbs}
 use lib.ListN.{getD, length, take}
 use lib.Seq.{sets}
+use Rattle.sheet.specs.Layout.{blankLash}
 use Rattle.arith.specs.Bytes.{bytes4, twos}
 use Rattle.sheet.specs.declared.Lash.{Lash}
 use Rattle.sheet.specs.declared.Sheet.{Sheet}
 use Rattle.figures.specs.declared.EndFigures.{EndFigures}
 use Rattle.figures.specs.declared.Figures.{Figures}
 use Rattle.figures.specs.Ends.{door, closed, lashesOf}
-use Rattle.figures.specs.Reported.{noLash}
 use Rattle.report.specs.Limits.{rackingLimit, compressionLimit, cornerTensionLimit, lashVerticalLimit, lashAthwartLimit, safeLoad}
 use Rattle.report.specs.Findings.{findings}
 use Rattle.report.specs.Answers.{below, counted, findingBytes}
@@ -40,7 +40,7 @@ pub record Sized (t : Sheet) : Type 0 where
 
 -- the safe load of lash j
 abbrev pub lashLimit : List Lash → ℕ → ℕ
-lashLimit ls j = safeLoad (getD ls j noLash .material) (getD ls j noLash .breaking)
+lashLimit ls j = safeLoad (getD ls j blankLash .material) (getD ls j blankLash .breaking)
 
 -- the bytes of a finding where the size exceeds the limit, else none
 unfoldable pub findingWhere : ℕ → ℕ → ℕ → ℕ → ℕ → List ℕ

@@ -6,6 +6,7 @@ use Prim.Native.Nat.{ℕ, zero, suc}
 use lib.Dec.{leb, ltb, leb·zero, leb·suc-zero, leb·suc-suc}
 use lib.ListN.{drop}
 use lib.IntN.{pos}
+use Rattle.sheet.specs.Lashings.{levelOf}
 use Rattle.arith.proofs.Rings.{∀₁, ∀₂, ∀₃, ∀₄, ∀₆, ∀₈, by-ring}
 use Rattle.arith.proofs.Rationals.{ℚR, ℚ, _+ℚ_, _-ℚ_, _*ℚ_, int-plus, plus-zero}
 use Rattle.arith.proofs.RationalTerms.{qq}
@@ -14,7 +15,6 @@ use Rattle.springs.proofs.Chain.{natℚ}
 use Rattle.springs.proofs.Lashes.{givenℚ}
 use Rattle.sheet.specs.declared.Tier.{Tier}
 use Rattle.sheet.specs.declared.Lash.{Lash}
-use Rattle.figures.specs.Lashes.{hookLevel}
 use Rattle.figures.specs.Posts.{levelHeight}
 
 -- the height of the tiers, from number i on, that stand below level l
@@ -82,7 +82,7 @@ module _ (F P : Tier → ℚ) (part : Lash → ℚ) (s w : ℚ) where
   Q t above = s *ℚ F t +ℚ w *ℚ P t +ℚ sumℚ (λ u. F u +ℚ P u) above
 
   unfoldable pub held : List Lash → ℕ → ℚ
-  held ls i = sumℚ (λ l. givenℚ (leb i (hookLevel l)) (part l)) ls
+  held ls i = sumℚ (λ l. givenℚ (leb i (levelOf l)) (part l)) ls
 
   -- F and P by their arms, the first tier standing x over the level
   unfoldable pub turns : ℚ → List Tier → ℚ
@@ -116,7 +116,7 @@ module _ (F P : Tier → ℚ) (part : Lash → ℚ) (s w : ℚ) where
   -- one more lash takes its athwart part times its height over the level
   lashed :
       (l : Lash) (ls : List Lash) (ts : List Tier) (i : ℕ) →
-      racked (l ∷ ls) ts i ≡ racked ls ts i -ℚ part l *ℚ heightTo (suc i) (hookLevel l) ts
+      racked (l ∷ ls) ts i ≡ racked ls ts i -ℚ part l *ℚ heightTo (suc i) (levelOf l) ts
   unfolding racked held sumℚ heightTo
   lashed l ls [] i = none (part l)
     where
@@ -124,8 +124,8 @@ module _ (F P : Tier → ℚ) (part : Lash → ℚ) (s w : ℚ) where
       none = ∀₁ ℚR _ λ ρ. simp qq (by-ring tt)
   lashed l ls (t ∷ ts) i =
       ap (λ y. natℚ (t .height) *ℚ (Q t ts -ℚ held (l ∷ ls) (suc i)) +ℚ y) (lashed l ls ts (suc i))
-      ∙ go (leb (suc i) (hookLevel l)) (natℚ (t .height)) (Q t ts) (held ls (suc i)) (racked ls ts (suc i)) (part l)
-      (heightTo (suc (suc i)) (hookLevel l) ts)
+      ∙ go (leb (suc i) (levelOf l)) (natℚ (t .height)) (Q t ts) (held ls (suc i)) (racked ls ts (suc i)) (part l)
+      (heightTo (suc (suc i)) (levelOf l) ts)
     where
       go : (b : Bool) (h q A r a c : ℚ) → h *ℚ (q -ℚ (givenℚ b a +ℚ A)) +ℚ (r -ℚ a *ℚ c) ≡ h *ℚ (q -ℚ A) +ℚ r -ℚ a *ℚ (givenℚ b h +ℚ c)
       go true = ∀₆ ℚR _ λ ρ. simp qq (by-ring tt)
@@ -134,7 +134,7 @@ module _ (F P : Tier → ℚ) (part : Lash → ℚ) (s w : ℚ) where
   -- the athwart parts by their heights over level i
   unfoldable pub turned-back : List Lash → List Tier → ℕ → ℚ
   turned-back ls ts i =
-      sumℚ (λ l. givenℚ (ltb i (hookLevel l)) (part l *ℚ (natℚ (levelHeight ts (hookLevel l)) -ℚ natℚ (levelHeight ts i)))) ls
+      sumℚ (λ l. givenℚ (ltb i (levelOf l)) (part l *ℚ (natℚ (levelHeight ts (levelOf l)) -ℚ natℚ (levelHeight ts i)))) ls
 
   pub balance :
       (i : ℕ) (ts : List Tier) (ls : List Lash) →
@@ -147,9 +147,9 @@ module _ (F P : Tier → ℚ) (part : Lash → ℚ) (s w : ℚ) where
       go : (p r : ℚ) → natℚ 0 *ℚ p +ℚ r -ℚ natℚ 0 ≡ r
       go = ∀₂ ℚR _ λ ρ. simp qq (by-ring tt)
   balance i ts (l ∷ ls) =
-      go (ltb i (hookLevel l)) (turns (natℚ 0) (drop i ts)) (part l)
-      (natℚ (levelHeight ts (hookLevel l)) -ℚ natℚ (levelHeight ts i)) (turned-back ls ts i)
-      ∙ ap₂ (λ y c. y -ℚ part l *ℚ c) (balance i ts ls) (sym (height-from i (hookLevel l) ts))
+      go (ltb i (levelOf l)) (turns (natℚ 0) (drop i ts)) (part l)
+      (natℚ (levelHeight ts (levelOf l)) -ℚ natℚ (levelHeight ts i)) (turned-back ls ts i)
+      ∙ ap₂ (λ y c. y -ℚ part l *ℚ c) (balance i ts ls) (sym (height-from i (levelOf l) ts))
       ∙ sym (lashed l ls (drop i ts) i)
     where
       go : (b : Bool) (m a c S : ℚ) → m -ℚ (givenℚ b (a *ℚ c) +ℚ S) ≡ m -ℚ S -ℚ a *ℚ givenℚ b c

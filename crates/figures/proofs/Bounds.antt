@@ -7,6 +7,7 @@ use native.Mathlib.Decide.{decLt}
 use native.Mathlib.Omega.{arith}
 use lib.ListN.{getD, length, drop, length-drop}
 use lib.IntN.{pos}
+use Rattle.sheet.specs.Layout.{blankLash}
 use Rattle.arith.specs.Fractions.{Frac, nat, _-q_, _/q_, sumq}
 use Rattle.arith.proofs.Polynomials.{v, kn, ⊖_}
 use Rattle.arith.proofs.Rings.{∀₅, by-cert, to, times, _⊞_, _⊠_}
@@ -25,7 +26,7 @@ use Rattle.figures.specs.Loads.{classShare}
 use Rattle.figures.specs.Lashes.{pull, athwartPart, verticalPart}
 use Rattle.figures.specs.Ends.{End, Settled, tiersOf, lashesOf, routeFactor}
 use Rattle.figures.specs.Posts.{athwartOf, moment, weightAbove, verticals, inCompression, inTension, onLee, onWindward, lee, windward, compression, tension, greater, lower, atMost}
-use Rattle.figures.specs.Reported.{noLash, forceOf, EndReported, Fitting, EndFigured}
+use Rattle.figures.specs.Reported.{forceOf, EndReported, Fitting, EndFigured}
 use Rattle.figures.proofs.Facts.{TierFacts, Facts}
 use Rattle.figures.proofs.EndChain.{percent-most, tier-facts, end-each, endTiers, endLashes, end-length, end-stiff, share-is, factor-is}
 use Rattle.figures.proofs.OneSolution.{solutionOf, exists, leeward}
@@ -90,10 +91,10 @@ module _ (e : End) {t : Sheet} (f : Facts t) where
       athwart-up = part-up parts-up (one-part (t .ntiers) Ds lee-q (lashesOf e t) (end-each e f) j h)
 
       pub pull-up : UpTo (42 * 2440000) (forceOf pull (lashesOf e t) Ds j)
-      pull-up = part-up athwart-up (pull-part (t .ntiers) Ds lee-q (getD (lashesOf e t) j noLash) (f .ends e .each j h))
+      pull-up = part-up athwart-up (pull-part (t .ntiers) Ds lee-q (getD (lashesOf e t) j blankLash) (f .ends e .each j h))
 
       pub vertical-up : UpTo (40 * 2440000) (forceOf verticalPart (lashesOf e t) Ds j)
-      vertical-up = part-up athwart-up (vertical-part (t .ntiers) Ds lee-q (getD (lashesOf e t) j noLash) (f .ends e .each j h))
+      vertical-up = part-up athwart-up (vertical-part (t .ntiers) Ds lee-q (getD (lashesOf e t) j blankLash) (f .ends e .each j h))
 
     pub moment-within : (i : ℕ) → Within (28960 * 2440000) (moment classShare (routeFactor t) (tiersOf t) (lashesOf e t) Ds i)
     unfolding moment

@@ -4,6 +4,7 @@ use Prim.Native.Nat.{ℕ, _+_, _*_, _^_, _≤_, _<_}
 use native.Mathlib.Omega.{arith}
 use lib.Dec.{lit≤}
 use lib.IntN.{pos}
+use Rattle.arith.specs.Rounding.{roundedUp}
 use Rattle.arith.specs.Fractions.{Frac, nat, _+q_, absq}
 use Rattle.arith.proofs.Rings.{∀₅, ∀₇, ∀₈, by-cert, to, num, contra, _⊞_, _⊠_}
 use Rattle.arith.proofs.Rationals.{ℚR, ℚ, mk, _+ℚ_, _*ℚ_, _/ℚ_, negℚ, absℚ, _≤ℚ_, <→≤, int-plus, to-⊑}
@@ -13,7 +14,6 @@ use Rattle.arith.proofs.RationalOrder.{lt-of, nat-q, above-0}
 use Rattle.arith.proofs.RationalRounding.{ceil-up, up-le, up-lt}
 use Rattle.arith.proofs.FractionsInRationals.{to-⊏, mk-abs, mk-int, mk-add}
 use Rattle.springs.proofs.Chain.{natℚ}
-use Rattle.figures.specs.Fixed.{ceil}
 use Rattle.figures.specs.Reported.{Reported}
 use Rattle.figures.proofs.Errors.{Off, off-nn}
 use Rattle.figures.proofs.Scales.{newtons, newtons-add, newtons-nn, share-nn, share-most, share-up, share-up-close}
@@ -51,17 +51,17 @@ module _ {b n : ℕ} (m : ℕ) (X : Frac) (less : b < m) where
 
 -- a number of 2^-18 N in N, rounded up
 module _ (n : ℕ) where
-  pub ceil-low : newtons (pos n) ≤ℚ natℚ (ceil n (2 ^ 18))
+  pub ceil-low : newtons (pos n) ≤ℚ natℚ (roundedUp n (2 ^ 18))
   ceil-low = up-le (above-0 (2 ^ 18) (lit≤ tt)) (ceil-up n (2 ^ 18) (lit≤ tt))
 
-  pub ceil-high : natℚ (ceil n (2 ^ 18)) ≤ℚ newtons (pos n) +ℚ natℚ 1
+  pub ceil-high : natℚ (roundedUp n (2 ^ 18)) ≤ℚ newtons (pos n) +ℚ natℚ 1
   ceil-high = <→≤ (up-lt (above-0 (2 ^ 18) (lit≤ tt)) (ceil-up n (2 ^ 18) (lit≤ tt)))
 
 -- n found within e of X, padded by p
 module _ {e X : ℚ} (n p : ℕ) (o : Off e (newtons (pos n)) X) (pad : e ≤ℚ newtons (pos p)) where
-  pub padded-covers : e +ℚ newtons (pos p) ≤ℚ natℚ 1 → Covers 2 (ceil (n + p) (2 ^ 18)) X
+  pub padded-covers : e +ℚ newtons (pos p) ≤ℚ natℚ 1 → Covers 2 (roundedUp (n + p) (2 ^ 18)) X
   padded-covers lift =
-      let s : ℚ = natℚ (ceil (n + p) (2 ^ 18)) in
+      let s : ℚ = natℚ (roundedUp (n + p) (2 ^ 18)) in
       let low = rw (newtons-add (pos n) (pos p)) at (ceil-low (n + p)) in
       let high = rw (newtons-add (pos n) (pos p)) at (ceil-high (n + p)) in
       record {
@@ -85,11 +85,11 @@ module _ {e X : ℚ} (n p : ℕ) (o : Off e (newtons (pos n)) X) (pad : e ≤ℚ
       0 < y →
       N ≤ 42 * y →
       natℚ 42 *ℚ (e +ℚ newtons (pos p)) +ℚ newtons (pos 1) ≤ℚ natℚ 12 →
-      Covers 13 (ceil (ceil ((n + p) * N) y) (2 ^ 18)) (X *ℚ (natℚ N /ℚ natℚ y))
+      Covers 13 (roundedUp (roundedUp ((n + p) * N) y) (2 ^ 18)) (X *ℚ (natℚ N /ℚ natℚ y))
   turned-covers N y y0 Ny lift =
-      let m : ℕ = ceil ((n + p) * N) y in
+      let m : ℕ = roundedUp ((n + p) * N) y in
       let q : ℚ = natℚ N /ℚ natℚ y in
-      let s : ℚ = natℚ (ceil m (2 ^ 18)) in
+      let s : ℚ = natℚ (roundedUp m (2 ^ 18)) in
       let first = rw (newtons-add (pos n) (pos p)) at (share-up N y y0 (n + p)) in
       let first-close = rw (newtons-add (pos n) (pos p)) at (share-up-close N y y0 (n + p)) in
       record {

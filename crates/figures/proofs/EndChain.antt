@@ -6,6 +6,7 @@ use native.Mathlib.Decide.{decLt}
 use native.Mathlib.Omega.{arith}
 use lib.ListN.{getD, length, List·getD-eq-default}
 use lib.IntN.{pos}
+use Rattle.sheet.specs.Layout.{blankTier}
 use Rattle.arith.specs.Fractions.{Frac, nat, recip, _*q_, _≈_, _⊑_, _⊏_}
 use Rattle.arith.proofs.Rings.{∀₂, part, to, _⊞_}
 use Rattle.arith.proofs.Rationals.{ℚR, ℚ, mk, _*ℚ_, _≤ℚ_, nn-int, to-⊑}
@@ -22,7 +23,7 @@ use Rattle.sheet.specs.Routes.{routePercent}
 use Rattle.sheet.proofs.Routes.{percent-range}
 use Rattle.figures.specs.Loads.{classShare}
 use Rattle.figures.specs.Ends.{End, door, closed, springOf, tiersOf, lashesOf, chainTiers, chainLash, chainLashes, routeFactor}
-use Rattle.figures.specs.Fixed.{noTier, levelLoad}
+use Rattle.figures.specs.Fixed.{levelLoad}
 use Rattle.figures.proofs.Facts.{TierFacts, Facts}
 use Rattle.figures.proofs.LashStiffness.{stiffness-above}
 use Rattle.figures.proofs.EachLash.{Each, each-first, each-rest}
@@ -33,15 +34,15 @@ pub percent-most : {t : Sheet} → Facts t → routePercent (t .head .route) ≤
 percent-most {t} f = percent-range (t .head .route) (omega (arith, f .route)) .1
 
 -- the facts of the tier over a level, also where there is none
-pub tier-facts : {t : Sheet} → Facts t → (i : ℕ) → TierFacts (getD (tiersOf t) i noTier)
+pub tier-facts : {t : Sheet} → Facts t → (i : ℕ) → TierFacts (getD (tiersOf t) i blankTier)
 tier-facts {t} f i = go (decLt i (t .ntiers))
   where
-    none : TierFacts noTier
+    none : TierFacts blankTier
     none = omega arith
 
-    go : Dec (i < t .ntiers) → TierFacts (getD (tiersOf t) i noTier)
+    go : Dec (i < t .ntiers) → TierFacts (getD (tiersOf t) i blankTier)
     go (yes h) = f .each i h
-    go (no h) = subst TierFacts (sym (List·getD-eq-default (tiersOf t) noTier (omega (arith, f .tiers)))) none
+    go (no h) = subst TierFacts (sym (List·getD-eq-default (tiersOf t) blankTier (omega (arith, f .tiers)))) none
 
 -- the chain's tiers and lashes, entry by entry
 module _ (e : End) (share factor : Frac) where
@@ -119,7 +120,7 @@ factor-is t = record { cross = ap pos (omega arith) }
 module _ (e : End) (t : Sheet) where
   abbrev wholeLoad : ℕ → ℕ
   wholeLoad i =
-      levelLoad 9 (10 * routePercent (t .head .route)) (getD (tiersOf t) i noTier) (getD (tiersOf t) (suc i) noTier)
+      levelLoad 9 (10 * routePercent (t .head .route)) (getD (tiersOf t) i blankTier) (getD (tiersOf t) (suc i) blankTier)
 
   pub end-loaded : (i : ℕ) → Rounded (2 ^ 28) 1 (wholeLoad i) (loadAt (endTiers e t) i)
   end-loaded i =

@@ -8,6 +8,8 @@ use lib.Dec.{lit≤}
 use lib.ListN.{drop, length, getD, length-drop}
 use lib.Seq.{getD-drop}
 use lib.IntN.{ℤ, pos}
+use Rattle.sheet.specs.Lashings.{levelOf}
+use Rattle.sheet.specs.Layout.{blankLash, blankTier}
 use Rattle.arith.specs.Fractions.{Frac, nat, _-q_, _*q_, _/q_, absq, _⊑_, sumq}
 use Rattle.arith.proofs.FractionLaws.{⊑-trans}
 use Rattle.arith.proofs.Rationals.{mk, int, _-ℚ_, _*ℚ_, recipℚ, absℚ, _≤ℚ_, of-⊑}
@@ -23,11 +25,11 @@ use Rattle.sheet.specs.declared.Lash.{Lash}
 use Rattle.sheet.specs.declared.Sheet.{Sheet}
 use Rattle.figures.specs.declared.EndFigures.{EndFigures}
 use Rattle.figures.specs.Loads.{classShare}
-use Rattle.figures.specs.Lashes.{hookLevel, pull, athwartPart, verticalPart}
+use Rattle.figures.specs.Lashes.{pull, athwartPart, verticalPart}
 use Rattle.figures.specs.Ends.{End, springOf, tiersOf, lashesOf, routeFactor, Settled}
 use Rattle.figures.specs.Posts.{weightAbove, moment, verticals, onLee, onWindward, inCompression, inTension, lee, windward, compression, tension}
-use Rattle.figures.specs.Reported.{Reported, noLash, EndReported}
-use Rattle.figures.specs.Fixed.{noTier, rackingPart, halfWeight, momentPart, upwards, leePart, windwardPart, leeFound, windwardFound, compressionFigure, tensionFigure, pullFigure, athwartFigure, verticalFigure, Computed}
+use Rattle.figures.specs.Reported.{Reported, EndReported}
+use Rattle.figures.specs.Fixed.{rackingPart, halfWeight, momentPart, upwards, leePart, windwardPart, leeFound, windwardFound, compressionFigure, tensionFigure, pullFigure, athwartFigure, verticalFigure, Computed}
 use Rattle.figures.proofs.Facts.{Facts}
 use Rattle.figures.proofs.Errors.{Off}
 use Rattle.figures.proofs.EndChain.{end-each, endTiers, endLashes, end-spring}
@@ -133,8 +135,8 @@ module _
         rw (of-≈ (M i) (rackingMoment R (drop i ts) i) (moment-is e classShare (routeFactor t) ts ls Ds (settled .solves) i))
         (moment-off (springOf e) d R (drop i ts) i low (λ j k e l. racking-near k (omega (arith, inside j l))))
       where
-        low : (j : ℕ) → j < length (drop i ts) → getD (drop i ts) j noTier .height ≤ 2896
-        low j l = rw (getD-drop i ts j noTier) (facts .each (i + j) (inside j l) .height)
+        low : (j : ℕ) → j < length (drop i ts) → getD (drop i ts) j blankTier .height ≤ 2896
+        low j l = rw (getD-drop i ts j blankTier) (facts .each (i + j) (inside j l) .height)
 
     -- its two sums, with either acceleration and the lashes that count
     module _ (acceleration : Tier → ℕ) (counts : ℕ → Lash → Bool) where
@@ -173,22 +175,22 @@ module _
   -- lash j
   module _ (j : ℕ) (h : j < length (lashesOf e t)) where
     abbrev lash : Lash
-    lash = getD ls j noLash
+    lash = getD ls j blankLash
 
     abbrev D : Frac
-    D = shift Ds (hookLevel lash)
+    D = shift Ds (levelOf lash)
 
     shift-error-small : shiftErrorAt d Ds lash ≤ℚ shiftErrorBound
     shift-error-small = ≤ℚ-trans (shiftErrorAt d Ds lash) (shiftErrors d Ds ls) shiftErrorBound (shift-error-le d Ds ls each j h) shift-errors-small
 
     pulled : Reported 20 (pull lash D) (pullFigure d lash)
-    pulled = pull-reported d lash D (each .at j h) (near .far (hookLevel lash)) shift-error-small 20 (lit≤ tt)
+    pulled = pull-reported d lash D (each .at j h) (near .far (levelOf lash)) shift-error-small 20 (lit≤ tt)
 
     athwart : Reported 20 (athwartPart lash D) (athwartFigure d lash)
-    athwart = athwart-reported d lash D (each .at j h) (near .far (hookLevel lash)) shift-error-small 20 (lit≤ tt)
+    athwart = athwart-reported d lash D (each .at j h) (near .far (levelOf lash)) shift-error-small 20 (lit≤ tt)
 
     upright : Reported 20 (verticalPart lash D) (verticalFigure d lash)
-    upright = vertical-reported d lash D (each .at j h) (near .far (hookLevel lash)) shift-error-small 20 (lit≤ tt)
+    upright = vertical-reported d lash D (each .at j h) (near .far (levelOf lash)) shift-error-small 20 (lit≤ tt)
 
   pub reported : (f : EndFigures) → Computed e t d f → EndReported 20 e t Ds f
   reported f c =

@@ -4,6 +4,7 @@ use mathlib.Core.List.{List}
 use Prim.Native.Nat.{ℕ, suc, _*_, _≤_, _<_}
 use native.Mathlib.Omega.{arith}
 use lib.ListN.{getD}
+use Rattle.sheet.specs.Layout.{blankTier}
 use Rattle.arith.specs.Fractions.{nat, _≈_}
 use Rattle.arith.proofs.FractionLaws.{≈-refl}
 use Rattle.springs.specs.Promise.{Near, Solvable, mostHeld, mostLoaded}
@@ -12,7 +13,7 @@ use Rattle.sheet.specs.declared.Sheet.{Sheet}
 use Rattle.sheet.specs.Routes.{routePercent}
 use Rattle.figures.specs.Loads.{classShare}
 use Rattle.figures.specs.Ends.{End, door, closed, springOf, tiersOf, lashesOf, chainTiers, chainLashes, routeFactor}
-use Rattle.figures.specs.Fixed.{Inputs, noTier}
+use Rattle.figures.specs.Fixed.{Inputs}
 use Rattle.figures.proofs.Facts.{Facts}
 use Rattle.figures.proofs.LevelStiffness.{level-most, level-rounded}
 use Rattle.figures.proofs.LevelLoads.{load-most}
@@ -35,7 +36,7 @@ module _ {e : End} {t : Sheet} {k κ ω : List ℕ} (f : Facts t) (h : Inputs e 
   loaded-most : (i : ℕ) → i < t .ntiers → getD ω i 0 ≤ mostLoaded
   loaded-most i l =
       rw (h .loaded i l)
-      (load-most 9 (10 * routePercent (t .head .route)) (getD (tiersOf t) i noTier) (getD (tiersOf t) (suc i) noTier) (omega arith) (omega (arith, percent-most f)) (tier-facts f i) (tier-facts f (suc i)))
+      (load-most 9 (10 * routePercent (t .head .route)) (getD (tiersOf t) i blankTier) (getD (tiersOf t) (suc i) blankTier) (omega arith) (omega (arith, percent-most f)) (tier-facts f i) (tier-facts f (suc i)))
 
   pub solvable : Solvable (t .ntiers) k κ ω
   solvable =

@@ -8,6 +8,7 @@ use lib.Dec.{leb, ltb}
 use lib.ListN.{getD, length}
 use lib.IntN.{pos}
 use borrow.Author.Tests.{le-leb, ltb-true}
+use Rattle.sheet.specs.Layout.{blankLash}
 use Rattle.arith.specs.Fractions.{Frac, nat, _+q_, _-q_, _*q_, sumq}
 use Rattle.arith.proofs.Rings.{∀₁, ∀₂, ∀₃, ∀₄, ∀₅, by-cert, to, num, _⊞_, _⊠_}
 use Rattle.arith.proofs.Rationals.{ℚR, ℚ, mk, _+ℚ_, _-ℚ_, _*ℚ_, _/ℚ_, recipℚ, _≤ℚ_, <→≤, nn-int, nn-plus, nn-times, recip-nn}
@@ -21,11 +22,10 @@ use Rattle.sheet.specs.declared.Tier.{Tier}
 use Rattle.sheet.specs.declared.Lash.{Lash}
 use Rattle.sheet.specs.declared.Lashing.{Lashing}
 use Rattle.sheet.specs.declared.Lashing.the-variants.{Cross, Side}
-use Rattle.sheet.specs.Lashings.{lashingOf}
-use Rattle.figures.specs.Lashes.{hookLevel, lashLength, pull, athwartPart, verticalPart}
+use Rattle.sheet.specs.Lashings.{lashingOf, levelOf}
+use Rattle.figures.specs.Lashes.{lashLength, pull, athwartPart, verticalPart}
 use Rattle.figures.specs.Ends.{chainLash, chainLashes}
 use Rattle.figures.specs.Posts.{levelHeight, athwartOf, onLee, onWindward, verticals}
-use Rattle.figures.specs.Reported.{noLash}
 use Rattle.figures.proofs.Facts.{LashFacts}
 use Rattle.figures.proofs.LashLength.{length-above, length-ratio, vertical-ratio}
 use Rattle.figures.proofs.LashForces.{stiffness, athwart-is, pull-is, vertical-is}
@@ -78,10 +78,10 @@ part-sum {k} {a} {b} {x} {y} p q =
 module _ (n : ℕ) (Ds : List Frac) (lee : (i : ℕ) → natℚ 0 ≤ℚ mk (S.shift Ds i)) where
   -- the shift of a lash's hook
   abbrev at : Lash → Frac
-  at l = S.shift Ds (hookLevel l)
+  at l = S.shift Ds (levelOf l)
 
   part-least : (l : Lash) → LashFacts n l → natℚ 0 ≤ℚ mk (athwartOf Ds l)
-  part-least l f = rw (athwart-is l (at l)) (nn-times (stiffness l) (mk (at l)) (rw (mk-int (pos 0)) at (<→≤ (of-⊏ (nat 0) (athwartPart l (nat 1)) (stiffness-above l f)))) (lee (hookLevel l)))
+  part-least l f = rw (athwart-is l (at l)) (nn-times (stiffness l) (mk (at l)) (rw (mk-int (pos 0)) at (<→≤ (of-⊏ (nat 0) (athwartPart l (nat 1)) (stiffness-above l f)))) (lee (levelOf l)))
 
   -- all athwart parts
   abbrev pub allParts : List Lash → Frac
@@ -111,7 +111,7 @@ module _ (n : ℕ) (Ds : List Frac) (lee : (i : ℕ) → natℚ 0 ≤ℚ mk (S.s
       Each n ls →
       (j : ℕ) →
       j < length ls →
-      PartOf 1 (allParts ls) (athwartOf Ds (getD ls j noLash))
+      PartOf 1 (allParts ls) (athwartOf Ds (getD ls j blankLash))
   unfolding sumq
   one-part [] f j h = absurd (off h)
     where
@@ -129,7 +129,7 @@ module _ (n : ℕ) (Ds : List Frac) (lee : (i : ℕ) → natℚ 0 ≤ℚ mk (S.s
       let rest = one-part ls (each-rest f) j (omega arith) in
       record {
         least = rest .least;
-        most = rw (mk-add (athwartOf Ds l) (allParts ls)) (go (mk (athwartOf Ds l)) (mk (allParts ls)) (mk (athwartOf Ds (getD ls j noLash))) (part-least l (each-first f)) (rest .most));
+        most = rw (mk-add (athwartOf Ds l) (allParts ls)) (go (mk (athwartOf Ds l)) (mk (allParts ls)) (mk (athwartOf Ds (getD ls j blankLash))) (part-least l (each-first f)) (rest .most));
       }
     where
       go : (x y z : ℚ) → natℚ 0 ≤ℚ x → z ≤ℚ natℚ 1 *ℚ y → z ≤ℚ natℚ 1 *ℚ (x +ℚ y)
@@ -144,15 +144,15 @@ module _ (n : ℕ) (Ds : List Frac) (lee : (i : ℕ) → natℚ 0 ≤ℚ mk (S.s
   from-part [] f i = part-none (rw (mk-int (pos 0)) (nn-int 0))
   from-part (l ∷ ls) f i =
       let own = part-least l (each-first f) in
-      part-sum (part-given (leb i (hookLevel l)) own (λ e. part-same own (chain-part l))) (from-part ls (each-rest f) i)
+      part-sum (part-given (leb i (levelOf l)) own (λ e. part-same own (chain-part l))) (from-part ls (each-rest f) i)
 
   pub all-from : (ls : List Lash) → Each n ls → mk (allParts ls) ≡ mk (S.athwartFrom (chainLashes ls) Ds 1)
   unfolding sumq chainLash
   all-from [] f = refl
   all-from (l ∷ ls) f =
       mk-add (athwartOf Ds l) (allParts ls)
-      ∙ ap₂ _+ℚ_ (sym (chain-part l) ∙ ap (λ c. mk (given c (athwartPart l (nat 1) *q at l))) (sym (le-leb 1 (hookLevel l) (each-first f .raised)))) (all-from ls (each-rest f))
-      ∙ sym (mk-add (given (leb 1 (hookLevel l)) (athwartPart l (nat 1) *q at l)) (S.athwartFrom (chainLashes ls) Ds 1))
+      ∙ ap₂ _+ℚ_ (sym (chain-part l) ∙ ap (λ c. mk (given c (athwartPart l (nat 1) *q at l))) (sym (le-leb 1 (levelOf l) (each-first f .raised)))) (all-from ls (each-rest f))
+      ∙ sym (mk-add (given (leb 1 (levelOf l)) (athwartPart l (nat 1) *q at l)) (S.athwartFrom (chainLashes ls) Ds 1))
 
   -- tension and vertical part of a lash: its athwart part times N / LY
   turned-part : (k : ℕ) (l : Lash) →
@@ -206,10 +206,10 @@ module _ (n : ℕ) (Ds : List Frac) (lee : (i : ℕ) → natℚ 0 ≤ℚ mk (S.s
       length ts ≤ 10 →
       (i : ℕ) (ls : List Lash) →
       Each n ls →
-      PartOf 28960 (allParts ls) (sumq (λ l. given (ltb i (hookLevel l)) (athwartOf Ds l *q (nat (levelHeight ts (hookLevel l)) -q nat (levelHeight ts i)))) ls)
+      PartOf 28960 (allParts ls) (sumq (λ l. given (ltb i (levelOf l)) (athwartOf Ds l *q (nat (levelHeight ts (levelOf l)) -q nat (levelHeight ts i)))) ls)
   arms-part ts tf few i ls f =
-      sum-part (λ l. given (ltb i (hookLevel l)) (athwartOf Ds l *q (nat (levelHeight ts (hookLevel l)) -q nat (levelHeight ts i))))
-      (λ l lf. part-given (ltb i (hookLevel l)) (part-least l lf) (λ e. arm (athwartOf Ds l) (levelHeight ts (hookLevel l)) (levelHeight ts i) (part-least l lf) (height-rises ts i (hookLevel l) (omega (arith, ltb-true i (hookLevel l) e))) (omega (arith, height-most ts tf (hookLevel l)))))
+      sum-part (λ l. given (ltb i (levelOf l)) (athwartOf Ds l *q (nat (levelHeight ts (levelOf l)) -q nat (levelHeight ts i))))
+      (λ l lf. part-given (ltb i (levelOf l)) (part-least l lf) (λ e. arm (athwartOf Ds l) (levelHeight ts (levelOf l)) (levelHeight ts i) (part-least l lf) (height-rises ts i (levelOf l) (omega (arith, ltb-true i (levelOf l) e))) (omega (arith, height-most ts tf (levelOf l)))))
       ls f
     where
       arm-mk : (A : Frac) (h k : ℕ) → mk (A *q (nat h -q nat k)) ≡ mk A *ℚ (natℚ h -ℚ natℚ k)

@@ -6,6 +6,7 @@ use native.Mathlib.Omega.{arith}
 use lib.Dec.{lit≤}
 use lib.IntN.{pos}
 use lib.ListN.{getD}
+use Rattle.sheet.specs.Lashings.{levelOf}
 use Rattle.arith.specs.Fractions.{Frac}
 use Rattle.arith.proofs.Polynomials.{v, kp, _⊗_, ⊖_}
 use Rattle.arith.proofs.Rings.{∀₃, ∀₉, by-cert, to, times, num, part, _⊞_, _⊠_}
@@ -17,7 +18,7 @@ use Rattle.arith.proofs.RationalRounding.{div-down, down-low, down-high}
 use Rattle.springs.specs.Promise.{found}
 use Rattle.springs.proofs.Chain.{natℚ}
 use Rattle.sheet.specs.declared.Lash.{Lash}
-use Rattle.figures.specs.Lashes.{hookLevel, lashLength, pull, athwartPart, verticalPart}
+use Rattle.figures.specs.Lashes.{lashLength, pull, athwartPart, verticalPart}
 use Rattle.figures.specs.Fixed as F
 use Rattle.figures.specs.Fixed.{stiffnessOf, upward, lashPad, athwartFigure, pullFigure, verticalFigure}
 use Rattle.figures.specs.Reported.{Reported}
@@ -31,32 +32,32 @@ use Rattle.figures.proofs.LashForces.{stiffness, stiffness-low, stiffne
 
 -- the shift error of a lash, in N: its stiffness × the error of its level's shift, D being the exact shift
 abbrev pub shiftError : List ℕ → Lash → Frac → ℚ
-shiftError d l D = stiffness l *ℚ absℚ (mk (found d (hookLevel l)) -ℚ mk D)
+shiftError d l D = stiffness l *ℚ absℚ (mk (found d (levelOf l)) -ℚ mk D)
 
 module _ (d : List ℕ) (l : Lash) (D : Frac) (long : 0 < lashLength l) where
   pub shift-error-nn : natℚ 0 ≤ℚ shiftError d l D
   shift-error-nn =
-      nn-times (stiffness l) (absℚ (mk (found d (hookLevel l)) -ℚ mk D)) (stiffness-nn l long) (nn-q (mk (found d (hookLevel l)) -ℚ mk D))
+      nn-times (stiffness l) (absℚ (mk (found d (levelOf l)) -ℚ mk D)) (stiffness-nn l long) (nn-q (mk (found d (levelOf l)) -ℚ mk D))
 
   -- the athwart part found: rounding costs a unit, and a unit of stiffness times the shift, at most 2^40
-  part-off : getD d (hookLevel l) 0 ≤ 2 ^ 40 → Off (partError (shiftError d l D)) (newtons (pos (F.part d l))) (stiffness l *ℚ mk D)
+  part-off : getD d (levelOf l) 0 ≤ 2 ^ 40 → Off (partError (shiftError d l D)) (newtons (pos (F.part d l))) (stiffness l *ℚ mk D)
   unfolding F.part
   part-off far =
       let k = stiffness l in
-      let x = mk (found d (hookLevel l)) in
+      let x = mk (found d (levelOf l)) in
       let m = absℚ (x -ℚ mk D) in
       let s = stiffnessOf l in
-      let n = getD d (hookLevel l) 0 in
+      let n = getD d (levelOf l) 0 in
       let q = F.part d l in
       let down = div-down (s * n) (2 ^ 32) (lit≤ tt) in
       record {
         above =
             high k (mk D) x (natℚ n) (natℚ s) (natℚ q) (newtons (pos q)) m (newtons (pos 257))
-            (stiffness-nn l long) (stiffness-low l long) (nn-int n) (found-times d (hookLevel l)) (ge-q (x -ℚ mk D))
+            (stiffness-nn l long) (stiffness-low l long) (nn-int n) (found-times d (levelOf l)) (ge-q (x -ℚ mk D))
             (rw (int-times (pos s) (pos n)) at (down-low down)) (newtons-times (pos q)) (newtons-nn 257);
         below =
             low k (mk D) x (natℚ n) (natℚ s) (natℚ q) (newtons (pos q)) m (newtons (pos 257))
-            (stiffness-nn l long) (stiffness-high l long) (nn-int n) (nat-q n (2 ^ 40) far) (found-times d (hookLevel l)) (ge-neg-q (x -ℚ mk D))
+            (stiffness-nn l long) (stiffness-high l long) (nn-int n) (nat-q n (2 ^ 40) far) (found-times d (levelOf l)) (ge-neg-q (x -ℚ mk D))
             (rw (int-times (pos s) (pos n)) at (down-high down)) (newtons-times (pos q)) (newtons-times (pos 257));
       }
     where
@@ -96,7 +97,7 @@ module _ (d : List ℕ) (l : Lash) (D : Frac) (long : 0 < lashLength l) where
           (to f ⊞ to h ⊠ to n0 ⊞ to n1 ⊞ num (2 ^ 50) ⊠ (to k0 ⊠ to l) ⊞ times (⊖ (kp (2 ^ 22) ⊗ v 0)) e ⊞ times (kp (2 ^ 32)) i ⊞ times (kp (2 ^ 32)) j)
           tt
 
-module _ {n : ℕ} (d : List ℕ) (l : Lash) (D : Frac) (f : LashFacts n l) (far : getD d (hookLevel l) 0 ≤ 2 ^ 40) where
+module _ {n : ℕ} (d : List ℕ) (l : Lash) (D : Frac) (f : LashFacts n l) (far : getD d (levelOf l) 0 ≤ 2 ^ 40) where
   wide : 0 < l .ly
   wide = omega (arith, f .ly)
 

@@ -8,6 +8,7 @@ use native.Mathlib.Omega.{arith}
 use lib.Dec.{eqb}
 use lib.ListN.{getD}
 use lib.IntN.{pos}
+use Rattle.sheet.specs.Layout.{blankTier}
 use Rattle.arith.specs.Fractions.{Frac, nat, _+q_, _*q_, recip, _≈_, sumq}
 use Rattle.arith.proofs.Polynomials.{v, kp, kn, _⊖_, _⊗_, ⊖_}
 use Rattle.arith.proofs.Rings.{∀₂, ∀₄, ∀₅, ∀₁₂, by-ring, by-eqs, times, mul-eq, part, both, _⊹_}
@@ -21,7 +22,7 @@ use Rattle.springs.proofs.Inputs.{rounded-quotient, rounded-same}
 use Rattle.sheet.specs.declared.Tier.{Tier}
 use Rattle.figures.specs.Loads.{half, thousandths, weight, transverse, boxLength, wind, load}
 use Rattle.figures.specs.Ends.{End, chainTiers}
-use Rattle.figures.specs.Fixed.{noTier, push, gust, levelLoad}
+use Rattle.figures.specs.Fixed.{push, gust, levelLoad}
 use Rattle.figures.proofs.Facts.{TierFacts}
 use Rattle.figures.proofs.WholeNumbers.{nat-times, nat-plus, times-q, quotient-is}
 
@@ -62,14 +63,14 @@ transverse-times factor t =
     law = ∀₄ ℚR _ λ ρ. simp qq λ e. by-eqs (mul-eq (v 2) e) tt
 
 -- no tier, no load
-no-transverse : (factor : Frac) → mk (transverse factor noTier) ≡ natℚ 0
+no-transverse : (factor : Frac) → mk (transverse factor blankTier) ≡ natℚ 0
 unfolding push
-no-transverse factor = law (mk (transverse factor noTier)) (mk factor) (transverse-times factor noTier)
+no-transverse factor = law (mk (transverse factor blankTier)) (mk factor) (transverse-times factor blankTier)
   where
     law : (x f : ℚ) → natℚ 200000 *ℚ x ≡ natℚ 0 *ℚ f → x ≡ natℚ 0
     law = ∀₂ ℚR _ λ ρ. simp qq λ e. both (part 199999 (times (kn 0) e) tt) (part 199999 (times (kp 1) e) tt)
 
-no-wind : mk (wind noTier) ≡ natℚ 0
+no-wind : mk (wind blankTier) ≡ natℚ 0
 unfolding wind int
 no-wind = refl
 
@@ -102,16 +103,16 @@ module _ (share factor : Frac) where
 
   -- Q of a tier less Q of the next
   load-between : (e : End) (ts : List Tier) (i : ℕ) →
-      mk (loadAt (chainTiers e share factor ts) i) ≡ between (getD ts i noTier) (getD ts (suc i) noTier)
+      mk (loadAt (chainTiers e share factor ts) i) ≡ between (getD ts i blankTier) (getD ts (suc i) blankTier)
   unfolding chainTiers between
-  load-between e [] i = mk-sub (nat 0) (nat 0) ∙ ap₂ _-ℚ_ (mk-int (pos 0)) (mk-int (pos 0)) ∙ law (mk share) (mk (transverse factor noTier)) (mk half) (mk (wind noTier)) (no-transverse factor) no-wind
+  load-between e [] i = mk-sub (nat 0) (nat 0) ∙ ap₂ _-ℚ_ (mk-int (pos 0)) (mk-int (pos 0)) ∙ law (mk share) (mk (transverse factor blankTier)) (mk half) (mk (wind blankTier)) (no-transverse factor) no-wind
     where
       law : (S F h P : ℚ) → F ≡ natℚ 0 → P ≡ natℚ 0 → natℚ 0 -ℚ natℚ 0 ≡ S *ℚ F +ℚ h *ℚ P +ℚ (F +ℚ P -ℚ (S *ℚ F +ℚ h *ℚ P))
       law = ∀₄ ℚR _ λ ρ. simp qq λ e f. by-eqs (mul-eq (kn 0) e ⊹ mul-eq (kn 0) f) tt
   load-between e (t ∷ []) zero =
       mk-sub (load share factor t []) (nat 0)
       ∙ ap₂ _-ℚ_ (load-mk t [] ∙ ap (λ z. own t +ℚ z) above-none) (mk-int (pos 0))
-      ∙ law (own t) (mk share) (mk (transverse factor noTier)) (mk half) (mk (wind noTier)) (no-transverse factor) no-wind
+      ∙ law (own t) (mk share) (mk (transverse factor blankTier)) (mk half) (mk (wind blankTier)) (no-transverse factor) no-wind
     where
       law : (o S F h P : ℚ) → F ≡ natℚ 0 → P ≡ natℚ 0 → o +ℚ natℚ 0 -ℚ natℚ 0 ≡ o +ℚ (F +ℚ P -ℚ (S *ℚ F +ℚ h *ℚ P))
       law = ∀₅ ℚR _ λ ρ. simp qq λ e f. by-eqs (mul-eq (v 1 ⊖ kp 1) e ⊹ mul-eq (v 3 ⊖ kp 1) f) tt
@@ -186,11 +187,11 @@ module _ (share factor : Frac) (s f : ℕ) (s20 : s ≤ 20) (share-is : nat 20 *
 
   -- rounded down
   pub load-rounded : (e : End) (ts : List Tier) (i : ℕ) →
-      Rounded (2 ^ 28) 1 (levelLoad s f (getD ts i noTier) (getD ts (suc i) noTier)) (loadAt (chainTiers e share factor ts) i)
+      Rounded (2 ^ 28) 1 (levelLoad s f (getD ts i blankTier) (getD ts (suc i) blankTier)) (loadAt (chainTiers e share factor ts) i)
   unfolding levelLoad
   load-rounded e ts i =
-      let t = getD ts i noTier in
-      let u = getD ts (suc i) noTier in
+      let t = getD ts i blankTier in
+      let u = getD ts (suc i) blankTier in
       let Q = loadAt (chainTiers e share factor ts) i in
       let exact = ap (λ z. natℚ 4000000000 *ℚ z) (load-between share factor e ts i) ∙ between-times t u in
       rounded-same (2 ^ 28) 1 (levelLoad s f t u) _ Q (quotient-is 4000000000 _ Q (omega arith) (exact ∙ ap natℚ (omega arith))) (rounded-quotient _ (2 ^ 28) 4000000000 (omega arith))

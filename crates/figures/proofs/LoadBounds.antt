@@ -7,6 +7,7 @@ use native.Mathlib.Omega.{arith}
 use lib.ListN.{getD, length, drop, length-drop}
 use lib.Seq.{getD-drop}
 use lib.IntN.{pos}
+use Rattle.sheet.specs.Layout.{blankTier}
 use Rattle.arith.specs.Fractions.{Frac, nat, _+q_, _*q_, _≈_, sumq}
 use Rattle.arith.proofs.Rings.{∀₁, ∀₂, ∀₃, ∀₇, ∀₉, by-cert, to, num, _⊞_, _⊠_}
 use Rattle.arith.proofs.Rationals.{ℚR, ℚ, mk, int, _+ℚ_, _*ℚ_, _≤ℚ_, nn-int, nn-plus}
@@ -19,7 +20,7 @@ use Rattle.sheet.specs.declared.Tier.{Tier}
 use Rattle.figures.specs.Loads.{half, transverse, upright, wind, load}
 use Rattle.figures.specs.Ends.{End, chainTiers}
 use Rattle.figures.specs.Posts.{levelHeight, turning, weightAbove}
-use Rattle.figures.specs.Fixed.{noTier, push, gust}
+use Rattle.figures.specs.Fixed.{push, gust}
 use Rattle.figures.proofs.Facts.{TierFacts}
 use Rattle.figures.proofs.WholeNumbers.{nat-plus, times-q}
 use Rattle.figures.proofs.LevelLoads.{above, above-none, above-mk, half-times, half-weight-times, wind-times, transverse-number, push-most, gust-most}
@@ -27,10 +28,10 @@ use Rattle.figures.proofs.Within.{UpTo, up-none, up-more, up-sum, up-qu
 
 -- the facts of each tier of a list, and of none
 abbrev pub EachTier : List Tier → Type 0
-EachTier ts = (i : ℕ) → TierFacts (getD ts i noTier)
+EachTier ts = (i : ℕ) → TierFacts (getD ts i blankTier)
 
 pub each-drop : (ts : List Tier) → EachTier ts → (i : ℕ) → EachTier (drop i ts)
-each-drop ts f i j = subst TierFacts (sym (getD-drop i ts j noTier)) (f (i + j))
+each-drop ts f i j = subst TierFacts (sym (getD-drop i ts j blankTier)) (f (i + j))
 
 -- the height of a level: no more than 2,896 mm a tier, and growing with the level
 pub height-most : (ts : List Tier) → EachTier ts → (i : ℕ) → levelHeight ts i ≤ 2896 * length ts

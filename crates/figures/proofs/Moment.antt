@@ -7,6 +7,7 @@ use native.Mathlib.Omega.{arith}
 use lib.Dec.{leb, ltb}
 use lib.ListN.{drop, length, length-drop}
 use lib.Seq.{getD-drop}
+use Rattle.sheet.specs.Lashings.{levelOf}
 use Rattle.arith.specs.Fractions.{Frac, nat, _+q_, _-q_, _*q_, _≈_, sumq}
 use Rattle.arith.proofs.Rationals.{ℚ, mk, int, _+ℚ_, _-ℚ_, _*ℚ_, negℚ}
 use Rattle.arith.proofs.FractionsInRationals.{sumℚ, mk-sum, mk-sub, mk-add, mk-mul, to-≈, of-≈}
@@ -17,7 +18,7 @@ use Rattle.springs.proofs.Lashes.{givenℚ}
 use Rattle.sheet.specs.declared.Tier.{Tier}
 use Rattle.sheet.specs.declared.Lash.{Lash}
 use Rattle.figures.specs.Loads.{half, transverse, wind, load}
-use Rattle.figures.specs.Lashes.{hookLevel, athwartPart}
+use Rattle.figures.specs.Lashes.{athwartPart}
 use Rattle.figures.specs.Ends.{End, chainTiers, chainLash, chainLashes}
 use Rattle.figures.specs.Posts.{levelHeight, turning, athwartOf, moment}
 use Rattle.figures.proofs.EndChain.{chain-length}
@@ -55,15 +56,15 @@ module _ (share factor : Frac) (Ds : List Frac) where
 
   turned : List Tier → ℕ → Lash → Frac
   turned ts i l =
-      given (ltb i (hookLevel l)) (athwartOf Ds l *q (nat (levelHeight ts (hookLevel l)) -q nat (levelHeight ts i)))
+      given (ltb i (levelOf l)) (athwartOf Ds l *q (nat (levelHeight ts (levelOf l)) -q nat (levelHeight ts i)))
 
   turned-q :
       (ts : List Tier) (i : ℕ) (l : Lash) →
       mk (turned ts i l)
-      ≡ givenℚ (ltb i (hookLevel l)) (athwart l *ℚ (natℚ (levelHeight ts (hookLevel l)) -ℚ natℚ (levelHeight ts i)))
+      ≡ givenℚ (ltb i (levelOf l)) (athwart l *ℚ (natℚ (levelHeight ts (levelOf l)) -ℚ natℚ (levelHeight ts i)))
   unfolding turned athwart int _+ℚ_ _*ℚ_ negℚ
   turned-q ts i l =
-      mk-given (ltb i (hookLevel l)) (athwartOf Ds l *q (nat (levelHeight ts (hookLevel l)) -q nat (levelHeight ts i)))
+      mk-given (ltb i (levelOf l)) (athwartOf Ds l *q (nat (levelHeight ts (levelOf l)) -q nat (levelHeight ts i)))
 
   moment-q :
       (ts : List Tier) (ls : List Lash) (i : ℕ) →
@@ -83,9 +84,9 @@ module _ (share factor : Frac) (Ds : List Frac) where
   unfolding held athwart sumq sumℚ chainLash int
   held-q [] i = refl
   held-q (l ∷ ls) i =
-      let D = shift Ds (hookLevel l) in
+      let D = shift Ds (levelOf l) in
       let k = athwartPart l (nat 1) in
-      let b = leb i (hookLevel l) in
+      let b = leb i (levelOf l) in
       mk-add (given b (k *q D)) (S.athwartFrom (chainLashes ls) Ds i)
       ∙ ap₂ _+ℚ_ (mk-given b (k *q D) ∙ ap (givenℚ b) (mk-mul k D ∙ sym (athwart-is l D))) (held-q ls i)
 

@@ -6,6 +6,7 @@ use native.Mathlib.Omega.{max-cases}
 use native.Mathlib.Nat.{le-max-left, le-max-right}
 use lib.Dec.{T}
 use lib.IntN.{ℤ, pos, negsuc, negℤ, _+ℤ_}
+use Rattle.arith.specs.Rounding.{roundedUp}
 use Rattle.arith.specs.Fractions.{Frac, nat, negq}
 use Rattle.arith.proofs.Rings.{∀₁, ∀₂, ∀₃, ∀₅, ∀₆, by-cert, to, _⊞_}
 use Rattle.arith.proofs.IntegerOmega.{nat-le}
@@ -16,7 +17,7 @@ use Rattle.arith.proofs.RationalOrder.{≤ℚ-trans}
 use Rattle.arith.proofs.FractionsInRationals.{mk-int, mk-neg}
 use Rattle.springs.proofs.Chain.{natℚ}
 use Rattle.figures.specs.Posts.{atMost, greater, lower}
-use Rattle.figures.specs.Fixed.{ceil, postPad, notBelow, postFigure}
+use Rattle.figures.specs.Fixed.{postPad, notBelow, postFigure}
 use Rattle.figures.specs.Reported.{Reported}
 use Rattle.figures.proofs.Errors.{turn-le, Off, off-neg}
 use Rattle.figures.proofs.Scales.{newtons, newtons-add, newtons-neg, newtons-zero, newtons-le}
@@ -133,8 +134,8 @@ figure-covers {X} {A} {B} x y g p q =
     let a = padded x p in
     let b = padded y q in
     let t : ℚ = newtons (pos (max a b)) in
-    let s : ℚ = natℚ (ceil (max a b) (2 ^ 18)) in
-    let s0 = nn-int (ceil (max a b) (2 ^ 18)) in
+    let s : ℚ = natℚ (roundedUp (max a b) (2 ^ 18)) in
+    let s0 = nn-int (roundedUp (max a b) (2 ^ 18)) in
     record {
       enough =
           g .least s s0

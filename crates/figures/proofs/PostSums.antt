@@ -8,6 +8,7 @@ use lib.Dec.{lit≤}
 use lib.ListN.{length, getD}
 use lib.IntN.{ℤ, pos, negℤ, _+ℤ_, _-ℤ_, _*ℤ_}
 use lib.Signed.{quotZ}
+use Rattle.sheet.specs.Layout.{blankTier}
 use Rattle.arith.specs.Fractions.{Frac, nat, _*q_}
 use Rattle.arith.proofs.Rings.{∀₂, ∀₆, by-ring, by-cert, to, _⊞_, _⊠_}
 use Rattle.arith.proofs.Rationals.{ℚR, ℚ, mk, int, _+ℚ_, _-ℚ_, _*ℚ_, _/ℚ_, recipℚ, negℚ, _≤ℚ_, recip-nn, int-plus, nn-int, nn-times}
@@ -18,7 +19,7 @@ use Rattle.arith.proofs.FractionsInRationals.{mk-add, mk-mul, mk-int}
 use Rattle.springs.proofs.Chain.{natℚ}
 use Rattle.sheet.specs.declared.Tier.{Tier}
 use Rattle.figures.specs.Posts.{leeSum, windwardSum}
-use Rattle.figures.specs.Fixed.{noTier, rackingPart, momentPart, leeFound, windwardFound}
+use Rattle.figures.specs.Fixed.{rackingPart, momentPart, leeFound, windwardFound}
 use Rattle.figures.proofs.Errors.{Off, off-neg, off-add, off-more, off-times, off-share}
 use Rattle.figures.proofs.Scales.{newtons, newtons-add, newtons-neg, newtons-scale, nothing-off, quot-off}
 use Rattle.figures.proofs.Pads.{roundedRackingError, tierError, verticalsError, sumError, postError, post-room}
@@ -46,7 +47,7 @@ tier-off h low r R o =
 module _ (K : ℕ) (d : List ℕ) (R : ℕ → Frac) where
   pub moment-off :
       (ts : List Tier) (i : ℕ) →
-      ((j : ℕ) → j < length ts → getD ts j noTier .height ≤ 2896) →
+      ((j : ℕ) → j < length ts → getD ts j blankTier .height ≤ 2896) →
       ((j k : ℕ) → i + j ≡ k → j < length ts → Off roundedRackingError (newtons (rackingPart K d k)) (mk (R k))) →
       Off (natℚ (length ts) *ℚ tierError) (newtons (momentPart K d ts i)) (mk (rackingMoment R ts i))
   unfolding momentPart rackingMoment

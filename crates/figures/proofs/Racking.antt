@@ -7,6 +7,7 @@ use lib.Dec.{lit≤, lt→ltb}
 use lib.IntN.{ℤ, pos, negsuc, negℤ, _-ℤ_}
 use lib.ListN.{getD}
 use lib.Signed.{_<ℤ_}
+use Rattle.arith.specs.Rounding.{roundedUp}
 use Rattle.arith.specs.Fractions.{Frac, nat, negq}
 use Rattle.arith.proofs.Polynomials.{v, ⊖_}
 use Rattle.arith.proofs.Rings.{∀₅, by-eqs, to, mul-eq, contra, _⊞_, _⊹_}
@@ -20,7 +21,7 @@ use Rattle.arith.proofs.RationalRounding.{ceil-up}
 use Rattle.arith.proofs.FractionsInRationals.{mk-int, mk-neg}
 use Rattle.springs.specs.Promise.{found}
 use Rattle.springs.proofs.Chain.{natℚ}
-use Rattle.figures.specs.Fixed.{ceil, rackingPart, rackingPad, rackingFigure}
+use Rattle.figures.specs.Fixed.{rackingPart, rackingPad, rackingFigure}
 use Rattle.figures.specs.Reported.{ReportedRacking}
 use Rattle.figures.proofs.Errors.{turn-le, Off, off-abs, off-neg, off-more, off-trans}
 use Rattle.figures.proofs.Scales.{found-times, newtons, newtons-nn, newtons-neg, quot-off}
@@ -64,7 +65,7 @@ module _ (K : ℕ) (d : List ℕ) (i : ℕ) where
 
 -- the figure's size, which is never 0
 padded : ℕ → ℕ
-padded n = ceil (n + rackingPad) (2 ^ 18)
+padded n = roundedUp (n + rackingPad) (2 ^ 18)
 
 padded-above : (n : ℕ) → 0 < padded n
 unfolding padded

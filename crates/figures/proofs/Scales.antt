@@ -8,6 +8,7 @@ use lib.Dec.{lit≤}
 use lib.IntN.{ℤ, pos, negsuc, negℤ, _+ℤ_, _*ℤ_}
 use lib.ListN.{getD}
 use lib.Signed.{quotZ}
+use Rattle.arith.specs.Rounding.{roundedUp}
 use Rattle.arith.specs.Fractions.{nat}
 use Rattle.arith.proofs.Rings.{∀₂, ∀₃, ∀₄, ∀₅, by-ring, by-cert, to, _⊞_, _⊠_}
 use Rattle.arith.proofs.Integers.{_≼_}
@@ -19,7 +20,6 @@ use Rattle.arith.proofs.RationalRounding.{div-down, down-le, down-lt, ceil-up, 
 use Rattle.arith.proofs.FractionsInRationals.{mk-int}
 use Rattle.springs.specs.Promise.{found}
 use Rattle.springs.proofs.Chain.{natℚ}
-use Rattle.figures.specs.Fixed.{ceil}
 use Rattle.figures.proofs.Errors.{Off, off-neg, off-zero}
 
 pub found-times : (d : List ℕ) (i : ℕ) → natℚ (2 ^ 28) *ℚ mk (found d i) ≡ natℚ (getD d i 0)
@@ -141,19 +141,19 @@ module _ (N y : ℕ) (y0 : 0 < y) where
         regroup : (x N h r : ℚ) → x *ℚ (N *ℚ h) *ℚ r ≡ x *ℚ h *ℚ (N *ℚ r)
         regroup = ∀₄ ℚR _ λ ρ. simp qq (by-ring tt)
 
-    pub share-up : newtons (pos x) *ℚ (natℚ N /ℚ natℚ y) ≤ℚ newtons (pos (ceil (x * N) y))
+    pub share-up : newtons (pos x) *ℚ (natℚ N /ℚ natℚ y) ≤ℚ newtons (pos (roundedUp (x * N) y))
     unfolding per
     share-up =
-        go (natℚ x) (natℚ N) (recipℚ (natℚ y)) (natℚ (ceil (x * N) y)) per per-nn
+        go (natℚ x) (natℚ N) (recipℚ (natℚ y)) (natℚ (roundedUp (x * N) y)) per per-nn
         (rw (int-times (pos x) (pos N)) at (up-le (above-0 y y0) (ceil-up (x * N) y y0)))
       where
         go : (x N r m h : ℚ) → natℚ 0 ≤ℚ h → x *ℚ N *ℚ r ≤ℚ m → x *ℚ h *ℚ (N *ℚ r) ≤ℚ m *ℚ h
         go = ∀₅ ℚR _ λ ρ. simp qq λ h0 l. by-cert (to h0 ⊠ to l) tt
 
-    pub share-up-close : newtons (pos (ceil (x * N) y)) ≤ℚ newtons (pos x) *ℚ (natℚ N /ℚ natℚ y) +ℚ newtons (pos 1)
+    pub share-up-close : newtons (pos (roundedUp (x * N) y)) ≤ℚ newtons (pos x) *ℚ (natℚ N /ℚ natℚ y) +ℚ newtons (pos 1)
     unfolding per
     share-up-close =
-        go (natℚ x) (natℚ N) (recipℚ (natℚ y)) (natℚ (ceil (x * N) y)) per per-nn
+        go (natℚ x) (natℚ N) (recipℚ (natℚ y)) (natℚ (roundedUp (x * N) y)) per per-nn
         (rw (int-times (pos x) (pos N)) at (<→≤ (up-lt (above-0 y y0) (ceil-up (x * N) y y0))))
       where
         go : (x N r m h : ℚ) → natℚ 0 ≤ℚ h → m ≤ℚ x *ℚ N *ℚ r +ℚ natℚ 1 → m *ℚ h ≤ℚ x *ℚ h *ℚ (N *ℚ r) +ℚ natℚ 1 *ℚ h

@@ -1,6 +1,6 @@
 -- A sheet within document 01's codes and limits, as every taken one is, has the facts that the force proofs use.
-use mathlib.Core.Path.{_≡_, refl, sym, ap, ap₂, _∙_}
-use mathlib.Core.Bool.{Bool, true, false, cond}
+use mathlib.Core.Path.{_≡_, refl, ap}
+use mathlib.Core.Bool.{Bool, true, false}
 use mathlib.Core.List.{List, [], _∷_}
 use mathlib.Core.Logic.{_⊎_, inl, inr}
 use Prim.Native.Nat.{ℕ, zero, suc, _+_, _≤_, _<_}
@@ -13,38 +13,13 @@ use borrow.Author.Tests.{eqb-true, eqb-false, eq-eqb, ne-eqb}
 use Rattle.sheet.specs.declared.Tier.{Tier}
 use Rattle.sheet.specs.declared.Lash.{Lash}
 use Rattle.sheet.specs.declared.Sheet.{Sheet}
-use Rattle.sheet.specs.Layout.{blankTier}
+use Rattle.sheet.specs.Layout.{blankTier, blankLash}
 use Rattle.sheet.specs.Lashings.{levelOf, atLevel}
 use Rattle.sheet.specs.Fits.{tierAt, lashAt, EndFits, Fits}
 use Rattle.sheet.proofs.Limits.{TierLimits, tier-limits, LashLimits, lash-limits, LashPlaced, lash-placed, code, level-top, level-bottom}
 use Rattle.sheet.proofs.Levels.{four-a-level}
-use Rattle.figures.specs.Lashes.{hookLevel}
 use Rattle.figures.specs.Ends.{End, door, closed, tiersOf}
-use Rattle.figures.specs.Reported.{noLash}
-use Rattle.figures.specs.Fixed.{noTier}
-use Rattle.figures.proofs.Facts.{TierFacts, LashFacts, EndFacts, Facts, countAt}
-
--- the level of a hook, counted by the sheet and by the forces
-level-is : (l : Lash) → l .hook ≤ 1 → levelOf l ≡ hookLevel l
-unfolding hookLevel
-level-is l h = go (code (l .hook) h)
-  where
-    go : (l .hook ≡ 0) ⊎ (l .hook ≡ 1) → levelOf l ≡ hookLevel l
-    go (inl e) = level-top l e ∙ omega arith
-    go (inr e) = level-bottom l e ∙ omega arith
-
-eqb-swap : (a b : ℕ) → eqb a b ≡ eqb b a
-eqb-swap a b = go (eqb a b) refl
-  where
-    go : (c : Bool) → eqb a b ≡ c → c ≡ eqb b a
-    go true e = sym (eq-eqb b a (sym (eqb-true a b e)))
-    go false e = sym (ne-eqb b a (λ q. eqb-false a b e (sym q)))
-
-count-is : (ls : List Lash) → ((j : ℕ) → j < length ls → getD ls j noLash .hook ≤ 1) → (i : ℕ) → countAt ls i ≡ atLevel i ls
-unfolding countAt atLevel
-count-is [] h i = refl
-count-is (l ∷ ls) h i =
-    ap₂ (λ (c d : ℕ). c + d) (ap (λ b. cond b 1 0) (eqb-swap i (hookLevel l) ∙ ap (λ (k : ℕ). eqb k i) (sym (level-is l (h 0 (omega arith)))))) (count-is ls (λ j q. h (suc j) (omega arith)) i)
+use Rattle.figures.proofs.Facts.{TierFacts, LashFacts, EndFacts, Facts}
 
 tier-facts : (t : Tier) → TierLimits t → TierFacts t
 tier-facts t l = record { height = l .heightMost; mass = l .massMost; at = l .at; avmax = l .avmax; avmin = l .avmin }
@@ -57,20 +32,19 @@ module _ {n : ℕ} {lashes : List Lash} {count : ℕ} (f : EndFits n lashes coun
   listed : (j : ℕ) → j < length ls → j < count
   listed j h = omega (arith, h, length-take count lashes)
 
-  lash-at : (j : ℕ) → j < length ls → getD ls j noLash ≡ lashAt lashes j
-  lash-at j h = getD-take count lashes j noLash (listed j h)
+  lash-at : (j : ℕ) → j < length ls → getD ls j blankLash ≡ lashAt lashes j
+  lash-at j h = getD-take count lashes j blankLash (listed j h)
 
-  limits : (j : ℕ) → j < length ls → LashLimits (getD ls j noLash)
+  limits : (j : ℕ) → j < length ls → LashLimits (getD ls j blankLash)
   limits j h = rw (lash-at j h) (lash-limits (lashAt lashes j) (f .fits j (listed j h)))
 
-  placed : (j : ℕ) → j < length ls → LashPlaced n (getD ls j noLash)
+  placed : (j : ℕ) → j < length ls → LashPlaced n (getD ls j blankLash)
   placed j h =
-      lash-placed n (getD ls j noLash) (rw (lash-at j h) (f .placed j (listed j h))) (limits j h .hook)
+      lash-placed n (getD ls j blankLash) (rw (lash-at j h) (f .placed j (listed j h))) (limits j h .hook)
 
-  pub lash-facts : (j : ℕ) → j < length ls → LashFacts n (getD ls j noLash)
+  pub lash-facts : (j : ℕ) → j < length ls → LashFacts n (getD ls j blankLash)
   lash-facts j h =
       let l = limits j h in
-      let level = level-is (getD ls j noLash) (l .hook) in
       record {
         lx = l .lx;
         ly = l .lyLeast;
@@ -81,15 +55,15 @@ module _ {n : ℕ} {lashes : List Lash} {count : ℕ} (f : EndFits n lashes coun
         area-most = l .areaMost;
         modulus = l .modulusLeast;
         modulus-most = l .modulusMost;
-        raised = rw level at (placed j h .levelLeast);
-        inside = rw level at (placed j h .levelMost);
+        raised = placed j h .levelLeast;
+        inside = placed j h .levelMost;
       }
 
   pub lashes-few : length ls ≤ 8
   lashes-few = omega (arith, f .few, length-take count lashes)
 
-  pub few-a-level : (i : ℕ) → countAt ls i ≤ 4
-  few-a-level i = rw (count-is ls (λ j h. limits j h .hook) i) (four-a-level f i)
+  pub few-a-level : (i : ℕ) → atLevel i ls ≤ 4
+  few-a-level i = four-a-level f i
 
 module _ {t : Sheet} (f : Fits t) where
   tier-limits-at : (k : ℕ) → k < t .ntiers → TierLimits (tierAt (t .tiers) k)
@@ -120,7 +94,7 @@ module _ {t : Sheet} (f : Fits t) where
         some = f .some;
         few = f .few;
         tiers = stacked;
-        each = λ i h. rw (getD-take (t .ntiers) (t .tiers) i noTier) (tier-facts (tierAt (t .tiers) i) (tier-limits-at i h));
+        each = λ i h. rw (getD-take (t .ntiers) (t .tiers) i blankTier) (tier-facts (tierAt (t .tiers) i) (tier-limits-at i h));
         route = f .route;
         ends = end-facts;
       }

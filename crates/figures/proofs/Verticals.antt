@@ -17,8 +17,8 @@ use Rattle.springs.proofs.Chain.{natℚ}
 use Rattle.sheet.specs.declared.Lash.{Lash}
 use Rattle.sheet.specs.declared.Lashing.{Lashing}
 use Rattle.sheet.specs.declared.Lashing.the-variants.{Cross, Side}
-use Rattle.sheet.specs.Lashings.{lashingOf}
-use Rattle.figures.specs.Lashes.{hookLevel, verticalPart}
+use Rattle.sheet.specs.Lashings.{lashingOf, levelOf}
+use Rattle.figures.specs.Lashes.{verticalPart}
 use Rattle.figures.specs.Posts.{onLee, onWindward, verticals}
 use Rattle.figures.specs.Fixed.{upward, upwards, leePart, windwardPart}
 use Rattle.figures.proofs.Facts.{LashFacts}
@@ -95,13 +95,13 @@ module _
   added l = cond (counts l) (part (lashingOf l) (upward d l)) 0
 
   abbrev addedq : Lash → Frac
-  addedq l = given (counts l) (force (lashingOf l) (verticalPart l (shift Ds (hookLevel l))))
+  addedq l = given (counts l) (force (lashingOf l) (verticalPart l (shift Ds (levelOf l))))
 
   added-off : {n : ℕ} (l : Lash) → LashFacts n l → Off (verticalError (shiftErrorAt d Ds l)) (newtons (pos (added l))) (mk (addedq l))
   added-off l f =
-      let D = shift Ds (hookLevel l) in
+      let D = shift Ds (levelOf l) in
       counted-off (counts l) (part (lashingOf l) (upward d l)) (force (lashingOf l) (verticalPart l D))
-      (post .takes (verticalError (shiftErrorAt d Ds l)) (upward d l) (verticalPart l D) (lashingOf l) (upward-off d l D f (far (hookLevel l))))
+      (post .takes (verticalError (shiftErrorAt d Ds l)) (upward d l) (verticalPart l D) (lashingOf l) (upward-off d l D f (far (levelOf l))))
 
   all-off :
       {n : ℕ} (ls : List Lash) →

@@ -3,6 +3,7 @@ use mathlib.Core.Bool.{Bool, true, false}
 use mathlib.Core.List.{List, [], _∷_, map}
 use Prim.Native.Nat.{ℕ, zero, suc}
 use lib.ListN.{take}
+use Rattle.sheet.specs.Lashings.{levelOf}
 use Rattle.arith.specs.Fractions.{Frac, nat, _/q_}
 use Rattle.springs.specs.Equations as S
 use Rattle.sheet.specs.declared.Tier.{Tier}
@@ -10,7 +11,7 @@ use Rattle.sheet.specs.declared.Lash.{Lash}
 use Rattle.sheet.specs.declared.Sheet.{Sheet}
 use Rattle.sheet.specs.Routes.{routePercent}
 use Rattle.figures.specs.Loads.{load, classShare}
-use Rattle.figures.specs.Lashes.{hookLevel, athwartPart}
+use Rattle.figures.specs.Lashes.{athwartPart}
 
 pub data End : Type 0 where
   door : End
@@ -36,7 +37,7 @@ chainTiers e share factor (t ∷ above) = record { K = nat (springOf e); Q = loa
 
 -- each lash's level, and its athwart part at a shift of 1 mm
 unfoldable pub chainLash : Lash → S.Lash
-chainLash l = record { level = hookLevel l; stiffness = athwartPart l (nat 1) }
+chainLash l = record { level = levelOf l; stiffness = athwartPart l (nat 1) }
 
 abbrev pub chainLashes : List Lash → List S.Lash
 chainLashes ls = map chainLash ls

@@ -5,13 +5,12 @@ use mathlib.Core.List.{List, [], _∷_}
 use Prim.Native.Nat.{ℕ, zero, suc, _+_, _<_, _≤_}
 use lib.Dec.{eqb}
 use lib.ListN.{getD, length}
+use Rattle.sheet.specs.Lashings.{levelOf, atLevel}
+use Rattle.sheet.specs.Layout.{blankLash, blankTier}
 use Rattle.sheet.specs.declared.Tier.{Tier}
 use Rattle.sheet.specs.declared.Lash.{Lash}
 use Rattle.sheet.specs.declared.Sheet.{Sheet}
-use Rattle.figures.specs.Lashes.{hookLevel}
 use Rattle.figures.specs.Ends.{End, tiersOf, lashesOf}
-use Rattle.figures.specs.Reported.{noLash}
-use Rattle.figures.specs.Fixed.{noTier}
 
 pub record TierFacts (t : Tier) : Type 0 where
   pub height : t .height ≤ 2896
@@ -30,23 +29,18 @@ pub record LashFacts (n : ℕ) (l : Lash) : Type 0 where
   pub area-most : l .area ≤ 1000
   pub modulus : 10000 ≤ l .modulus
   pub modulus-most : l .modulus ≤ 200000
-  pub raised : 1 ≤ hookLevel l
-  pub inside : hookLevel l ≤ n
-
--- how many lashes are hooked at level i
-unfoldable pub countAt : List Lash → ℕ → ℕ
-countAt [] i = 0
-countAt (l ∷ ls) i = cond (eqb i (hookLevel l)) 1 0 + countAt ls i
+  pub raised : 1 ≤ levelOf l
+  pub inside : levelOf l ≤ n
 
 pub record EndFacts (e : End) (t : Sheet) : Type 0 where
   pub few : length (lashesOf e t) ≤ 8
-  pub each : (j : ℕ) → j < length (lashesOf e t) → LashFacts (t .ntiers) (getD (lashesOf e t) j noLash)
-  pub at-level : (i : ℕ) → countAt (lashesOf e t) i ≤ 4
+  pub each : (j : ℕ) → j < length (lashesOf e t) → LashFacts (t .ntiers) (getD (lashesOf e t) j blankLash)
+  pub at-level : (i : ℕ) → atLevel i (lashesOf e t) ≤ 4
 
 pub record Facts (t : Sheet) : Type 0 where
   pub some : 1 ≤ t .ntiers
   pub few : t .ntiers ≤ 10
   pub tiers : length (tiersOf t) ≡ t .ntiers
-  pub each : (i : ℕ) → i < t .ntiers → TierFacts (getD (tiersOf t) i noTier)
+  pub each : (i : ℕ) → i < t .ntiers → TierFacts (getD (tiersOf t) i blankTier)
   pub route : t .head .route ≤ 12
   pub ends : (e : End) → EndFacts e t

@@ -8,26 +8,20 @@ use lib.Dec.{eqb}
 use lib.ListN.{drop, getD, length}
 use lib.IntN.{ℤ, pos, negsuc, negℤ, _+ℤ_, _-ℤ_, _*ℤ_}
 use lib.Signed.{quotZ}
+use Rattle.sheet.specs.Layout.{blankTier, blankLash}
+use Rattle.arith.specs.Rounding.{roundedUp}
 use Rattle.sheet.specs.declared.Tier.{Tier}
 use Rattle.sheet.specs.declared.Lash.{Lash}
 use Rattle.sheet.specs.declared.Lashing.{Lashing}
 use Rattle.sheet.specs.declared.Lashing.the-variants.{Cross, Side}
 use Rattle.sheet.specs.declared.Sheet.{Sheet}
-use Rattle.sheet.specs.Lashings.{lashingOf}
+use Rattle.sheet.specs.Lashings.{lashingOf, levelOf}
 use Rattle.sheet.specs.Routes.{routePercent}
 use Rattle.figures.specs.declared.EndFigures.{EndFigures}
 use Rattle.figures.specs.Loads.{boxLength}
-use Rattle.figures.specs.Lashes.{hookLevel, lashLength}
+use Rattle.figures.specs.Lashes.{lashLength}
 use Rattle.figures.specs.Ends.{End, springOf, tiersOf, lashesOf}
 use Rattle.figures.specs.Posts.{inCompression, inTension}
-use Rattle.figures.specs.Reported.{noLash}
-
--- x / c rounded up
-abbrev pub ceil : ℕ → ℕ → ℕ
-ceil x c = (x + (c - 1)) / c
-
-abbrev pub noTier : Tier
-noTier = record { size = 0; wind = 0; height = 0; mass = 0; at = 0; avmax = 0; avmin = 0 }
 
 -- mass × A_T, and 27 × length × height where exposed
 unfoldable pub push : Tier → ℕ
@@ -55,21 +49,21 @@ stiffnessOf l = l .modulus * l .area * (l .ly * l .ly) * 2 ^ 22 / (lashLength l 
 
 unfoldable pub levelStiffness : List Lash → ℕ → ℕ
 levelStiffness [] i = 0
-levelStiffness (l ∷ ls) i = cond (eqb i (hookLevel l)) (stiffnessOf l) 0 + levelStiffness ls i
+levelStiffness (l ∷ ls) i = cond (eqb i (levelOf l)) (stiffnessOf l) 0 + levelStiffness ls i
 
 -- the solver's inputs, by a share of F in twentieths and a factor on A_T in thousandths; and by the class rule and the route
 pub record InputsBy (share factor : ℕ) (e : End) (t : Sheet) (k κ ω : List ℕ) : Type 0 where
   pub springs : (i : ℕ) → i < t .ntiers → getD k i 0 ≡ springOf e
   pub held : (i : ℕ) → i < t .ntiers → getD κ i 0 ≡ levelStiffness (lashesOf e t) (suc i)
   pub loaded :
-      (i : ℕ) → i < t .ntiers → getD ω i 0 ≡ levelLoad share factor (getD (tiersOf t) i noTier) (getD (tiersOf t) (suc i) noTier)
+      (i : ℕ) → i < t .ntiers → getD ω i 0 ≡ levelLoad share factor (getD (tiersOf t) i blankTier) (getD (tiersOf t) (suc i) blankTier)
 
 abbrev pub Inputs : End → Sheet → List ℕ → List ℕ → List ℕ → Type 0
 Inputs e t k κ ω = InputsBy 9 (10 * routePercent (t .head .route)) e t k κ ω
 
 -- the athwart part of a lash at the shifts d, and its vertical part
 unfoldable pub part : List ℕ → Lash → ℕ
-part d l = stiffnessOf l * getD d (hookLevel l) 0 / 2 ^ 32
+part d l = stiffnessOf l * getD d (levelOf l) 0 / 2 ^ 32
 
 unfoldable pub upward : List ℕ → Lash → ℕ
 upward d l = part d l * l .lz / l .ly
@@ -80,13 +74,13 @@ lashPad = 34336
 
 -- the figures of a lash: its padded part, in N upwards; times L / LY and LZ / LY
 unfoldable pub athwartFigure : List ℕ → Lash → ℕ
-athwartFigure d l = ceil (part d l + lashPad) (2 ^ 18)
+athwartFigure d l = roundedUp (part d l + lashPad) (2 ^ 18)
 
 unfoldable pub pullFigure : List ℕ → Lash → ℕ
-pullFigure d l = ceil (ceil ((part d l + lashPad) * lashLength l) (l .ly)) (2 ^ 18)
+pullFigure d l = roundedUp (roundedUp ((part d l + lashPad) * lashLength l) (l .ly)) (2 ^ 18)
 
 unfoldable pub verticalFigure : List ℕ → Lash → ℕ
-verticalFigure d l = ceil (ceil ((part d l + lashPad) * l .lz) (l .ly)) (2 ^ 18)
+verticalFigure d l = roundedUp (roundedUp ((part d l + lashPad) * l .lz) (l .ly)) (2 ^ 18)
 
 -- the racking of tier i, and its figure: padded by 0.26 N, in N upwards, with the sign kept
 unfoldable pub rackingPart : ℕ → List ℕ → ℕ → ℤ
@@ -96,8 +90,8 @@ abbrev pub rackingPad : ℕ
 rackingPad = 68158
 
 unfoldable pub rackingFigure : ℤ → ℤ
-rackingFigure (pos n) = pos (ceil (n + rackingPad) (2 ^ 18))
-rackingFigure (negsuc n) = negℤ (pos (ceil (suc n + rackingPad) (2 ^ 18)))
+rackingFigure (pos n) = pos (roundedUp (n + rackingPad) (2 ^ 18))
+rackingFigure (negsuc n) = negℤ (pos (roundedUp (suc n + rackingPad) (2 ^ 18)))
 
 -- the moment at a level: height × racking, summed over the tiers from number i + 1 on
 unfoldable pub momentPart : ℕ → List ℕ → List Tier → ℕ → ℤ
@@ -134,7 +128,7 @@ notBelow (negsuc n) = 0
 
 -- the figure of a post: the greater of two padded sums, not below 0, in N upwards
 unfoldable pub postFigure : ℤ → ℤ → ℕ
-postFigure x y = ceil (max (notBelow (x +ℤ pos postPad)) (notBelow (y +ℤ pos postPad))) (2 ^ 18)
+postFigure x y = roundedUp (max (notBelow (x +ℤ pos postPad)) (notBelow (y +ℤ pos postPad))) (2 ^ 18)
 
 module _ (K : ℕ) (ts : List Tier) (ls : List Lash) (d : List ℕ) (i : ℕ) where
   unfoldable pub compressionFigure : ℕ
@@ -159,8 +153,8 @@ pub record Computed (e : End) (t : Sheet) (d : List ℕ) (f : EndFigures) : Type
       getD (f .compression) i 0 ≡ compressionFigure (springOf e) (tiersOf t) (lashesOf e t) d i
   pub tension :
       (i : ℕ) → i < t .ntiers → getD (f .tension) i 0 ≡ tensionFigure (springOf e) (tiersOf t) (lashesOf e t) d i
-  pub pull : (j : ℕ) → j < length (lashesOf e t) → getD (f .pull) j 0 ≡ pullFigure d (getD (lashesOf e t) j noLash)
+  pub pull : (j : ℕ) → j < length (lashesOf e t) → getD (f .pull) j 0 ≡ pullFigure d (getD (lashesOf e t) j blankLash)
   pub athwart :
-      (j : ℕ) → j < length (lashesOf e t) → getD (f .athwart) j 0 ≡ athwartFigure d (getD (lashesOf e t) j noLash)
+      (j : ℕ) → j < length (lashesOf e t) → getD (f .athwart) j 0 ≡ athwartFigure d (getD (lashesOf e t) j blankLash)
   pub vertical :
-      (j : ℕ) → j < length (lashesOf e t) → getD (f .vertical) j 0 ≡ verticalFigure d (getD (lashesOf e t) j noLash)
+      (j : ℕ) → j < length (lashesOf e t) → getD (f .vertical) j 0 ≡ verticalFigure d (getD (lashesOf e t) j blankLash)

@@ -5,10 +5,6 @@ use lib.Dec.{leb, eqb}
 use Rattle.arith.specs.Fractions.{Frac, nat, _*q_, _/q_}
 use Rattle.sheet.specs.declared.Lash.{Lash}
 
--- a top hook of tier i and a bottom hook of tier i + 1 both lie at level i
-unfoldable pub hookLevel : Lash → ℕ
-hookLevel l = l .tier - l .hook
-
 -- the least k, from k on, with k² ≥ s, among `more` numbers
 unfoldable pub leastFrom : ℕ → ℕ → ℕ → ℕ
 leastFrom s k zero = k

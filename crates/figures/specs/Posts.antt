@@ -12,9 +12,9 @@ use Rattle.sheet.specs.declared.Tier.{Tier}
 use Rattle.sheet.specs.declared.Lash.{Lash}
 use Rattle.sheet.specs.declared.Lashing.{Lashing}
 use Rattle.sheet.specs.declared.Lashing.the-variants.{Cross, Side}
-use Rattle.sheet.specs.Lashings.{lashingOf}
+use Rattle.sheet.specs.Lashings.{lashingOf, levelOf}
 use Rattle.figures.specs.Loads.{half, transverse, wind, upright}
-use Rattle.figures.specs.Lashes.{hookLevel, athwartPart, verticalPart}
+use Rattle.figures.specs.Lashes.{athwartPart, verticalPart}
 
 -- the height of level i over the deck, mm
 unfoldable pub levelHeight : List Tier → ℕ → ℕ
@@ -32,13 +32,13 @@ turning share factor foot (t ∷ above) =
 
 -- the athwart part of a lash, by the shifts of the levels
 abbrev pub athwartOf : List Frac → Lash → Frac
-athwartOf Ds l = athwartPart l (shift Ds (hookLevel l))
+athwartOf Ds l = athwartPart l (shift Ds (levelOf l))
 
 -- M at level i: of all F and P of the tiers above, less athwart lash parts hooked above the level, each × its height over the level
 unfoldable pub moment : Frac → Frac → List Tier → List Lash → List Frac → ℕ → Frac
 moment share factor ts ls Ds i =
     turning share factor (nat 0) (drop i ts)
-    -q sumq (λ l. given (ltb i (hookLevel l)) (athwartOf Ds l *q (nat (levelHeight ts (hookLevel l)) -q nat (levelHeight ts i)))) ls
+    -q sumq (λ l. given (ltb i (levelOf l)) (athwartOf Ds l *q (nat (levelHeight ts (levelOf l)) -q nat (levelHeight ts i)))) ls
 
 -- V: F_V of the tiers above level i
 abbrev pub weightAbove : (Tier → ℕ) → List Tier → ℕ → Frac
@@ -46,10 +46,10 @@ weightAbove acceleration ts i = sumq (upright acceleration) (drop i ts)
 
 -- which lashes count at level i: in compression those at this level or above, in tension only those above it
 abbrev pub inCompression : ℕ → Lash → Bool
-inCompression i l = leb i (hookLevel l)
+inCompression i l = leb i (levelOf l)
 
 abbrev pub inTension : ℕ → Lash → Bool
-inTension i l = ltb i (hookLevel l)
+inTension i l = ltb i (levelOf l)
 
 -- a cross lash pulls on the lee post, a side lash on the windward post
 abbrev pub onLee : Lashing → Frac → Frac
@@ -63,7 +63,7 @@ onWindward (Side l) x = x
 -- the vertical parts, on one post, of the lashes that count
 abbrev pub verticals : (Lashing → Frac → Frac) → (Lash → Bool) → List Lash → List Frac → Frac
 verticals post counts ls Ds =
-    sumq (λ l. given (counts l) (post (lashingOf l) (verticalPart l (shift Ds (hookLevel l))))) ls
+    sumq (λ l. given (counts l) (post (lashingOf l) (verticalPart l (shift Ds (levelOf l))))) ls
 
 -- V/2 + M/2259 + vertical parts of cross lashes; V/2 − M/2259 + vertical parts of side lashes (post spacing, CR Table 2-2)
 abbrev pub postSpacing : ℕ

@@ -4,13 +4,15 @@ use Prim.Native.Nat.{ℕ, zero, suc, _+_, _<_, _≤_, _^_}
 use lib.ListN.{getD, length}
 use lib.IntN.{ℤ, pos, negsuc, natAbs}
 use lib.Signed.{_<ℤ_}
+use Rattle.sheet.specs.Lashings.{levelOf}
 use Rattle.arith.specs.Fractions.{Frac, nat, negq, _+q_, absq, _⊑_, _⊏_}
 use Rattle.springs.specs.Equations as S
 use Rattle.sheet.specs.declared.Lash.{Lash}
 use Rattle.sheet.specs.declared.Sheet.{Sheet}
+use Rattle.sheet.specs.Layout.{blankLash}
 use Rattle.figures.specs.declared.EndFigures.{EndFigures}
 use Rattle.figures.specs.Loads.{classShare}
-use Rattle.figures.specs.Lashes.{hookLevel, pull, athwartPart, verticalPart}
+use Rattle.figures.specs.Lashes.{pull, athwartPart, verticalPart}
 use Rattle.figures.specs.Ends.{End, tiersOf, lashesOf, chainTiers, routeFactor, Settled}
 use Rattle.figures.specs.Posts.{compression, tension}
 
@@ -25,13 +27,9 @@ pub record ReportedRacking (margin : ℕ) (exact : Frac) (shown : ℤ) : Type 0 
   pub leeward : nat margin ⊑ exact → pos 0 <ℤ shown
   pub windward : exact ⊑ negq (nat margin) → shown <ℤ pos 0
 
-abbrev pub noLash : Lash
-noLash =
-    record { tier = 0; hook = 0; kind = 0; material = 0; lx = 0; ly = 0; lz = 0; area = 0; modulus = 0; breaking = 0 }
-
 -- a force of the lash j of an end: one of pull, athwartPart and verticalPart at the shift of its hook's level
 abbrev pub forceOf : (Lash → Frac → Frac) → List Lash → List Frac → ℕ → Frac
-forceOf force ls Ds j = force (getD ls j noLash) (S.shift Ds (hookLevel (getD ls j noLash)))
+forceOf force ls Ds j = force (getD ls j blankLash) (S.shift Ds (levelOf (getD ls j blankLash)))
 
 -- every force of an end, at shifts Ds of its levels
 pub record EndReported (margin : ℕ) (e : End) (t : Sheet) (Ds : List Frac) (f : EndFigures) : Type 0 where

@@ -7,10 +7,11 @@ use lib.IntN.{ℤ, pos, _+ℤ_, _-ℤ_, _*ℤ_}
 use lib.ListN.{length, getD, set, take, drop, replicate}
 use lib.Seq.{drop-cons, drop-length}
 use lib.Signed.{quotZ}
+use Rattle.sheet.specs.Layout.{blankTier}
 use Rattle.arith.specs.Sizes.{Small}
 use Rattle.arith.proofs.Sizes.{small-weaken, small-add, small-pos}
 use Rattle.sheet.specs.declared.Tier.{Tier}
-use Rattle.figures.specs.Fixed.{noTier, rackingPart, rackingFigure}
+use Rattle.figures.specs.Fixed.{rackingPart, rackingFigure}
 use Rattle.forces.specs.Steps.{total, momentOf, compressed, tensed, Measured, compressionAt, tensionAt, Levelled}
 use Rattle.forces.proofs.Arrays.{Between, between-none, fill-below, fill-above, filled, peel, peeled-off}
 use Rattle.forces.proofs.LevelLaws.{turned, racking-small}
@@ -36,9 +37,9 @@ moment-peel :
     (k d : List ℕ) (ts : List Tier) (j : ℕ) →
     j < length ts →
     momentOf k d (drop j ts) j
-    ≡ pos (getD ts j noTier .height) *ℤ rackingPart (getD k j 0) d j +ℤ momentOf k d (drop (suc j) ts) (suc j)
+    ≡ pos (getD ts j blankTier .height) *ℤ rackingPart (getD k j 0) d j +ℤ momentOf k d (drop (suc j) ts) (suc j)
 unfolding momentOf
-moment-peel k d ts j h = rw (drop-cons ts j noTier h) refl
+moment-peel k d ts j h = rw (drop-cons ts j blankTier h) refl
 
 part-small : (k d : List ℕ) (j : ℕ) → getD k j 0 ≤ 15690 → ((i : ℕ) → getD d i 0 ≤ 2 ^ 40) → Small (2 ^ 45) (rackingPart (getD k j 0) d j)
 unfolding rackingPart
@@ -91,7 +92,7 @@ module _ {n : ℕ} {k : List ℕ} {ts : List Tier} {d most least lee windward : 
         {j : ℕ} {p : ℤ} {h : ℕ} {r moment′ : ℤ} {lees′ windwards′ compression tension : ℕ} →
         Descended n k ts d most least lee windward racking compressions tensions moment lees windwards (suc j) →
         p ≡ rackingPart (getD k j 0) d j →
-        h ≡ getD ts j noTier .height →
+        h ≡ getD ts j blankTier .height →
         r ≡ rackingFigure p →
         moment′ ≡ pos h *ℤ p +ℤ moment →
         lees′ ≡ lees + getD lee j 0 →
@@ -138,7 +139,7 @@ module _ {n : ℕ} {k : List ℕ} {ts : List Tier} {d most least lee windward : 
         0 < i →
         Descended n k ts d most least lee windward racking compressions tensions moment lees windwards i →
         p ≡ quotZ (pos (getD k (i - 1) 0 * getD d i 0) -ℤ pos (getD k (i - 1) 0 * getD d (i - 1) 0)) (pos 1024) →
-        h ≡ getD ts (i - 1) noTier .height →
+        h ≡ getD ts (i - 1) blankTier .height →
         r ≡ rackingFigure p →
         moment′ ≡ pos h *ℤ p +ℤ moment →
         lees′ ≡ lees + getD lee (i - 1) 0 →

@@ -9,18 +9,18 @@ use borrow.Author.Tests.{le-leb, lt-leb, eq-eqb, ne-eqb}
 use lib.Dec.{leb, eqb}
 use lib.IntN.{ℤ, pos, _+ℤ_, _*ℤ_}
 use lib.ListN.{length, getD, take, drop, replicate, length-drop, getD-replicate}
+use Rattle.sheet.specs.Layout.{blankLash}
 use Rattle.springs.specs.Promise.{Solvable, Promised}
 use Rattle.sheet.specs.declared.Tier.{Tier}
 use Rattle.sheet.specs.declared.Lash.{Lash}
 use Rattle.sheet.specs.declared.Lashing.{Lashing}
 use Rattle.sheet.specs.declared.Sheet.{Sheet}
-use Rattle.sheet.specs.Lashings.{lashingOf}
+use Rattle.sheet.specs.Lashings.{lashingOf, levelOf}
 use Rattle.sheet.specs.Routes.{routePercent}
 use Rattle.figures.specs.declared.EndFigures.{EndFigures}
 use Rattle.figures.specs.Facts.{LashFacts, Facts}
-use Rattle.figures.specs.Lashes.{hookLevel}
 use Rattle.figures.specs.Ends.{End, springOf, tiersOf, lashesOf}
-use Rattle.figures.specs.Reported.{noLash, EndFigured}
+use Rattle.figures.specs.Reported.{EndFigured}
 use Rattle.figures.specs.Fixed.{upward, upwards, leePart, windwardPart, rackingPart, rackingFigure, momentPart, compressionFigure, tensionFigure, Computed}
 use Rattle.forces.specs.Steps.{Filled, Loaded, Weighed, total, momentOf, Measured, Levelled, Held, Pulled, Borne, Workable, EndWorked, Worked}
 use Rattle.figures.proofs.Figured.{end-figured}
@@ -42,25 +42,25 @@ level-split i h x =
     ]
 
 module _ (v : Lash → ℕ) where
-  tally-split : (i : ℕ) (ls : List Lash) → tally (λ l. leb i (hookLevel l)) v ls ≡ tally (λ l. eqb i (hookLevel l)) v ls + tally (λ l. leb (suc i) (hookLevel l)) v ls
+  tally-split : (i : ℕ) (ls : List Lash) → tally (λ l. leb i (levelOf l)) v ls ≡ tally (λ l. eqb i (levelOf l)) v ls + tally (λ l. leb (suc i) (levelOf l)) v ls
   unfolding tally
   tally-split i [] = refl
-  tally-split i (l ∷ ls) = omega (arith, level-split i (hookLevel l) (v l), tally-split i ls)
+  tally-split i (l ∷ ls) = omega (arith, level-split i (levelOf l) (v l), tally-split i ls)
 
-  tally-over : (n : ℕ) (ls : List Lash) → ((j : ℕ) → j < length ls → hookLevel (getD ls j noLash) ≤ n) → tally (λ l. leb (suc n) (hookLevel l)) v ls ≡ 0
+  tally-over : (n : ℕ) (ls : List Lash) → ((j : ℕ) → j < length ls → levelOf (getD ls j blankLash) ≤ n) → tally (λ l. leb (suc n) (levelOf l)) v ls ≡ 0
   unfolding tally
   tally-over n [] h = refl
   tally-over n (l ∷ ls) h =
-      rw (lt-leb (suc n) (hookLevel l) (omega (arith, h 0 (omega arith)))) (omega (arith, tally-over n ls (λ j q. h (suc j) (omega arith))))
+      rw (lt-leb (suc n) (levelOf l) (omega (arith, h 0 (omega arith)))) (omega (arith, tally-over n ls (λ j q. h (suc j) (omega arith))))
 
 -- the sum over the levels from i on is the sum over the lashes at level i or above
 module _ (post : Lashing → ℕ → ℕ) (n : ℕ) (d : List ℕ) (ls : List Lash) (r : List ℕ) (room : suc n ≤ length r)
-    (under : (j : ℕ) → j < length ls → hookLevel (getD ls j noLash) ≤ n)
-    (each : (i : ℕ) → getD r i 0 ≡ upwards post (λ l. eqb i (hookLevel l)) d ls) where
+    (under : (j : ℕ) → j < length ls → levelOf (getD ls j blankLash) ≤ n)
+    (each : (i : ℕ) → getD r i 0 ≡ upwards post (λ l. eqb i (levelOf l)) d ls) where
   abbrev on : Lash → ℕ
   on l = post (lashingOf l) (upward d l)
 
-  from : (g i : ℕ) → i + g ≡ suc n → total (drop i (take (suc n) r)) ≡ tally (λ l. leb i (hookLevel l)) on ls
+  from : (g i : ℕ) → i + g ≡ suc n → total (drop i (take (suc n) r)) ≡ tally (λ l. leb i (levelOf l)) on ls
   from zero i e =
       let q : i ≡ suc n = omega arith in
       rw q (total-off r (suc n) room ∙ sym (tally-over on n ls under))
@@ -69,12 +69,12 @@ module _ (post : Lashing → ℕ → ℕ) (n : ℕ) (d : List ℕ) (ls : List La
         arith,
         total-peel r (suc n) i (omega arith) room,
         from g (suc i) (omega arith),
-        each i ∙ tally-upwards post (λ l. eqb i (hookLevel l)) d ls,
+        each i ∙ tally-upwards post (λ l. eqb i (levelOf l)) d ls,
         tally-split on i ls,
       )
 
-  pub sum-from : (i : ℕ) → i ≤ suc n → total (drop i (take (suc n) r)) ≡ upwards post (λ l. leb i (hookLevel l)) d ls
-  sum-from i h = from (suc n - i) i (omega arith) ∙ sym (tally-upwards post (λ l. leb i (hookLevel l)) d ls)
+  pub sum-from : (i : ℕ) → i ≤ suc n → total (drop i (take (suc n) r)) ≡ upwards post (λ l. leb i (levelOf l)) d ls
+  sum-from i h = from (suc n - i) i (omega arith) ∙ sym (tally-upwards post (λ l. leb i (levelOf l)) d ls)
 
 refilled : {A : Type 0} {blank : A} {n : ℕ} {P Q : ℕ → A} {r : List A} → ((i : ℕ) → i < n → P i ≡ Q i) → Filled blank n P r → Filled blank n Q r
 refilled e f = record { each = λ i h. f .each i h ∙ e i h; rest = f .rest }
@@ -97,7 +97,7 @@ facts-ten h f =
 
 module _ {n : ℕ} {k : List ℕ} {ts : List Tier} {m : ℕ} {ls : List Lash} {ω most least : List ℕ}
     (h : Workable n k ts m ls ω most least) (counted : length ls ≡ m) where
-  pub each-ten : (j : ℕ) → j < m → LashFacts 10 (getD ls j noLash)
+  pub each-ten : (j : ℕ) → j < m → LashFacts 10 (getD ls j blankLash)
   each-ten j q = facts-ten (h .few) (h .each j (omega arith))
 
   pub end-solvable : {κ : List ℕ} → Held ls κ → Solvable n k κ ω
@@ -165,13 +165,13 @@ module _ {n : ℕ} {k : List ℕ} {ts : List Tier} {m : ℕ} {ls : List Lash} {�
         vertical = rw counted (u .vertical-is);
       }
     where
-      under : (j : ℕ) → j < length ls → hookLevel (getD ls j noLash) ≤ n
+      under : (j : ℕ) → j < length ls → levelOf (getD ls j blankLash) ≤ n
       under j q = h .each j q .inside
 
-      lees : (i : ℕ) → i ≤ suc n → total (drop i (take (suc n) lee)) ≡ upwards leePart (λ l. leb i (hookLevel l)) d ls
+      lees : (i : ℕ) → i ≤ suc n → total (drop i (take (suc n) lee)) ≡ upwards leePart (λ l. leb i (levelOf l)) d ls
       lees = sum-from leePart n d ls lee (omega (arith, h .few, x .long)) under (x .each)
 
-      windwards : (i : ℕ) → i ≤ suc n → total (drop i (take (suc n) windward)) ≡ upwards windwardPart (λ l. leb i (hookLevel l)) d ls
+      windwards : (i : ℕ) → i ≤ suc n → total (drop i (take (suc n) windward)) ≡ upwards windwardPart (λ l. leb i (levelOf l)) d ls
       windwards = sum-from windwardPart n d ls windward (omega (arith, h .few, y .long)) under (y .each)
 
 -- the springs of an end, and that its figures may be computed

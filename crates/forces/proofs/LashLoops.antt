@@ -8,14 +8,15 @@ use borrow.Author.Tests.{eq-eqb, ne-eqb}
 use lib.Dec.{eqb}
 use lib.ListN.{length, getD, set, take, drop, replicate}
 use lib.Seq.{drop-cons, length-take-le}
+use Rattle.arith.specs.Rounding.{roundedUp}
+use Rattle.sheet.specs.Layout.{blankLash}
 use Rattle.sheet.specs.declared.Lash.{Lash}
 use Rattle.sheet.specs.declared.Lashing.{Lashing}
 use Rattle.sheet.specs.declared.Lashing.the-variants.{Cross, Side}
-use Rattle.sheet.specs.Lashings.{lashingOf}
+use Rattle.sheet.specs.Lashings.{lashingOf, levelOf}
 use Rattle.figures.specs.Facts.{LashFacts}
-use Rattle.figures.specs.Lashes.{hookLevel, lashLength}
-use Rattle.figures.specs.Reported.{noLash}
-use Rattle.figures.specs.Fixed.{ceil, lashPad, stiffnessOf, levelStiffness, part, upward, upwards, pullFigure, athwartFigure, verticalFigure, leePart, windwardPart}
+use Rattle.figures.specs.Lashes.{lashLength}
+use Rattle.figures.specs.Fixed.{lashPad, stiffnessOf, levelStiffness, part, upward, upwards, pullFigure, athwartFigure, verticalFigure, leePart, windwardPart}
 use Rattle.forces.specs.Steps.{Geared, Held, Pulled, Borne}
 use Rattle.forces.proofs.Arrays.{Between, between-none, fill-above, filled}
 use Rattle.figures.proofs.LashStiffness.{stiffness-most}
@@ -26,34 +27,34 @@ use Rattle.forces.proofs.Tallies.{tally, tally-stiffness, tally-upwards
 pub record Listed (m : ℕ) (ls : List Lash) : Type 0 where
   pub counted : length ls ≡ m
   pub few : m ≤ 8
-  pub each : (j : ℕ) → j < m → LashFacts 10 (getD ls j noLash)
+  pub each : (j : ℕ) → j < m → LashFacts 10 (getD ls j blankLash)
 
-pub listed : {m : ℕ} (lashes : List Lash) → length lashes ≡ 8 → (m ≤ 8) × ((j : ℕ) → j < m → LashFacts 10 (getD (take m lashes) j noLash)) → Listed m (take m lashes)
+pub listed : {m : ℕ} (lashes : List Lash) → length lashes ≡ 8 → (m ≤ 8) × ((j : ℕ) → j < m → LashFacts 10 (getD (take m lashes) j blankLash)) → Listed m (take m lashes)
 listed {m} lashes e p = record { counted = length-take-le m lashes (omega (arith, p .0)); few = p .0; each = p .1 }
 
 -- a lash is hooked at level suc i; at level i
 abbrev over : ℕ → Lash → Bool
-over i l = eqb (suc i) (hookLevel l)
+over i l = eqb (suc i) (levelOf l)
 
 abbrev at-level : ℕ → Lash → Bool
-at-level i l = eqb i (hookLevel l)
+at-level i l = eqb i (levelOf l)
 
-only-over : {l : Lash} {at : ℕ} → suc at ≡ hookLevel l → Only over at l
+only-over : {l : Lash} {at : ℕ} → suc at ≡ levelOf l → Only over at l
 only-over {l} {at} e =
     record {
-      here = eq-eqb (suc at) (hookLevel l) e;
-      others = λ i ne. ne-eqb (suc i) (hookLevel l) (λ q. ne (omega arith));
+      here = eq-eqb (suc at) (levelOf l) e;
+      others = λ i ne. ne-eqb (suc i) (levelOf l) (λ q. ne (omega arith));
     }
 
-only-at : {l : Lash} {at : ℕ} → at ≡ hookLevel l → Only at-level at l
+only-at : {l : Lash} {at : ℕ} → at ≡ levelOf l → Only at-level at l
 only-at {l} {at} e =
-    record { here = eq-eqb at (hookLevel l) e; others = λ i ne. ne-eqb i (hookLevel l) (λ q. ne (omega arith)) }
+    record { here = eq-eqb at (levelOf l) e; others = λ i ne. ne-eqb i (levelOf l) (λ q. ne (omega arith)) }
 
 -- the first loop
 pub record Hung (m : ℕ) (ls : List Lash) (lengths stiffnesses levels : List ℕ) (j : ℕ) : Type 0 where
   pub within : j ≤ m
-  pub long : Between 0 (λ k x. x ≡ lashLength (getD ls k noLash)) 8 0 j lengths
-  pub stiff : Between 0 (λ k x. x ≡ stiffnessOf (getD ls k noLash)) 8 0 j stiffnesses
+  pub long : Between 0 (λ k x. x ≡ lashLength (getD ls k blankLash)) 8 0 j lengths
+  pub stiff : Between 0 (λ k x. x ≡ stiffnessOf (getD ls k blankLash)) 8 0 j stiffnesses
   pub held : Tallied over stiffnessOf ls 10 j levels
 
 pub hung-none : {m : ℕ} {ls : List Lash} → Hung m ls (replicate 8 0) (replicate 8 0) (replicate 10 0) 0
@@ -66,14 +67,14 @@ hung-none =
     }
 
 module _ {m : ℕ} {ls : List Lash} (g : Listed m ls) where
-  first : {j : ℕ} {l : Lash} → j < m → getD ls j noLash ≡ l → drop j ls ≡ l ∷ drop (suc j) ls
-  first {j} h e = rw e at (drop-cons ls j noLash (omega (arith, g .counted)))
+  first : {j : ℕ} {l : Lash} → j < m → getD ls j blankLash ≡ l → drop j ls ≡ l ∷ drop (suc j) ls
+  first {j} h e = rw e at (drop-cons ls j blankLash (omega (arith, g .counted)))
 
-  each-stiff : (k : ℕ) → k < length ls → stiffnessOf (getD ls k noLash) ≤ 155000 * 2 ^ 22
-  each-stiff k q = stiffness-most (getD ls k noLash) (g .each k (omega (arith, g .counted)))
+  each-stiff : (k : ℕ) → k < length ls → stiffnessOf (getD ls k blankLash) ≤ 155000 * 2 ^ 22
+  each-stiff k q = stiffness-most (getD ls k blankLash) (g .each k (omega (arith, g .counted)))
 
   module _ {lengths stiffnesses levels : List ℕ} {j : ℕ} (s : Hung m ls lengths stiffnesses levels j) (h : j < m)
-      {l : Lash} (own : getD ls j noLash ≡ l) {stiff at : ℕ} (es : stiff ≡ stiffnessOf l) (ea : suc at ≡ hookLevel l) where
+      {l : Lash} (own : getD ls j blankLash ≡ l) {stiff at : ℕ} (es : stiff ≡ stiffnessOf l) (ea : suc at ≡ levelOf l) where
     pub held-fits : getD levels at 0 + stiff < 2 ^ 64
     held-fits =
         omega (
@@ -118,9 +119,9 @@ on post d l = post (lashingOf l) (upward d l)
 -- the second loop
 pub record Strained (m : ℕ) (ls : List Lash) (d pull athwart vertical lee windward : List ℕ) (j : ℕ) : Type 0 where
   pub within : j ≤ m
-  pub pulls : Between 0 (λ k x. x ≡ pullFigure d (getD ls k noLash)) 8 0 j pull
-  pub athwarts : Between 0 (λ k x. x ≡ athwartFigure d (getD ls k noLash)) 8 0 j athwart
-  pub verticals : Between 0 (λ k x. x ≡ verticalFigure d (getD ls k noLash)) 8 0 j vertical
+  pub pulls : Between 0 (λ k x. x ≡ pullFigure d (getD ls k blankLash)) 8 0 j pull
+  pub athwarts : Between 0 (λ k x. x ≡ athwartFigure d (getD ls k blankLash)) 8 0 j athwart
+  pub verticals : Between 0 (λ k x. x ≡ verticalFigure d (getD ls k blankLash)) 8 0 j vertical
   pub lees : Tallied at-level (on leePart d) ls 11 j lee
   pub windwards : Tallied at-level (on windwardPart d) ls 11 j windward
 
@@ -135,11 +136,11 @@ strained-none =
       windwards = tallied-none 11;
     }
 
-upward-small : (d : List ℕ) (l : Lash) → getD d (hookLevel l) 0 ≤ 2 ^ 40 → LashFacts 10 l → upward d l ≤ 2 ^ 54
+upward-small : (d : List ℕ) (l : Lash) → getD d (levelOf l) 0 ≤ 2 ^ 40 → LashFacts 10 l → upward d l ≤ 2 ^ 54
 unfolding upward part
 upward-small d l h f = upward-le (part-le (stiffness-most l f) h) (f .ly) (f .lz-most)
 
-is-upward : (d : List ℕ) (l : Lash) {at up : ℕ} → at ≡ hookLevel l → up ≡ stiffnessOf l * getD d at 0 / 2 ^ 32 * l .lz / l .ly → up ≡ upward d l
+is-upward : (d : List ℕ) (l : Lash) {at up : ℕ} → at ≡ levelOf l → up ≡ stiffnessOf l * getD d at 0 / 2 ^ 32 * l .lz / l .ly → up ≡ upward d l
 unfolding upward part
 is-upward d l ea eu = eu ∙ ap (λ (z : ℕ). stiffnessOf l * getD d z 0 / 2 ^ 32 * l .lz / l .ly) ea
 
@@ -155,14 +156,14 @@ post-le :
 post-le {ls = ls} d g small post kept i =
     omega (arith, tally-le (2 ^ 54) (at-level i) (on post d) ls each, g .counted, g .few)
   where
-    each : (k : ℕ) → k < length ls → on post d (getD ls k noLash) ≤ 2 ^ 54
+    each : (k : ℕ) → k < length ls → on post d (getD ls k blankLash) ≤ 2 ^ 54
     each k q =
-        let l = getD ls k noLash in
-        omega (arith, kept (lashingOf l) (upward d l), upward-small d l (small (hookLevel l)) (g .each k (omega (arith, g .counted))))
+        let l = getD ls k blankLash in
+        omega (arith, kept (lashingOf l) (upward d l), upward-small d l (small (levelOf l)) (g .each k (omega (arith, g .counted))))
 
 module _ {m : ℕ} {ls : List Lash} {d : List ℕ} (g : Listed m ls) (small : (i : ℕ) → getD d i 0 ≤ 2 ^ 40) where
   module _ {pull athwart vertical lee windward : List ℕ} {j : ℕ} (s : Strained m ls d pull athwart vertical lee windward j) (h : j < m)
-      {l : Lash} (own : getD ls j noLash ≡ l) {at up : ℕ} (ea : at ≡ hookLevel l)
+      {l : Lash} (own : getD ls j blankLash ≡ l) {at up : ℕ} (ea : at ≡ levelOf l)
       (eu : up ≡ stiffnessOf l * getD d at 0 / 2 ^ 32 * l .lz / l .ly) where
     pub post-fits : (post : Lashing → ℕ → ℕ) → ((g : Lashing) (x : ℕ) → post g x ≤ x) → {r : List ℕ} → Tallied at-level (on post d) ls 11 j r → getD r at 0 + post (lashingOf l) up < 2 ^ 64
     post-fits post kept t =
@@ -174,9 +175,9 @@ module _ {m : ℕ} {ls : List Lash} {d : List ℕ} (g : Listed m ls) (small : (i
     pub strained-more :
         {p a v : ℕ} →
         at < 11 →
-        p ≡ ceil (ceil ((stiffnessOf l * getD d at 0 / 2 ^ 32 + lashPad) * lashLength l) (l .ly)) (2 ^ 18) →
-        a ≡ ceil (stiffnessOf l * getD d at 0 / 2 ^ 32 + lashPad) (2 ^ 18) →
-        v ≡ ceil (ceil ((stiffnessOf l * getD d at 0 / 2 ^ 32 + lashPad) * l .lz) (l .ly)) (2 ^ 18) →
+        p ≡ roundedUp (roundedUp ((stiffnessOf l * getD d at 0 / 2 ^ 32 + lashPad) * lashLength l) (l .ly)) (2 ^ 18) →
+        a ≡ roundedUp (stiffnessOf l * getD d at 0 / 2 ^ 32 + lashPad) (2 ^ 18) →
+        v ≡ roundedUp (roundedUp ((stiffnessOf l * getD d at 0 / 2 ^ 32 + lashPad) * l .lz) (l .ly)) (2 ^ 18) →
         Strained m ls d (set pull j p) (set athwart j a) (set vertical j v) (set lee at (getD lee at 0 + leePart (lashingOf l) up)) (set windward at (getD windward at 0 + windwardPart (lashingOf l) up)) (suc j)
     unfolding pullFigure athwartFigure verticalFigure part
     strained-more {p} {a} {v} low ep eq ev =

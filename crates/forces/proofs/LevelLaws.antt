@@ -7,9 +7,10 @@ use native.Mathlib.Omega.{arith}
 use lib.Dec.{lit≤}
 use lib.IntN.{ℤ, pos, negsuc, natAbs, negℤ, _+ℤ_, _-ℤ_, _*ℤ_}
 use lib.Signed.{quotZ, ltZ}
+use Rattle.arith.specs.Rounding.{roundedUp}
 use Rattle.arith.specs.Sizes.{Small}
 use Rattle.arith.proofs.Sizes.{small-weaken, small-pos, small-add, small-sub, small-mul}
-use Rattle.figures.specs.Fixed.{ceil, rackingPad, rackingFigure, postPad}
+use Rattle.figures.specs.Fixed.{rackingPad, rackingFigure, postPad}
 use Rattle.forces.proofs.Words.{not-below, small-quot}
 
 -- a racking
@@ -27,12 +28,12 @@ module _ {k u l : ℕ} (hk : k ≤ 15690) (hu : u ≤ 2 ^ 40) (hl : l ≤ 2 ^ 40
 pub newtons-le : {z : ℤ} {size newtons : ℕ} → Small (2 ^ 45) z → size ≡ natAbs z → newtons ≤ (size + rackingPad) / 2 ^ 18 + 1 → newtons ≤ 2 ^ 30
 newtons-le s e h = omega (arith, s .size)
 
-pub figure-below : (z : ℤ) → ltZ z (pos 0) ≡ true → negℤ (pos (ceil (natAbs z + rackingPad) (2 ^ 18))) ≡ rackingFigure z
+pub figure-below : (z : ℤ) → ltZ z (pos 0) ≡ true → negℤ (pos (roundedUp (natAbs z + rackingPad) (2 ^ 18))) ≡ rackingFigure z
 unfolding rackingFigure
 figure-below (pos n) e = absurd (not-below n e)
 figure-below (negsuc n) e = refl
 
-pub figure-from : (z : ℤ) → ltZ z (pos 0) ≡ false → pos (ceil (natAbs z + rackingPad) (2 ^ 18)) ≡ rackingFigure z
+pub figure-from : (z : ℤ) → ltZ z (pos 0) ≡ false → pos (roundedUp (natAbs z + rackingPad) (2 ^ 18)) ≡ rackingFigure z
 unfolding rackingFigure
 figure-from (pos n) e = refl
 figure-from (negsuc n) e = absurd (true≢false e)

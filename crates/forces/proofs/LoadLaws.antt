@@ -7,8 +7,9 @@ use native.Mathlib.Decide.{decLt}
 use native.Mathlib.Omega.{arith}
 use lib.ListN.{length, getD, set, drop, replicate, List·getD-eq-default, drop-of-length-le}
 use lib.Seq.{drop-cons}
+use Rattle.sheet.specs.Layout.{blankTier}
 use Rattle.sheet.specs.declared.Tier.{Tier}
-use Rattle.figures.specs.Fixed.{noTier, push, gust, levelLoad, lifted, halfWeight}
+use Rattle.figures.specs.Fixed.{push, gust, levelLoad, lifted, halfWeight}
 use Rattle.forces.proofs.Arrays.{Between, between-none, fill-below}
 
 -- a share of one tier's push and the rest of the other's
@@ -23,14 +24,14 @@ module _ {share factor p q : ℕ} (hs : share ≤ 20) (hf : factor ≤ 1000) (hp
       mul-le-mul f s
 
 abbrev Load : ℕ → ℕ → List Tier → ℕ → ℕ → Type 0
-Load share factor ts j x = (x ≡ levelLoad share factor (getD ts j noTier) (getD ts (suc j) noTier)) × (x ≤ 2 ^ 46)
+Load share factor ts j x = (x ≡ levelLoad share factor (getD ts j blankTier) (getD ts (suc j) blankTier)) × (x ≤ 2 ^ 46)
 
 -- what pushes on level i from above, and the loads on the levels over it
 pub record Pushed (share factor n : ℕ) (ts : List Tier) (loads : List ℕ) (p g i : ℕ) : Type 0 where
   pub within : i ≤ n
   pub loaded : Between 0 (Load share factor ts) 10 i n loads
-  pub push-is : p ≡ push (getD ts i noTier)
-  pub gust-is : g ≡ gust (getD ts i noTier)
+  pub push-is : p ≡ push (getD ts i blankTier)
+  pub gust-is : g ≡ gust (getD ts i blankTier)
   pub push-small : p ≤ 30480 * 1500
   pub gust-small : g ≤ 27 * 12192 * 2896
 
@@ -38,7 +39,7 @@ module _ {share factor n : ℕ} {ts : List Tier} where
   pub pushed-none : length ts ≡ n → Pushed share factor n ts (replicate 10 0) 0 0 n
   unfolding push gust
   pushed-none stacked =
-      let e : getD ts n noTier ≡ noTier = List·getD-eq-default ts noTier (omega arith) in
+      let e : getD ts n blankTier ≡ blankTier = List·getD-eq-default ts blankTier (omega arith) in
       record {
         within = omega arith;
         loaded = between-none 0 _ 10 n;
@@ -53,8 +54,8 @@ module _ {share factor n : ℕ} {ts : List Tier} where
       n ≤ 10 →
       0 < i →
       Pushed share factor n ts loads p g i →
-      p′ ≡ push (getD ts (i - 1) noTier) →
-      g′ ≡ gust (getD ts (i - 1) noTier) →
+      p′ ≡ push (getD ts (i - 1) blankTier) →
+      g′ ≡ gust (getD ts (i - 1) blankTier) →
       p′ ≤ 30480 * 1500 →
       g′ ≤ 27 * 12192 * 2896 →
       x ≡ (981 * factor * (share * p′ + (20 - share) * p) + 40000 * (g′ + g)) * 2 ^ 28 / 4000000000 →
@@ -85,9 +86,9 @@ pub record Carried (acceleration : Tier → ℕ) (n : ℕ) (ts : List Tier) (wei
   pub sum-is : sum ≡ lifted acceleration (drop i ts)
   pub sum-small : sum ≤ (n - i) * (30480 * 3000)
 
-lifted-peel : (acceleration : Tier → ℕ) (ts : List Tier) (i : ℕ) → i < length ts → lifted acceleration (drop i ts) ≡ lifted acceleration (drop (suc i) ts) + getD ts i noTier .mass * acceleration (getD ts i noTier)
+lifted-peel : (acceleration : Tier → ℕ) (ts : List Tier) (i : ℕ) → i < length ts → lifted acceleration (drop i ts) ≡ lifted acceleration (drop (suc i) ts) + getD ts i blankTier .mass * acceleration (getD ts i blankTier)
 unfolding lifted
-lifted-peel acceleration ts i h = rw (drop-cons ts i noTier h) (omega arith)
+lifted-peel acceleration ts i h = rw (drop-cons ts i blankTier h) (omega arith)
 
 lifted-off : (acceleration : Tier → ℕ) (ts : List Tier) (i : ℕ) → length ts ≤ i → lifted acceleration (drop i ts) ≡ 0
 unfolding lifted
@@ -108,7 +109,7 @@ module _ {acceleration : Tier → ℕ} {n : ℕ} {ts : List Tier} (stacked : len
       n ≤ 10 →
       0 < i →
       Carried acceleration n ts weights sum i →
-      own ≡ getD ts (i - 1) noTier .mass * acceleration (getD ts (i - 1) noTier) →
+      own ≡ getD ts (i - 1) blankTier .mass * acceleration (getD ts (i - 1) blankTier) →
       own ≤ 30480 * 3000 →
       x ≡ 981 * (sum + own) * 2 ^ 18 / 400000 →
       x ≤ 2 ^ 40 →

@@ -8,11 +8,10 @@ use native.Mathlib.Omega.{arith}
 use lib.Dec.{eqb}
 use lib.ListN.{length, getD, set, take, drop, replicate, length-set, length-replicate, drop-of-length-le}
 use lib.Seq.{getD-set-same, getD-set-other}
+use Rattle.sheet.specs.Layout.{blankLash}
 use Rattle.sheet.specs.declared.Lash.{Lash}
-use Rattle.sheet.specs.Lashings.{lashingOf}
+use Rattle.sheet.specs.Lashings.{lashingOf, levelOf}
 use Rattle.sheet.specs.declared.Lashing.{Lashing}
-use Rattle.figures.specs.Lashes.{hookLevel}
-use Rattle.figures.specs.Reported.{noLash}
 use Rattle.figures.specs.Fixed.{stiffnessOf, levelStiffness, upward, upwards}
 use Rattle.forces.proofs.Arrays.{blank-entry, peel}
 
@@ -20,10 +19,10 @@ unfoldable pub tally : (Lash → Bool) → (Lash → ℕ) → List Lash → ℕ
 tally test v [] = 0
 tally test v (l ∷ ls) = cond (test l) (v l) 0 + tally test v ls
 
-pub tally-stiffness : (i : ℕ) (ls : List Lash) → levelStiffness ls i ≡ tally (λ l. eqb i (hookLevel l)) stiffnessOf ls
+pub tally-stiffness : (i : ℕ) (ls : List Lash) → levelStiffness ls i ≡ tally (λ l. eqb i (levelOf l)) stiffnessOf ls
 unfolding levelStiffness tally
 tally-stiffness i [] = refl
-tally-stiffness i (l ∷ ls) = ap (λ (n : ℕ). cond (eqb i (hookLevel l)) (stiffnessOf l) 0 + n) (tally-stiffness i ls)
+tally-stiffness i (l ∷ ls) = ap (λ (n : ℕ). cond (eqb i (levelOf l)) (stiffnessOf l) 0 + n) (tally-stiffness i ls)
 
 pub tally-upwards : (post : Lashing → ℕ → ℕ) (counts : Lash → Bool) (d : List ℕ) (ls : List Lash) → upwards post counts d ls ≡ tally counts (λ l. post (lashingOf l) (upward d l)) ls
 unfolding upwards tally
@@ -35,7 +34,7 @@ cond-le : {B : ℕ} (t : Bool) (x : ℕ) → x ≤ B → cond t x 0 ≤ B
 cond-le true x h = h
 cond-le false x h = omega arith
 
-pub tally-le : (B : ℕ) (test : Lash → Bool) (v : Lash → ℕ) (ls : List Lash) → ((j : ℕ) → j < length ls → v (getD ls j noLash) ≤ B) → tally test v ls ≤ length ls * B
+pub tally-le : (B : ℕ) (test : Lash → Bool) (v : Lash → ℕ) (ls : List Lash) → ((j : ℕ) → j < length ls → v (getD ls j blankLash) ≤ B) → tally test v ls ≤ length ls * B
 unfolding tally
 tally-le B test v [] h = omega arith
 tally-le B test v (l ∷ ls) h =

@@ -6,18 +6,19 @@ use Prim.Native.Nat.{ℕ, zero, suc, _+_, _*_, _-_, _^_, _<_, _≤_}
 use lib.Dec.{eqb}
 use lib.ListN.{drop, take, getD, length}
 use lib.IntN.{ℤ, pos, negℤ, _+ℤ_, _-ℤ_, _*ℤ_}
+use Rattle.sheet.specs.Lashings.{levelOf, atLevel}
+use Rattle.sheet.specs.Layout.{blankLash, blankTier}
 use Rattle.sheet.specs.declared.Tier.{Tier}
 use Rattle.sheet.specs.declared.Lash.{Lash}
 use Rattle.sheet.specs.declared.Lashing.{Lashing}
 use Rattle.sheet.specs.declared.Sheet.{Sheet}
 use Rattle.springs.specs.Promise.{Promised}
 use Rattle.figures.specs.declared.EndFigures.{EndFigures}
-use Rattle.figures.specs.Lashes.{hookLevel, lashLength}
+use Rattle.figures.specs.Lashes.{lashLength}
 use Rattle.figures.specs.Ends.{End, lashesOf}
 use Rattle.figures.specs.Posts.{inCompression, inTension}
-use Rattle.figures.specs.Reported.{noLash}
-use Rattle.figures.specs.Facts.{LashFacts, countAt}
-use Rattle.figures.specs.Fixed.{noTier, levelLoad, halfWeight, stiffnessOf, levelStiffness, pullFigure, athwartFigure, verticalFigure, upwards, leePart, windwardPart, rackingPart, rackingFigure, leeFound, windwardFound, postFigure, InputsBy, Computed}
+use Rattle.figures.specs.Facts.{LashFacts}
+use Rattle.figures.specs.Fixed.{levelLoad, halfWeight, stiffnessOf, levelStiffness, pullFigure, athwartFigure, verticalFigure, upwards, leePart, windwardPart, rackingPart, rackingFigure, leeFound, windwardFound, postFigure, InputsBy, Computed}
 
 -- the first n entries of a list are P, and those behind them blank
 pub record Filled {A : Type 0} (blank : A) (n : ℕ) (P : ℕ → A) (r : List A) : Type 0 where
@@ -26,7 +27,7 @@ pub record Filled {A : Type 0} (blank : A) (n : ℕ) (P : ℕ → A) (r : List A
 
 -- the loads on the levels over n tiers
 pub record Loaded (share factor n : ℕ) (ts : List Tier) (r : List ℕ) : Type 0 where
-  pub each : (i : ℕ) → i < n → getD r i 0 ≡ levelLoad share factor (getD ts i noTier) (getD ts (suc i) noTier)
+  pub each : (i : ℕ) → i < n → getD r i 0 ≡ levelLoad share factor (getD ts i blankTier) (getD ts (suc i) blankTier)
   pub small : (i : ℕ) → i < n → getD r i 0 ≤ 2 ^ 46
 
 -- half of the weight above each level
@@ -38,8 +39,8 @@ pub record Weighed (ts : List Tier) (most least : List ℕ) : Type 0 where
 
 -- lengths and stiffnesses of m lashes
 pub record Geared (m : ℕ) (ls : List Lash) (lengths stiffnesses : List ℕ) : Type 0 where
-  pub long : (j : ℕ) → j < m → getD lengths j 0 ≡ lashLength (getD ls j noLash)
-  pub stiff : (j : ℕ) → j < m → getD stiffnesses j 0 ≡ stiffnessOf (getD ls j noLash)
+  pub long : (j : ℕ) → j < m → getD lengths j 0 ≡ lashLength (getD ls j blankLash)
+  pub stiff : (j : ℕ) → j < m → getD stiffnesses j 0 ≡ stiffnessOf (getD ls j blankLash)
 
 -- the stiffness of all lashes at each level over the deck
 abbrev pub Held : List Lash → List ℕ → Type 0
@@ -47,13 +48,13 @@ Held ls levels = (i : ℕ) → getD levels i 0 ≡ levelStiffness ls (suc i)
 
 -- the figures of m lashes at the shifts d
 pub record Pulled (m : ℕ) (ls : List Lash) (d pull athwart vertical : List ℕ) : Type 0 where
-  pub pull-is : Filled 0 m (λ j. pullFigure d (getD ls j noLash)) pull
-  pub athwart-is : Filled 0 m (λ j. athwartFigure d (getD ls j noLash)) athwart
-  pub vertical-is : Filled 0 m (λ j. verticalFigure d (getD ls j noLash)) vertical
+  pub pull-is : Filled 0 m (λ j. pullFigure d (getD ls j blankLash)) pull
+  pub athwart-is : Filled 0 m (λ j. athwartFigure d (getD ls j blankLash)) athwart
+  pub vertical-is : Filled 0 m (λ j. verticalFigure d (getD ls j blankLash)) vertical
 
 -- the vertical parts of the lashes on a post at each level
 pub record Borne (post : Lashing → ℕ → ℕ) (ls : List Lash) (d r : List ℕ) : Type 0 where
-  pub each : (i : ℕ) → getD r i 0 ≡ upwards post (λ l. eqb i (hookLevel l)) d ls
+  pub each : (i : ℕ) → getD r i 0 ≡ upwards post (λ l. eqb i (levelOf l)) d ls
   pub small : (i : ℕ) → getD r i 0 ≤ 2 ^ 58
   pub long : length r ≡ 11
 
@@ -79,7 +80,7 @@ tensed weight moment lee windward =
 pub record Measured (n : ℕ) (k : List ℕ) (ts : List Tier) (d most least lee windward : List ℕ) : Type 0 where
   pub few : n ≤ 10
   pub springs : (i : ℕ) → i < n → getD k i 0 ≤ 15690
-  pub heights : (i : ℕ) → i < n → getD ts i noTier .height ≤ 2896
+  pub heights : (i : ℕ) → i < n → getD ts i blankTier .height ≤ 2896
   pub shifts : (i : ℕ) → getD d i 0 ≤ 2 ^ 40
   pub most-light : (i : ℕ) → getD most i 0 ≤ 2 ^ 40
   pub least-light : (i : ℕ) → getD least i 0 ≤ 2 ^ 40
@@ -114,10 +115,10 @@ module _ (n : ℕ) (k : List ℕ) (ts : List Tier) (d most least lee windward : 
 pub record Workable (n : ℕ) (k : List ℕ) (ts : List Tier) (m : ℕ) (ls : List Lash) (ω most least : List ℕ) : Type 0 where
   pub few : n ≤ 10
   pub springs : (i : ℕ) → i < n → (3730 ≤ getD k i 0) × (getD k i 0 ≤ 15690)
-  pub heights : (i : ℕ) → i < n → getD ts i noTier .height ≤ 2896
+  pub heights : (i : ℕ) → i < n → getD ts i blankTier .height ≤ 2896
   pub few-lashes : m ≤ 8
-  pub each : (j : ℕ) → j < length ls → LashFacts n (getD ls j noLash)
-  pub at-level : (i : ℕ) → countAt ls i ≤ 4
+  pub each : (j : ℕ) → j < length ls → LashFacts n (getD ls j blankLash)
+  pub at-level : (i : ℕ) → atLevel i ls ≤ 4
   pub loaded : (i : ℕ) → i < n → getD ω i 0 ≤ 2 ^ 46
   pub weighed : Weighed ts most least
 
@@ -150,9 +151,9 @@ pub record EndWorked (n : ℕ) (k : List ℕ) (ts : List Tier) (ls : List Lash) 
       (upwards leePart (inTension i) d ls)
       (upwards windwardPart (inTension i) d ls))
       (f .tension)
-  pub pull : Filled 0 (length ls) (λ j. pullFigure d (getD ls j noLash)) (f .pull)
-  pub athwart : Filled 0 (length ls) (λ j. athwartFigure d (getD ls j noLash)) (f .athwart)
-  pub vertical : Filled 0 (length ls) (λ j. verticalFigure d (getD ls j noLash)) (f .vertical)
+  pub pull : Filled 0 (length ls) (λ j. pullFigure d (getD ls j blankLash)) (f .pull)
+  pub athwart : Filled 0 (length ls) (λ j. athwartFigure d (getD ls j blankLash)) (f .athwart)
+  pub vertical : Filled 0 (length ls) (λ j. verticalFigure d (getD ls j blankLash)) (f .vertical)
 
 -- the figures behind the counts are 0
 pub record Blank (e : End) (t : Sheet) (f : EndFigures) : Type 0 where

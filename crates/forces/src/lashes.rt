@@ -3,10 +3,12 @@
 ghost use mathlib.Core.Path.{_≡_};
 ghost use Prim.Native.Nat.{ℕ, _+_, _*_, _/_, _<_, _≤_, _^_};
 ghost use lib.ListN.{take, getD, length, replicate};
+ghost use Rattle.arith.specs.Rounding.{roundedUp};
+ghost use Rattle.sheet.specs.Lashings.{levelOf};
+ghost use Rattle.sheet.specs.Layout.{blankLash};
 ghost use Rattle.figures.specs.Facts.{LashFacts};
-ghost use Rattle.figures.specs.Lashes.{hookLevel, lashLength};
-ghost use Rattle.figures.specs.Reported.{noLash};
-ghost use Rattle.figures.specs.Fixed.{ceil, lashPad, stiffnessOf, leePart, windwardPart};
+ghost use Rattle.figures.specs.Lashes.{lashLength};
+ghost use Rattle.figures.specs.Fixed.{lashPad, stiffnessOf, leePart, windwardPart};
 ghost use Rattle.forces.specs.Steps.{Geared, Held, Pulled, Borne};
 use crate::NEWTON;
 use crate::PostParts;
@@ -25,7 +27,7 @@ const LASH_PAD: u64 = 34336;
 // The level that a lash is hooked at.
 fn hook_level(l: Lash) -> usize
     requires { ⌜ LashFacts 10 l ⌝ }
-    ensures { λ r. ⌜ (r ≡ hookLevel l) × (1 ≤ r) × (r ≤ 10) ⌝ }
+    ensures { λ r. ⌜ (r ≡ levelOf l) × (1 ≤ r) × (r ≤ 10) ⌝ }
 {
     (l.tier - l.hook) as usize
 }
@@ -68,7 +70,7 @@ pub fn gear_of(
     stiffnesses: &mut [u64],
     levels: &mut [u64],
 )
-    requires { ⌜ (m ≤ 8) × ((j : ℕ) → j < m → LashFacts 10 (getD (take m lashes) j noLash)) ⌝ }
+    requires { ⌜ (m ≤ 8) × ((j : ℕ) → j < m → LashFacts 10 (getD (take m lashes) j blankLash)) ⌝ }
     requires { ⌜ (now lengths ≡ replicate 8 0) × (now stiffnesses ≡ replicate 8 0) × (now levels ≡ replicate 10 0) ⌝ }
     ensures { λ _. ⌜ Geared m (take m lashes) (now (lengths .exit)) (now (stiffnesses .exit)) × Held (take m lashes) (now (levels .exit)) ⌝ }
 {
@@ -96,7 +98,7 @@ fn part_of(stiffness: u64, shift: u64) -> u64
 // A padded athwart part × a side / LY, in N upwards.
 fn figure_along(padded: u64, side: u64, ly: u64) -> u64
     requires { ⌜ (padded ≤ 2 ^ 48 + lashPad) × (side ≤ 22913) × (500 ≤ ly) ⌝ }
-    ensures { λ r. ⌜ r ≡ ceil (ceil (padded * side) ly) (2 ^ 18) ⌝ }
+    ensures { λ r. ⌜ r ≡ roundedUp (roundedUp (padded * side) ly) (2 ^ 18) ⌝ }
 {
     ceil_div(ceil_div(padded * side, ly), NEWTON)
 }
@@ -119,9 +121,9 @@ struct Pull {
 
 fn pull_of(l: Lash, length: u64, stiffness: u64, shift: u64) -> Pull
     requires { ⌜ LashFacts 10 l × (length ≡ lashLength l) × (stiffness ≡ stiffnessOf l) × (shift ≤ 2 ^ 40) ⌝ }
-    ensures { λ r. ⌜ r .pull ≡ ceil (ceil ((stiffnessOf l * shift / 2 ^ 32 + lashPad) * lashLength l) (l .ly)) (2 ^ 18) ⌝ }
-    ensures { λ r. ⌜ r .athwart ≡ ceil (stiffnessOf l * shift / 2 ^ 32 + lashPad) (2 ^ 18) ⌝ }
-    ensures { λ r. ⌜ r .vertical ≡ ceil (ceil ((stiffnessOf l * shift / 2 ^ 32 + lashPad) * l .lz) (l .ly)) (2 ^ 18) ⌝ }
+    ensures { λ r. ⌜ r .pull ≡ roundedUp (roundedUp ((stiffnessOf l * shift / 2 ^ 32 + lashPad) * lashLength l) (l .ly)) (2 ^ 18) ⌝ }
+    ensures { λ r. ⌜ r .athwart ≡ roundedUp (stiffnessOf l * shift / 2 ^ 32 + lashPad) (2 ^ 18) ⌝ }
+    ensures { λ r. ⌜ r .vertical ≡ roundedUp (roundedUp ((stiffnessOf l * shift / 2 ^ 32 + lashPad) * l .lz) (l .ly)) (2 ^ 18) ⌝ }
     ensures { λ r. ⌜ (r .upward ≡ stiffnessOf l * shift / 2 ^ 32 * l .lz / l .ly) × (r .upward ≤ 2 ^ 54) ⌝ }
 {
     let ly = l.ly as u64;
@@ -165,7 +167,7 @@ pub fn lash_figures(
     lee: &mut [u64],
     windward: &mut [u64],
 )
-    requires { ⌜ (m ≤ 8) × ((j : ℕ) → j < m → LashFacts 10 (getD (take m lashes) j noLash)) ⌝ }
+    requires { ⌜ (m ≤ 8) × ((j : ℕ) → j < m → LashFacts 10 (getD (take m lashes) j blankLash)) ⌝ }
     requires { ⌜ Geared m (take m lashes) (now lengths) (now stiffnesses) × ((i : ℕ) → getD (now d) i 0 ≤ 2 ^ 40) ⌝ }
     requires { ⌜ (length (now lengths) ≡ 8) × (length (now stiffnesses) ≡ 8) × (length (now d) ≡ 11) ⌝ }
     requires { ⌜ (now pull ≡ replicate 8 0) × (now athwart ≡ replicate 8 0) × (now vertical ≡ replicate 8 0) × (now lee ≡ replicate 11 0) × (now windward ≡ replicate 11 0) ⌝ }

@@ -3,8 +3,9 @@
 ghost use mathlib.Core.Path.{_≡_};
 ghost use Prim.Native.Nat.{ℕ, _+_, _*_, _-_, _/_, _<_, _≤_, _^_};
 ghost use lib.ListN.{take, getD, replicate};
+ghost use Rattle.sheet.specs.Layout.{blankTier};
 ghost use Rattle.figures.specs.Facts.{TierFacts};
-ghost use Rattle.figures.specs.Fixed.{noTier, push, gust};
+ghost use Rattle.figures.specs.Fixed.{push, gust};
 ghost use Rattle.figures.specs.Loads.{boxLength};
 ghost use Rattle.forces.specs.Steps.{Loaded, Weighed};
 use crate::NEWTON;
@@ -97,7 +98,7 @@ pub fn loads_of(
     least: &mut [u64],
 )
     requires { ⌜ (n ≤ 10) × (share ≤ 20) × (factor ≤ 1000) ⌝ }
-    requires { ⌜ ((i : ℕ) → i < n → TierFacts (getD (take n tiers) i noTier)) ⌝ }
+    requires { ⌜ ((i : ℕ) → i < n → TierFacts (getD (take n tiers) i blankTier)) ⌝ }
     requires { ⌜ (now loads ≡ replicate 10 0) × (now most ≡ replicate 11 0) × (now least ≡ replicate 11 0) ⌝ }
     ensures { λ _. ⌜ Loaded share factor n (take n tiers) (now (loads .exit)) × Weighed (take n tiers) (now (most .exit)) (now (least .exit)) ⌝ }
 {

@@ -5,13 +5,14 @@ use Prim.Native.Nat.{ℕ, zero, suc, _*_, _≤_, _<_}
 use native.Mathlib.Nat.{mul-le-mul}
 use native.Mathlib.Omega.{arith}
 use lib.Dec.{lit≤}
+use Rattle.sheet.specs.Lashings.{levelOf}
 use Rattle.arith.specs.Fractions.{Frac, nat, _/q_, recip, sumq, _≈_, _⊏_}
 use Rattle.arith.proofs.FractionLaws.{≈-trans, ≈⊑}
 use Rattle.arith.proofs.OrderedField.{⊑-⊏-trans}
 use Rattle.arith.specs.Roots.{Least}
 use Rattle.sheet.specs.declared.Sheet.{Sheet}
 use Rattle.figures.specs.Loads.{weight, transverse, upright, boxLength, wind, load, classShare}
-use Rattle.figures.specs.Lashes.{hookLevel, lashLength, pull, athwartPart}
+use Rattle.figures.specs.Lashes.{lashLength, pull, athwartPart}
 use Rattle.springs.specs.Equations as S
 use Rattle.springs.specs.Equations.{shift}
 use Rattle.springs.proofs.OneSolution.{handedStiffness, handedLoad, shiftOf, solution, exists, unique, same-racking}
@@ -128,15 +129,15 @@ stiff-e = record { springs = springs; lashes = stiff-rod 2 }
     springs (suc (suc i)) h = absurd (omega arith)
 
 solved-d : shift (solved held) 1 ≈ nat 220725 /q nat 10 /q nat 10930
-unfolding solution shiftOf handedStiffness handedLoad shift sumq recip chainTiers load transverse weight wind chainLash athwartPart pull hookLevel
+unfolding solution shiftOf handedStiffness handedLoad shift sumq recip chainTiers load transverse weight wind chainLash athwartPart pull levelOf
 solved-d = rw (length-S 1) (record { cross = refl })
 
 solved-e : shift (solved heldAbove) 2 ≈ nat 2918475 /q nat 100 /q nat 18130
-unfolding solution shiftOf handedStiffness handedLoad shift sumq recip chainTiers load transverse weight wind chainLash athwartPart pull hookLevel
+unfolding solution shiftOf handedStiffness handedLoad shift sumq recip chainTiers load transverse weight wind chainLash athwartPart pull levelOf
 solved-e = rw (length-S 2) (record { cross = refl })
 
 racked-e : S.racking (doorTiers heldAbove) (solved heldAbove) 1 ⊏ nat 0
-unfolding solution shiftOf handedStiffness handedLoad shift sumq recip chainTiers load transverse weight wind chainLash athwartPart pull hookLevel
+unfolding solution shiftOf handedStiffness handedLoad shift sumq recip chainTiers load transverse weight wind chainLash athwartPart pull levelOf
 racked-e = rw (length-S 2) (record { cross = record { lt = tt } })
 
 pub table : Table

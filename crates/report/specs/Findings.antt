@@ -5,6 +5,7 @@ use Prim.Native.Nat.{ℕ, zero, suc, _+_, _-_}
 use lib.Dec.{ltb}
 use lib.IntN.{ℤ, pos, natAbs}
 use lib.ListN.{getD, length}
+use Rattle.sheet.specs.Layout.{blankLash}
 use Rattle.arith.specs.Fractions.{Frac}
 use Rattle.springs.specs.Equations as S
 use Rattle.sheet.specs.declared.Sheet.{Sheet}
@@ -14,7 +15,7 @@ use Rattle.figures.specs.Loads.{classShare}
 use Rattle.figures.specs.Lashes as L
 use Rattle.figures.specs.Ends.{End, door, closed, tiersOf, lashesOf, chainTiers, routeFactor}
 use Rattle.figures.specs.Posts as P
-use Rattle.figures.specs.Reported.{noLash, forceOf}
+use Rattle.figures.specs.Reported.{forceOf}
 use Rattle.report.specs.Limits.{rackingLimit, compressionLimit, cornerTensionLimit, lashVerticalLimit, lashAthwartLimit, safeLoad}
 
 -- 0 door, 1 closed
@@ -84,7 +85,7 @@ limitAt e t racking i = rackingLimit
 limitAt e t compression i = compressionLimit
 limitAt e t cornerTension i = cornerTensionLimit
 limitAt e t lockTension i = safeLoad (t .head .lock) (t .head .breaking)
-limitAt e t lashTension j = safeLoad (getD (lashesOf e t) j noLash .material) (getD (lashesOf e t) j noLash .breaking)
+limitAt e t lashTension j = safeLoad (getD (lashesOf e t) j blankLash .material) (getD (lashesOf e t) j blankLash .breaking)
 limitAt e t lashVertical j = lashVerticalLimit
 limitAt e t lashAthwart j = lashAthwartLimit
 

@@ -124,14 +124,14 @@ within-keys i W ls zero f = omega arith
 within-keys i W [] (suc c) f = omega arith
 within-keys i W (l ∷ ls) (suc c) f =
     rw (counts-more W (key l) (map key (take c ls)))
-    (go (eqb (levelOf l) i) refl (within-keys i W ls c (λ k q. f (suc k) (omega (arith, q)))))
+    (go (eqb i (levelOf l)) refl (within-keys i W ls c (λ k q. f (suc k) (omega (arith, q)))))
   where
     go :
         (t : Bool) →
-        eqb (levelOf l) i ≡ t →
+        eqb i (levelOf l) ≡ t →
         atLevel i (take c ls) ≤ counts W (map key (take c ls)) →
         cond t 1 0 + atLevel i (take c ls) ≤ counts W (key l ∷ []) + counts W (map key (take c ls))
-    go true e h = omega (arith, h, f 0 (omega arith) (eqb-true (levelOf l) i e))
+    go true e h = omega (arith, h, f 0 (omega arith) (sym (eqb-true i (levelOf l) e)))
     go false e h = omega (arith, h)
 
 at-most :

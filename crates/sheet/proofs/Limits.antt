@@ -131,11 +131,11 @@ code (suc x) h = inr (omega (arith, h))
 -- the level of a top hook is its tier, of a bottom hook the tier below
 pub level-top : (l : Lash) → l .hook ≡ 0 → levelOf l ≡ l .tier
 unfolding levelOf
-level-top l e = simp (eq-eqb _ _ e)
+level-top l e = omega (arith, e)
 
 pub level-bottom : (l : Lash) → l .hook ≡ 1 → levelOf l ≡ l .tier - 1
 unfolding levelOf
-level-bottom l e = simp (e)
+level-bottom l e = omega (arith, e)
 
 -- a lash that row 11 passes is on a tier, its hook at level 1 to n
 pub record LashPlaced (n : ℕ) (l : Lash) : Type 0 where

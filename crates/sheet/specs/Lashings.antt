@@ -13,9 +13,9 @@ lashingOf l = cond (l .kind is 0) (Cross l) (Side l)
 
 -- level i is the top of tier i: a top hook (0) of tier i and a bottom hook (1) of tier i + 1 both lie at level i
 unfoldable pub levelOf : Lash → ℕ
-levelOf l = cond (l .hook is 0) (l .tier) (l .tier - 1)
+levelOf l = l .tier - l .hook
 
 -- how many of the lashes lie at level i
 unfoldable pub atLevel : ℕ → List Lash → ℕ
 atLevel i [] = 0
-atLevel i (l ∷ ls) = cond (levelOf l is i) 1 0 + atLevel i ls
+atLevel i (l ∷ ls) = cond (i is levelOf l) 1 0 + atLevel i ls

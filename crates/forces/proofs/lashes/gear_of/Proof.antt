@@ -1,12 +1,12 @@
 use mathlib.Core.Path.{_≡_}
 use lib.ListN.{getD, take}
 use lib.Seq.{getD-take}
+use Rattle.sheet.specs.Layout.{blankLash}
 use Rattle.forces.proofs.LashLoops.{Listed, listed, Hung, hung-none, held-fits, hung-more, hung-all}
 use Prim.Native.Nat.{_-_}
 use native.Mathlib.Numerals.{add-one}
 use native.Mathlib.Omega.{arith}
 use Rattle.figures.specs.Facts.{LashFacts}
-use Rattle.figures.specs.Reported.{noLash}
 use borrow.Author.Needs.{needs}
 use Rattle.forces.proofs.lashes.gear_of.Statement.{statement}
 use Rattle.forces.proofs.lashes.gear_of.Tie as tie
@@ -24,10 +24,10 @@ start c = c .before .before .before .before
 lashes-of : (c : tie.Start Inv-loop μ-loop) → Listed (c .args .m) (take (c .args .m) (c .args .t1))
 lashes-of c = listed (c .args .t1) (c .good .0 .1 .0 .1) (c .pre .0)
 
-own : (c : tie.In-loop Inv-loop μ-loop) → getD (take (start (c .before) .args .m) (start (c .before) .args .t1)) (c .before .loop .j) noLash ≡ getD (start (c .before) .args .t1) (c .before .loop .j) noLash
-own c = getD-take (start (c .before) .args .m) (start (c .before) .args .t1) (c .before .loop .j) noLash (c .loop-test .taken)
+own : (c : tie.In-loop Inv-loop μ-loop) → getD (take (start (c .before) .args .m) (start (c .before) .args .t1)) (c .before .loop .j) blankLash ≡ getD (start (c .before) .args .t1) (c .before .loop .j) blankLash
+own c = getD-take (start (c .before) .args .m) (start (c .before) .args .t1) (c .before .loop .j) blankLash (c .loop-test .taken)
 
-lash-facts : (c : tie.In-loop Inv-loop μ-loop) → LashFacts 10 (getD (start (c .before) .args .t1) (c .before .loop .j) noLash)
+lash-facts : (c : tie.In-loop Inv-loop μ-loop) → LashFacts 10 (getD (start (c .before) .args .t1) (c .before .loop .j) blankLash)
 lash-facts c = rw (own c) at (start (c .before) .pre .0 .1 (c .before .loop .j) (c .loop-test .taken))
 
 loop-holds : tie.Need-loop-holds Inv-loop μ-loop

@@ -1,19 +1,19 @@
 use native.Mathlib.Omega.{arith}
 use mathlib.Core.Path.{refl}
-use Rattle.figures.specs.Lashes.{hookLevel}
 use borrow.Author.Needs.{needs}
+use Rattle.sheet.specs.Lashings.{levelOf}
 use Rattle.forces.proofs.lashes.hook_level.Statement.{statement}
 use Rattle.forces.proofs.lashes.hook_level.Tie as tie
 
 sub-result : tie.Need-sub-result
-unfolding hookLevel
+unfolding levelOf
 sub-result c = omega (arith, c .before .pre .raised)
 
 cast-result : tie.Need-cast-result
 cast-result c = search needs
 
 returns : tie.Need-returns
-unfolding hookLevel
+unfolding levelOf
 returns c = (refl, c .before .pre .raised, c .before .pre .inside)
 
 pub hook-level-spec : {M : Type 1} → statement M

@@ -5,9 +5,9 @@ use native.Mathlib.Numerals.{add-one}
 use native.Mathlib.Omega.{arith}
 use lib.ListN.{getD, take}
 use lib.Seq.{getD-take}
+use Rattle.sheet.specs.Layout.{blankLash}
 use Rattle.figures.specs.Facts.{LashFacts}
 use Rattle.figures.specs.Fixed.{leePart, windwardPart}
-use Rattle.figures.specs.Reported.{noLash}
 use Rattle.forces.proofs.LashLoops.{Listed, listed, Strained, strained-none, post-fits, strained-more, strained-all, lee-kept, windward-kept}
 use Rattle.forces.proofs.lashes.lash_figures.Statement.{statement}
 use Rattle.forces.proofs.lashes.lash_figures.Tie as tie
@@ -30,12 +30,12 @@ start c = c .before .before .before .before .before .before .before .before .bef
 own :
     (c : tie.In-loop Inv-loop μ-loop) →
     let a = start (c .before) .args in
-    getD (take (a .m) (a .t1)) (c .before .loop .j) noLash ≡ getD (a .t1) (c .before .loop .j) noLash
+    getD (take (a .m) (a .t1)) (c .before .loop .j) blankLash ≡ getD (a .t1) (c .before .loop .j) blankLash
 own c =
     let a = start (c .before) .args in
-    getD-take (a .m) (a .t1) (c .before .loop .j) noLash (c .loop-test .taken)
+    getD-take (a .m) (a .t1) (c .before .loop .j) blankLash (c .loop-test .taken)
 
-lash-facts : (c : tie.In-loop Inv-loop μ-loop) → LashFacts 10 (getD (start (c .before) .args .t1) (c .before .loop .j) noLash)
+lash-facts : (c : tie.In-loop Inv-loop μ-loop) → LashFacts 10 (getD (start (c .before) .args .t1) (c .before .loop .j) blankLash)
 lash-facts c = rw (own c) at (start (c .before) .pre .0 .1 (c .before .loop .j) (c .loop-test .taken))
 
 loop-holds : tie.Need-loop-holds Inv-loop μ-loop

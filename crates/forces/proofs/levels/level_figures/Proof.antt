@@ -7,9 +7,10 @@ use lib.ListN.{length, take}
 use lib.Seq.{getD-take, length-take-le}
 use mir.Syntax.{w32}
 use mir.ValLaws.{toZ-ofZ}
+use Rattle.sheet.specs.Layout.{blankTier}
 use Rattle.arith.proofs.Sizes.{small-pos, small-weaken}
 use Rattle.sheet.specs.declared.Tier.{Tier}
-use Rattle.figures.specs.Fixed.{noTier, leeFound, windwardFound}
+use Rattle.figures.specs.Fixed.{leeFound, windwardFound}
 use Rattle.forces.proofs.Descent.{Descended, at-top, turned-once, at-foot}
 use Rattle.forces.proofs.Words.{held}
 use Rattle.forces.proofs.levels.level_figures.Statement.{statement}
@@ -176,7 +177,7 @@ level-under-requires c κs =
     let w = under t in
     let p = r .racking-part .ensures .1 in
     let e = o .parts-of2 .ensures in (
-      (small-weaken (l .inv .moment-small) (omega (arith, m .few)), rw (held p (lit< tt)) p, rw (getD-take (b .args .n) (b .args .t3) j noTier w) at (m .heights j w)),
+      (small-weaken (l .inv .moment-small) (omega (arith, m .few)), rw (held p (lit< tt)) p, rw (getD-take (b .args .n) (b .args .t3) j blankTier w) at (m .heights j w)),
       (
         (omega (arith, l .inv .lees-small, m .few), omega (arith, l .inv .windwards-small, m .few)),
         (omega (arith, e .0, m .lee-small j), omega (arith, e .1, m .windward-small j), m .most-light j, m .least-light j),
@@ -229,7 +230,7 @@ loop-again c =
     (t .loop-test .taken)
     (l .inv)
     (p .0)
-    (ap (λ (x : Tier). x .height) (sym (getD-take (b .args .n) (b .args .t3) (l .i - 1) noTier w)))
+    (ap (λ (x : Tier). x .height) (sym (getD-take (b .args .n) (b .args .t3) (l .i - 1) blankTier w)))
     (toZ-ofZ w32 (g .result) (record { sfits = g .ok }) ∙ simp h at (g .ensures))
     (e .0)
     (e .1 .0 .0)

@@ -4,8 +4,8 @@ use lib.ListN.{getD, length, take}
 use lib.Seq.{getD-take, length-take-le}
 use Prim.Native.Nat.{_-_}
 use native.Mathlib.Omega.{arith}
+use Rattle.sheet.specs.Layout.{blankTier}
 use Rattle.figures.specs.Facts.{TierFacts}
-use Rattle.figures.specs.Fixed.{noTier}
 use borrow.Author.Needs.{needs}
 use Rattle.forces.proofs.LoadLaws.{Pushed, pushed-none, pushed-more, Carried, carried-none, carried-more, carried-all}
 use Rattle.forces.proofs.loads.loads_of.Statement.{statement}
@@ -31,13 +31,13 @@ stacked c = length-take-le (c .args .n) (c .args .t2) (omega (arith, c .pre .0 .
 own :
     (c : tie.In-loop Inv-loop μ-loop) →
     let a = start (c .before) .args in
-    getD (take (a .n) (a .t2)) (c .before .loop .i - 1) noTier ≡ getD (a .t2) (c .before .loop .i - 1) noTier
+    getD (take (a .n) (a .t2)) (c .before .loop .i - 1) blankTier ≡ getD (a .t2) (c .before .loop .i - 1) blankTier
 own c =
     let a = start (c .before) .args in
     let l = c .before .loop in
-    getD-take (a .n) (a .t2) (l .i - 1) noTier (omega (arith, c .loop-test .taken, l .inv .0 .within))
+    getD-take (a .n) (a .t2) (l .i - 1) blankTier (omega (arith, c .loop-test .taken, l .inv .0 .within))
 
-facts : (c : tie.In-loop Inv-loop μ-loop) → TierFacts (getD (start (c .before) .args .t2) (c .before .loop .i - 1) noTier)
+facts : (c : tie.In-loop Inv-loop μ-loop) → TierFacts (getD (start (c .before) .args .t2) (c .before .loop .i - 1) blankTier)
 facts c =
     let l = c .before .loop in
     rw (own c) at (start (c .before) .pre .1 .0 (l .i - 1) (omega (arith, c .loop-test .taken, l .inv .0 .within)))
