@@ -36,3 +36,5 @@ pub mod EndReported
 pub mod Margins
 -- From the promise to the figures.
 pub mod Figured
+-- Arrays that loops fill.
+pub mod Arrays

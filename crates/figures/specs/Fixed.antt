@@ -23,6 +23,11 @@ use Rattle.figures.specs.Lashes.{lashLength}
 use Rattle.figures.specs.Ends.{End, springOf, tiersOf, lashesOf}
 use Rattle.figures.specs.Posts.{inCompression, inTension}
 
+-- the first n entries of a list are P, and those behind them blank
+pub record Filled {A : Type 0} (blank : A) (n : ℕ) (P : ℕ → A) (r : List A) : Type 0 where
+  pub each : (i : ℕ) → i < n → getD r i blank ≡ P i
+  pub rest : (i : ℕ) → n ≤ i → getD r i blank ≡ blank
+
 -- mass × A_T, and 27 × length × height where exposed
 unfoldable pub push : Tier → ℕ
 push t = t .mass * t .at

@@ -15,3 +15,12 @@ pub struct Figures {
     pub door: EndFigures,
     pub closed: EndFigures,
 }
+
+// Vertical parts of lashes on the two posts.
+pub struct PostParts {
+    pub lee: u64,
+    pub windward: u64,
+}
+
+// 1 N in 2^-18 N, the scale of lash parts, rackings and post sums.
+pub const NEWTON: u64 = 262144;

@@ -22,12 +22,15 @@ use Rattle.figures.specs.Facts.{LashFacts, Facts}
 use Rattle.figures.specs.Ends.{End, springOf, tiersOf, lashesOf}
 use Rattle.figures.specs.Reported.{EndFigured}
 use Rattle.figures.specs.Fixed.{upward, upwards, leePart, windwardPart, rackingPart, rackingFigure, momentPart, compressionFigure, tensionFigure, Computed}
-use Rattle.forces.specs.Steps.{Filled, Loaded, Weighed, total, momentOf, Measured, Levelled, Held, Pulled, Borne, Workable, EndWorked, Worked}
+use Rattle.figures.specs.Fixed.{Filled}
+use Rattle.forces.specs.Steps.{Loaded, Weighed, Workable, EndWorked, Worked}
+use Rattle.posts.specs.Steps.{total, momentOf, Measured, Levelled}
+use Rattle.gear.specs.Steps.{Held, Pulled, Borne}
 use Rattle.figures.proofs.Figured.{end-figured}
 use Rattle.figures.proofs.Inputs.{spring-least, spring-most}
 use Rattle.figures.proofs.LevelStiffness.{level-most}
-use Rattle.forces.proofs.Tallies.{tally, tally-upwards}
-use Rattle.forces.proofs.Descent.{total-peel, total-off}
+use Rattle.gear.proofs.Tallies.{tally, tally-upwards}
+use Rattle.posts.proofs.Descent.{total-peel, total-off}
 
 -- the lashes at a level or above: those at it, and those above it
 level-split : (i h x : ℕ) → cond (leb i h) x 0 ≡ cond (eqb i h) x 0 + cond (leb (suc i) h) x 0

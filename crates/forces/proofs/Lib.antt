@@ -1,10 +1,3 @@
--- The code: arrays and loops, loads, lashes, levels.
-pub mod Arrays
+-- Loads and weights, and the figures of an end put together.
 pub mod LoadLaws
-pub mod LashLaws
-pub mod Tallies
-pub mod LashLoops
-pub mod Words
-pub mod LevelLaws
-pub mod Descent
 pub mod EndLaws

@@ -10,7 +10,7 @@ use lib.Seq.{drop-cons}
 use Rattle.sheet.specs.Layout.{blankTier}
 use Rattle.sheet.specs.declared.Tier.{Tier}
 use Rattle.figures.specs.Fixed.{push, gust, levelLoad, lifted, halfWeight}
-use Rattle.forces.proofs.Arrays.{Between, between-none, fill-below}
+use Rattle.figures.proofs.Arrays.{Between, between-none, fill-below}
 
 -- a share of one tier's push and the rest of the other's
 module _ {share factor p q : ℕ} (hs : share ≤ 20) (hf : factor ≤ 1000) (hp : p ≤ 30480 * 1500) (hq : q ≤ 30480 * 1500) where

@@ -14,8 +14,6 @@ use sheet::Sheet;
 use sheet::Tier;
 
 mod loads; // loads.rt: the loads on the levels and the weights above them
-mod lashes; // lashes.rt: stiffnesses of lashes, and their forces
-mod levels; // levels.rt: rackings and posts, from the top level down
 
 // K of a tier at the door end and at the closed end, N/mm (CR Table 2-4).
 const DOOR_SPRING: u64 = 3730;
@@ -24,15 +22,6 @@ const CLOSED_SPRING: u64 = 15690;
 
 // The share of F that a tier's own top takes by the class rule, in twentieths: 0.45.
 const CLASS_SHARE: u64 = 9;
-
-// 1 N in 2^-18 N.
-const NEWTON: u64 = 262144;
-
-// Vertical parts of lashes on the two posts.
-pub struct PostParts {
-    pub lee: u64,
-    pub windward: u64,
-}
 
 // The figures of one end: n tiers with a spring for each, m lashes, and the loads and weights that both ends share.
 fn end_figures(
@@ -52,14 +41,14 @@ fn end_figures(
     let mut lengths = [0u64; 8];
     let mut stiffnesses = [0u64; 8];
     let mut kappa = [0u64; 10];
-    lashes::gear_of(lashes, m, &mut lengths, &mut stiffnesses, &mut kappa);
+    gear::gear_of(lashes, m, &mut lengths, &mut stiffnesses, &mut kappa);
     let d = springs::solve(n, k, &kappa, loads);
     let mut pull = [0u64; 8];
     let mut athwart = [0u64; 8];
     let mut vertical = [0u64; 8];
     let mut lee = [0u64; 11];
     let mut windward = [0u64; 11];
-    lashes::lash_figures(
+    gear::lash_figures(
         lashes,
         m,
         &lengths,
@@ -74,7 +63,7 @@ fn end_figures(
     let mut racking = [0i32; 10];
     let mut compression = [0u64; 11];
     let mut tension = [0u64; 10];
-    levels::level_figures(
+    posts::level_figures(
         n,
         k,
         tiers,

@@ -1,4 +1,4 @@
-// The load on each level and half of the weight above it: the same for both ends. Scales are those of specs/Fixed.antt.
+// The load on each level and half of the weight above it: the same for both ends. Scales are those of figures/specs/Fixed.
 
 ghost use mathlib.Core.Path.{_≡_};
 ghost use Prim.Native.Nat.{ℕ, _+_, _*_, _-_, _/_, _<_, _≤_, _^_};
@@ -8,8 +8,8 @@ ghost use Rattle.figures.specs.Facts.{TierFacts};
 ghost use Rattle.figures.specs.Fixed.{push, gust};
 ghost use Rattle.figures.specs.Loads.{boxLength};
 ghost use Rattle.forces.specs.Steps.{Loaded, Weighed};
-use crate::NEWTON;
 use arith::rounding::scaled;
+use figures::NEWTON;
 use sheet::Tier;
 
 // Length of a box of 20 feet and of 40 feet, mm (CR Table 2-1).
