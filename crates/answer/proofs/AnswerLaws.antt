@@ -18,9 +18,10 @@ use Rattle.figures.specs.declared.Figures.{Figures}
 use Rattle.figures.specs.Ends.{End, door, closed, lashesOf}
 use Rattle.report.specs.Findings.{Finding, findings, verdict}
 use Rattle.report.specs.Answers.{endBytes, answerBytes, findingBytes}
-use Rattle.answer.specs.Steps.{Wrote, Sized, endBytesOf, findingsBytes}
+use Rattle.findings.specs.Steps.{Wrote, Sized, findingsBytes}
+use Rattle.answer.specs.Steps.{endBytesOf}
 use Rattle.report.proofs.ReadBack.{bytes-length}
-use Rattle.answer.proofs.Stores.{then, in-front}
+use Rattle.findings.proofs.Stores.{then, in-front}
 
 -- an end's bytes, by its counts
 pub end-is : (t : Sheet) (e : End) (f : EndFigures) (m : ℕ) → length (lashesOf e t) ≡ m → endBytes t e f ≡ endBytesOf (t .ntiers) m f

@@ -25,7 +25,7 @@ use Rattle.report.specs.declared.Outcome.the-variants as O
 use Rattle.report.specs.Findings.{figuresOf}
 use Rattle.report.specs.Answers.{answerBytes}
 use Rattle.report.specs.Checked.{OneSolution, Answered, CheckedAs, Checked, kept, demanded}
-use Rattle.answer.specs.Steps.{Sized}
+use Rattle.findings.specs.Steps.{Sized}
 use Rattle.answer.proofs.AnswerLaws.{sized}
 
 -- by the refusal that document 01 gives

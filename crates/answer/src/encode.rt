@@ -10,13 +10,14 @@ ghost use lib.ListN.{length, getD, drop};
 ghost use Rattle.arith.specs.Bytes.{bytes4, twos};
 ghost use Rattle.figures.specs.Reported.{Fitting};
 ghost use Rattle.report.specs.Answers.{counted, answerBytes};
-ghost use Rattle.answer.specs.Steps.{Wrote, Sized, lashBytes, endBytesOf};
-use crate::findings::write_findings;
+ghost use Rattle.findings.specs.Steps.{Wrote, Sized};
+ghost use Rattle.answer.specs.Steps.{lashBytes, endBytesOf};
 use arith::bytes::write_signed;
 use arith::bytes::write1;
 use arith::bytes::write4;
 use figures::EndFigures;
 use figures::Figures;
+use findings::write_findings;
 use sheet::Sheet;
 
 // The longest answer, in bytes.

@@ -1,8 +1,6 @@
 // The check: bytes of a stack sheet in, bytes of an answer out.
 
 mod encode; // encode.rt: the answer's bytes
-mod findings; // findings.rt: where a reported size exceeds its limit
-mod limits; // limits.rt: permissible loads
 
 ghost use Rattle.report.specs.Checked.{Checked, demanded, kept};
 use report::Outcome;

@@ -3,7 +3,7 @@ use mathlib.Core.Path.{_∙_}
 use Prim.Native.Nat.{_≤_}
 use native.Mathlib.Nat.{zero-add, le-trans}
 use native.Mathlib.Omega.{arith}
-use Rattle.answer.proofs.Stores.{from-start}
+use Rattle.findings.proofs.Stores.{from-start}
 use Rattle.answer.proofs.AnswerLaws.{whole}
 use borrow.Author.Needs.{needs}
 use Rattle.answer.proofs.encode.write_answer.Statement.{statement}

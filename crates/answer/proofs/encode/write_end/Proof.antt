@@ -1,7 +1,7 @@
 -- `answer::encode::write_end` writes the four sections one behind another.
 use native.Mathlib.Omega.{arith}
 use Rattle.answer.specs.Steps.{endBytesOf}
-use Rattle.answer.proofs.Stores.{then}
+use Rattle.findings.proofs.Stores.{then}
 use borrow.Author.Needs.{needs}
 use Rattle.answer.proofs.encode.write_end.Statement.{statement}
 use Rattle.answer.proofs.encode.write_end.Tie as tie

@@ -6,8 +6,8 @@ use native.Mathlib.Omega.{arith}
 use lib.ListN.{getD}
 use Rattle.arith.specs.Bytes.{bytes4}
 use Rattle.report.specs.Answers.{below}
-use Rattle.answer.specs.Steps.{Wrote}
-use Rattle.answer.proofs.Stores.{run, entries-none, entries-more, counted-all}
+use Rattle.findings.specs.Steps.{Wrote}
+use Rattle.findings.proofs.Stores.{run, entries-none, entries-more, counted-all}
 use borrow.Author.Needs.{needs}
 use Rattle.answer.proofs.encode.write_figures.Statement.{statement}
 use Rattle.answer.proofs.encode.write_figures.Tie as tie

@@ -5,8 +5,9 @@ use mathlib.Core.List.{flatMap}
 use native.Mathlib.Omega.{arith}
 use lib.ListN.{getD}
 use Rattle.report.specs.Answers.{below}
-use Rattle.answer.specs.Steps.{Wrote, lashBytes}
-use Rattle.answer.proofs.Stores.{entries-none, entries-more, counted-all}
+use Rattle.findings.specs.Steps.{Wrote}
+use Rattle.answer.specs.Steps.{lashBytes}
+use Rattle.findings.proofs.Stores.{entries-none, entries-more, counted-all}
 use borrow.Author.Needs.{needs}
 use Rattle.answer.proofs.encode.write_lashes.Statement.{statement}
 use Rattle.answer.proofs.encode.write_lashes.Tie as tie

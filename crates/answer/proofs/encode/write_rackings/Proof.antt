@@ -10,8 +10,8 @@ use mir.Val.{SFits}
 use mir.ValLaws.{toZ-ofZ}
 use Rattle.arith.specs.Bytes.{bytes4, twos}
 use Rattle.report.specs.Answers.{below}
-use Rattle.answer.specs.Steps.{Wrote}
-use Rattle.answer.proofs.Stores.{run, entries-none, entries-more, counted-all}
+use Rattle.findings.specs.Steps.{Wrote}
+use Rattle.findings.proofs.Stores.{run, entries-none, entries-more, counted-all}
 use borrow.Author.Needs.{needs}
 use Rattle.answer.proofs.encode.write_rackings.Statement.{statement}
 use Rattle.answer.proofs.encode.write_rackings.Tie as tie
