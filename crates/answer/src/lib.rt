@@ -11,7 +11,7 @@ pub fn check(sheet: &[u8], answer: &mut [u8]) -> Outcome
     ensures within { λ r. ⌜ Checked kept (now (sheet .entry)) (now (answer .entry)) (now (answer .exit)) r ⌝ }
     ensures asked { λ r. ⌜ Checked demanded (now (sheet .entry)) (now (answer .entry)) (now (answer .exit)) r ⌝ }
 {
-    let decoded = sheet::decode(sheet);
+    let decoded = decoder::decode(sheet);
     let reading = decoded.reading;
     match reading {
         Reading::Refused(number, second) => Outcome::Refused(number, second),

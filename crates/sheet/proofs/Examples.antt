@@ -66,8 +66,9 @@ s gives r = record { sheet = s; room = 834; answer = r }
 
 abbrev cases : List Case
 cases =
-    -- empty; a spare byte; 10 and 11 tiers
+    -- empty; cut off within tier 1, told by the length and not by the tier's place; a spare byte; 10 and 11 tiers
     ([] gives Refused 1 0)
+    ∷ (head ++ (1 ∷ 40 ∷ []) gives Refused 1 10)
     ∷ (head ++ stack 1 ++ bares ++ (7 ∷ []) gives Refused 2 23)
     ∷ (head ++ stack 10 ++ bares gives Taken)
     ∷ (head ++ stack 11 ++ bares gives Refused 6 8)

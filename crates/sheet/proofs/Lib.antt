@@ -8,11 +8,11 @@ pub mod FirstBytes
 pub mod Numbers
 pub mod RoundTrip
 pub mod WrittenBytes
--- What they and the functions' proofs rest on.
+-- What they and the decoder's proofs rest on.
 pub mod Rows
+pub mod Items
+pub mod Arrays
+pub mod Clear
 mod Bools
-mod Items
-mod Arrays
-mod Clear
 mod ReadBack
 mod Examples

@@ -1,12 +1,9 @@
-// A stack sheet: what its bytes hold, or why it is turned back. Entries of the arrays are counted from 0, bottom tier first.
-
-mod fields; // fields.rt: the fields and entries of a sheet, read from its bytes
-mod tests; // tests.rt: the tests of a sheet's items, in the order of reading
+// A stack sheet: what it holds, or why it is turned back; `decoder` reads one from its bytes. Entries of the arrays are counted
+// from 0, bottom tier first.
 
 ghost use mathlib.Core.Path.{_≡_};
 ghost use Prim.Native.Nat.{_<_, _≤_};
 ghost use Rattle.sheet.specs.Lashings.{lashingOf};
-ghost use Rattle.sheet.specs.Refusals.{decoded};
 ghost use Rattle.sheet.specs.Routes.{routePercent};
 
 // Fields have the widths of the sheet's own fields, so that a sheet is cheap to copy.
@@ -74,23 +71,6 @@ pub struct Decoded {
 pub enum Lashing {
     Cross(Lash),
     Side(Lash),
-}
-
-// The sheet that the bytes hold, or a blank one with the first fault.
-pub fn decode(s: &[u8]) -> Decoded
-    ensures { λ r. ⌜ r ≡ decoded (now (s .entry)) ⌝ }
-{
-    let reading = tests::test_sheet(s);
-    match reading {
-        Reading::Taken => Decoded {
-            reading: Reading::Taken,
-            sheet: fields::sheet_of(s),
-        },
-        Reading::Refused(number, second) => Decoded {
-            reading: Reading::Refused(number, second),
-            sheet: fields::blank_sheet(),
-        },
-    }
 }
 
 pub fn lashing_of(l: Lash) -> Lashing

@@ -1,0 +1,12 @@
+-- `decoder::tests::tier_fits`: the test of a tier's fields is the definition's.
+use mathlib.Core.Path.{refl}
+use Rattle.sheet.specs.Layout.{tierFits}
+use Rattle.decoder.proofs.tests.tier_fits.Statement.{statement}
+use Rattle.decoder.proofs.tests.tier_fits.Tie as tie
+
+returns : tie.Need-returns
+unfolding tierFits
+returns c = refl
+
+pub tier-fits-spec : {M : Type 1} → statement M
+tier-fits-spec = tie.close (tie.spec returns)
