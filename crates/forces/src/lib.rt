@@ -43,39 +43,14 @@ fn end_figures(
     let mut kappa = [0u64; 10];
     gear::gear_of(lashes, m, &mut lengths, &mut stiffnesses, &mut kappa);
     let d = springs::solve(n, k, &kappa, loads);
-    let mut pull = [0u64; 8];
-    let mut athwart = [0u64; 8];
-    let mut vertical = [0u64; 8];
-    let mut lee = [0u64; 11];
-    let mut windward = [0u64; 11];
-    gear::lash_figures(
-        lashes,
-        m,
-        &lengths,
-        &stiffnesses,
-        &d,
-        &mut pull,
-        &mut athwart,
-        &mut vertical,
-        &mut lee,
-        &mut windward,
-    );
-    let mut racking = [0i32; 10];
-    let mut compression = [0u64; 11];
-    let mut tension = [0u64; 10];
-    posts::level_figures(
-        n,
-        k,
-        tiers,
-        &d,
-        most,
-        least,
-        &lee,
-        &windward,
-        &mut racking,
-        &mut compression,
-        &mut tension,
-    );
+    let pulls = gear::lash_figures(lashes, m, &lengths, &stiffnesses, &d);
+    let levels = posts::level_figures(n, k, tiers, &d, most, least, &pulls.lee, &pulls.windward);
+    let racking = levels.racking;
+    let compression = levels.compression;
+    let tension = levels.tension;
+    let pull = pulls.pull;
+    let athwart = pulls.athwart;
+    let vertical = pulls.vertical;
     EndFigures {
         racking,
         compression,

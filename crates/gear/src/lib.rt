@@ -154,6 +154,15 @@ fn on_posts(l: Lashing, upward: u64) -> PostParts
     }
 }
 
+// The figures of an end's lashes, and the vertical parts on each post at levels 0 to 10.
+pub struct Pulls {
+    pub pull: [u64; 8],
+    pub athwart: [u64; 8],
+    pub vertical: [u64; 8],
+    pub lee: [u64; 11],
+    pub windward: [u64; 11],
+}
+
 // The figures of an end's lashes, and the sums of the vertical parts by level on each post.
 pub fn lash_figures(
     lashes: [Lash; 8],
@@ -161,19 +170,18 @@ pub fn lash_figures(
     lengths: &[u64],
     stiffnesses: &[u64],
     d: &[u64],
-    pull: &mut [u64],
-    athwart: &mut [u64],
-    vertical: &mut [u64],
-    lee: &mut [u64],
-    windward: &mut [u64],
-)
+) -> Pulls
     requires { ⌜ (m ≤ 8) × ((j : ℕ) → j < m → LashFacts 10 (getD (take m lashes) j blankLash)) ⌝ }
     requires { ⌜ Geared m (take m lashes) (now lengths) (now stiffnesses) × ((i : ℕ) → getD (now d) i 0 ≤ 2 ^ 40) ⌝ }
     requires { ⌜ (length (now lengths) ≡ 8) × (length (now stiffnesses) ≡ 8) × (length (now d) ≡ 11) ⌝ }
-    requires { ⌜ (now pull ≡ replicate 8 0) × (now athwart ≡ replicate 8 0) × (now vertical ≡ replicate 8 0) × (now lee ≡ replicate 11 0) × (now windward ≡ replicate 11 0) ⌝ }
-    ensures { λ _. ⌜ Pulled m (take m lashes) (now (d .entry)) (now (pull .exit)) (now (athwart .exit)) (now (vertical .exit)) ⌝ }
-    ensures { λ _. ⌜ Borne leePart (take m lashes) (now (d .entry)) (now (lee .exit)) × Borne windwardPart (take m lashes) (now (d .entry)) (now (windward .exit)) ⌝ }
+    ensures { λ r. ⌜ Pulled m (take m lashes) (now (d .entry)) (r .pull) (r .athwart) (r .vertical) ⌝ }
+    ensures { λ r. ⌜ Borne leePart (take m lashes) (now (d .entry)) (r .lee) × Borne windwardPart (take m lashes) (now (d .entry)) (r .windward) ⌝ }
 {
+    let mut pull = [0u64; 8];
+    let mut athwart = [0u64; 8];
+    let mut vertical = [0u64; 8];
+    let mut lee = [0u64; 11];
+    let mut windward = [0u64; 11];
     let mut j = 0;
     while j < m {
         let l = lashes[j];
@@ -186,5 +194,12 @@ pub fn lash_figures(
         lee[at] = lee[at] + u.lee;
         windward[at] = windward[at] + u.windward;
         j += 1;
+    }
+    Pulls {
+        pull,
+        athwart,
+        vertical,
+        lee,
+        windward,
     }
 }

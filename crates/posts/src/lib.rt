@@ -3,7 +3,7 @@
 ghost use mathlib.Core.Path.{_≡_};
 ghost use Prim.Native.Nat.{_+_, _*_, _≤_, _^_, max};
 ghost use lib.IntN.{pos, natAbs, negℤ, _+ℤ_, _-ℤ_, _*ℤ_};
-ghost use lib.ListN.{length, take, replicate};
+ghost use lib.ListN.{length, take};
 ghost use lib.Signed.{quotZ};
 ghost use Rattle.arith.specs.Sizes.{Small};
 ghost use Rattle.figures.specs.Fixed.{rackingFigure, postFigure, notBelow};
@@ -178,25 +178,31 @@ fn level_under(above: Above, part: i64, height: u16, own: PostParts, most: u64, 
     }
 }
 
+// Of each level: racking of the tier over it, compression and tension.
+pub struct LevelFigures {
+    pub racking: [i32; 10],
+    pub compression: [u64; 11],
+    pub tension: [u64; 10],
+}
+
 // The figures of all levels and tiers, with the sums of what stands above carried down.
-pub fn level_figures(
+pub fn level_figures<'a>(
     n: usize,
     k: &[u64],
     tiers: [Tier; 10],
     d: &[u64],
     most: &[u64],
     least: &[u64],
-    lee: &[u64],
-    windward: &[u64],
-    racking: &mut [i32],
-    compression: &mut [u64],
-    tension: &mut [u64],
-)
+    lee: &'a [u64],
+    windward: &'a [u64],
+) -> LevelFigures
     requires { ⌜ Measured n (now k) (take n tiers) (now d) (now most) (now least) (now lee) (now windward) ⌝ }
     requires { ⌜ (length (now k) ≡ 10) × (length (now d) ≡ 11) × (length (now most) ≡ 11) × (length (now least) ≡ 11) ⌝ }
-    requires { ⌜ (now racking ≡ replicate 10 (pos 0)) × (now compression ≡ replicate 11 0) × (now tension ≡ replicate 10 0) ⌝ }
-    ensures { λ _. ⌜ Levelled n (now (k .entry)) (take n tiers) (now (d .entry)) (now (most .entry)) (now (least .entry)) (now (lee .entry)) (now (windward .entry)) (now (racking .exit)) (now (compression .exit)) (now (tension .exit)) ⌝ }
+    ensures { λ r. ⌜ Levelled n (now (k .entry)) (take n tiers) (now (d .entry)) (now (most .entry)) (now (least .entry)) (now (lee .entry)) (now (windward .entry)) (r .racking) (r .compression) (r .tension) ⌝ }
 {
+    let mut racking = [0i32; 10];
+    let mut compression = [0u64; 11];
+    let mut tension = [0u64; 10];
     let top = parts_of(lee[n], windward[n]);
     compression[n] = compression_of(most[n], 0, top);
     let mut above = Above {
@@ -215,5 +221,10 @@ pub fn level_figures(
         compression[i] = l.compression;
         tension[i] = l.tension;
         above = l.above;
+    }
+    LevelFigures {
+        racking,
+        compression,
+        tension,
     }
 }

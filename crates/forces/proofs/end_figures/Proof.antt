@@ -16,10 +16,10 @@ abbrev geared : tie.After-solve → tie.After-gear-of
 geared c = c .before .before .before .before .before
 
 abbrev solved : tie.After-lash-figures → tie.After-solve
-solved c = c .before .before .before .before .before .before .before .before .before
+solved c = c .before .before .before .before
 
 abbrev pulled : tie.After-level-figures → tie.After-lash-figures
-pulled c = c .before .before .before .before .before .before .before .before .before .before .before .before
+pulled c = c .before .before .before .before .before .before .before
 
 counted : (c : tie.Start) → length (take (c .args .m) (c .args .lashes)) ≡ c .args .m
 counted c = length-take-le (c .args .m) (c .args .lashes) (omega (arith, c .pre .0 .few-lashes, c .good .1 .1 .1 .0 .1 .0 .1))
@@ -57,62 +57,32 @@ slice-aggregate-lash-figures-2 c = search needs
 slice-aggregate-lash-figures-3 : tie.Need-slice-aggregate-lash-figures-3
 slice-aggregate-lash-figures-3 c = search needs
 
-slice-aggregate-lash-figures-4 : tie.Need-slice-aggregate-lash-figures-4
-slice-aggregate-lash-figures-4 c = search needs
-
-slice-aggregate-lash-figures-5 : tie.Need-slice-aggregate-lash-figures-5
-slice-aggregate-lash-figures-5 c = search needs
-
-slice-aggregate-lash-figures-6 : tie.Need-slice-aggregate-lash-figures-6
-slice-aggregate-lash-figures-6 c = search needs
-
-slice-aggregate-lash-figures-7 : tie.Need-slice-aggregate-lash-figures-7
-slice-aggregate-lash-figures-7 c = search needs
-
-slice-aggregate-lash-figures-8 : tie.Need-slice-aggregate-lash-figures-8
-slice-aggregate-lash-figures-8 c = search needs
-
 lash-figures-requires : tie.Need-lash-figures-requires
 lash-figures-requires c κs =
-    let s = c .before .before .before .before .before .before .before .before in
+    let s = c .before .before .before in
     let g = geared s in
     let b = entered g in
     let long = g .gear-of .kept .1 .1 in (
       (b .pre .0 .few-lashes, each-ten (b .pre .0) (counted b)),
-      ((g .gear-of .ensures .0, s .solve .ensures .far), ((long .0, long .1 .0, s .solve .ok .1 .0 .1), (refl, refl, refl, refl, refl))),
+      ((g .gear-of .ensures .0, s .solve .ensures .far), (long .0, long .1 .0, s .solve .ok .1 .0 .1)),
     )
 
 slice-aggregate-level-figures : tie.Need-slice-aggregate-level-figures
 slice-aggregate-level-figures c = search needs
 
-slice-aggregate-level-figures-2 : tie.Need-slice-aggregate-level-figures-2
-slice-aggregate-level-figures-2 c = search needs
-
-slice-aggregate-level-figures-3 : tie.Need-slice-aggregate-level-figures-3
-slice-aggregate-level-figures-3 c = search needs
-
-slice-aggregate-level-figures-4 : tie.Need-slice-aggregate-level-figures-4
-slice-aggregate-level-figures-4 c = search needs
-
-slice-aggregate-level-figures-5 : tie.Need-slice-aggregate-level-figures-5
-slice-aggregate-level-figures-5 c = search needs
-
-slice-aggregate-level-figures-6 : tie.Need-slice-aggregate-level-figures-6
-slice-aggregate-level-figures-6 c = search needs
-
 level-figures-requires : tie.Need-level-figures-requires
 level-figures-requires c κs =
-    let p = c .before .before .before .before .before .before .before .before .before .before .before in
+    let p = c .before .before .before .before .before .before in
     let s = solved p in
     let b = entered (geared s) in
     let posts = p .lash-figures .ensures .1 in (
       end-measured (b .pre .0) (counted b) (s .solve .ensures) (posts .0) (posts .1),
-      ((b .pre .1 .0, s .solve .ok .1 .0 .1, b .pre .1 .2, b .pre .1 .3), (refl, refl, refl)),
+      (b .pre .1 .0, s .solve .ok .1 .0 .1, b .pre .1 .2, b .pre .1 .3),
     )
 
 returns : tie.Need-returns
 returns c =
-    let v = c .before .before .before in
+    let v = c .before .before .before .before .before .before in
     let p = pulled v in
     let s = solved p in
     let g = geared s in
@@ -133,17 +103,7 @@ end-figures-spec =
     slice-aggregate-lash-figures
     slice-aggregate-lash-figures-2
     slice-aggregate-lash-figures-3
-    slice-aggregate-lash-figures-4
-    slice-aggregate-lash-figures-5
-    slice-aggregate-lash-figures-6
-    slice-aggregate-lash-figures-7
-    slice-aggregate-lash-figures-8
     lash-figures-requires
     slice-aggregate-level-figures
-    slice-aggregate-level-figures-2
-    slice-aggregate-level-figures-3
-    slice-aggregate-level-figures-4
-    slice-aggregate-level-figures-5
-    slice-aggregate-level-figures-6
     level-figures-requires
     returns)

@@ -5,19 +5,19 @@ use native.Mathlib.Numerals.{add-one}
 use native.Mathlib.Omega.{arith}
 use lib.ListN.{getD, take}
 use lib.Seq.{getD-take}
-use Rattle.sheet.specs.Layout.{blankLash}
 use Rattle.figures.specs.Facts.{LashFacts}
 use Rattle.figures.specs.Fixed.{leePart, windwardPart}
+use Rattle.sheet.specs.Layout.{blankLash}
 use Rattle.gear.proofs.LashLoops.{Listed, listed, Strained, strained-none, post-fits, strained-more, strained-all, lee-kept, windward-kept}
 use Rattle.gear.proofs.lash_figures.Statement.{statement}
 use Rattle.gear.proofs.lash_figures.Tie as tie
 
 abbrev Inv-loop : tie.InvT-loop
-Inv-loop m lengths stiffnesses d pull₀ athwart₀ vertical₀ lee₀ windward₀ lashes j₀ pull athwart vertical lee windward j =
+Inv-loop m lengths stiffnesses d lashes pull₀ athwart₀ vertical₀ lee₀ windward₀ j₀ pull athwart vertical lee windward j =
     Strained m (take m lashes) d pull athwart vertical lee windward j
 
 abbrev μ-loop : tie.MeasureT-loop
-μ-loop m lengths stiffnesses d pull₀ athwart₀ vertical₀ lee₀ windward₀ lashes j₀ pull athwart vertical lee windward j =
+μ-loop m lengths stiffnesses d lashes pull₀ athwart₀ vertical₀ lee₀ windward₀ j₀ pull athwart vertical lee windward j =
     m - j
 
 lashes-of : (c : tie.Start Inv-loop μ-loop) → Listed (c .args .m) (take (c .args .m) (c .args .t1))
@@ -25,7 +25,7 @@ lashes-of c = listed (c .args .t1) (c .good .0 .1 .0 .1) (c .pre .0)
 
 -- where the loop is entered from
 abbrev start : tie.At-loop Inv-loop μ-loop → tie.Start Inv-loop μ-loop
-start c = c .before .before .before .before .before .before .before .before .before
+start c = c .before .before .before .before
 
 own :
     (c : tie.In-loop Inv-loop μ-loop) →
@@ -39,9 +39,7 @@ lash-facts : (c : tie.In-loop Inv-loop μ-loop) → LashFacts 10 (getD (start (c
 lash-facts c = rw (own c) at (start (c .before) .pre .0 .1 (c .before .loop .j) (c .loop-test .taken))
 
 loop-holds : tie.Need-loop-holds Inv-loop μ-loop
-loop-holds c =
-    let p = c .before .before .before .before .before .before .before .before .pre .1 .1 .1 in
-    rw (p .0, p .1, p .2, p .3, p .4) strained-none
+loop-holds c = strained-none
 
 mul-l : tie.Need-mul-l Inv-loop μ-loop
 mul-l c = search needs
@@ -92,30 +90,30 @@ on-posts-requires c κs = search needs
 mul-pull : tie.Need-mul-pull Inv-loop μ-loop
 mul-pull c = search needs
 
-slice-write-pull : tie.Need-slice-write-pull Inv-loop μ-loop
-slice-write-pull c = search needs
+array-write-pull : tie.Need-array-write-pull Inv-loop μ-loop
+array-write-pull c = search needs
 
 mul-athwart : tie.Need-mul-athwart Inv-loop μ-loop
 mul-athwart c = search needs
 
-slice-write-athwart : tie.Need-slice-write-athwart Inv-loop μ-loop
-slice-write-athwart c = search needs
+array-write-athwart : tie.Need-array-write-athwart Inv-loop μ-loop
+array-write-athwart c = search needs
 
 mul-vertical : tie.Need-mul-vertical Inv-loop μ-loop
 mul-vertical c = search needs
 
-slice-write-vertical : tie.Need-slice-write-vertical Inv-loop μ-loop
-slice-write-vertical c = search needs
+array-write-vertical : tie.Need-array-write-vertical Inv-loop μ-loop
+array-write-vertical c = search needs
 
 mul-lee : tie.Need-mul-lee Inv-loop μ-loop
 mul-lee c = search needs
 
-slice-read-lee : tie.Need-slice-read-lee Inv-loop μ-loop
-slice-read-lee c = search needs
+array-read-lee : tie.Need-array-read-lee Inv-loop μ-loop
+array-read-lee c = search needs
 
 add-lee : tie.Need-add-lee Inv-loop μ-loop
 add-lee c =
-    let o = c .before .before in
+    let o = c .before in
     let q = o .before .before in
     let k = q .before .before .before .before in
     let t = k .before .before in
@@ -129,18 +127,18 @@ add-lee c =
 mul-lee-2 : tie.Need-mul-lee-2 Inv-loop μ-loop
 mul-lee-2 c = search needs
 
-slice-write-lee : tie.Need-slice-write-lee Inv-loop μ-loop
-slice-write-lee c = search needs
+array-write-lee : tie.Need-array-write-lee Inv-loop μ-loop
+array-write-lee c = search needs
 
 mul-windward : tie.Need-mul-windward Inv-loop μ-loop
 mul-windward c = search needs
 
-slice-read-windward : tie.Need-slice-read-windward Inv-loop μ-loop
-slice-read-windward c = search needs
+array-read-windward : tie.Need-array-read-windward Inv-loop μ-loop
+array-read-windward c = search needs
 
 add-windward : tie.Need-add-windward Inv-loop μ-loop
 add-windward c =
-    let o = c .before .before .before .before in
+    let o = c .before .before in
     let q = o .before .before in
     let k = q .before .before .before .before in
     let t = k .before .before in
@@ -154,8 +152,8 @@ add-windward c =
 mul-windward-2 : tie.Need-mul-windward-2 Inv-loop μ-loop
 mul-windward-2 c = search needs
 
-slice-write-windward : tie.Need-slice-write-windward Inv-loop μ-loop
-slice-write-windward c = search needs
+array-write-windward : tie.Need-array-write-windward Inv-loop μ-loop
+array-write-windward c = search needs
 
 add-j : tie.Need-add-j Inv-loop μ-loop
 add-j c = search needs
@@ -165,7 +163,7 @@ loop-less c = search needs
 
 loop-again : tie.Need-loop-again Inv-loop μ-loop
 loop-again c =
-    let o = c .before .before .before .before in
+    let o = c .before .before in
     let q = o .before .before in
     let k = q .before .before .before .before in
     let t = k .before .before in
@@ -176,21 +174,6 @@ loop-again c =
     let r = q .pull-of .ensures in
     rw (add-one (l .j), e .0, e .1, g)
     (strained-more (lashes-of b) (b .pre .1 .0 .1) (l .inv) (t .loop-test .taken) (own t) (k .hook-level .ensures .0) (q .pull-of .ensures .1 .1 .1 .0) (omega (arith, k .hook-level .ensures .2)) (r .0) (r .1 .0) (r .1 .1 .0))
-
-same-length : tie.Need-same-length Inv-loop μ-loop
-same-length c = search needs
-
-same-length-2 : tie.Need-same-length-2 Inv-loop μ-loop
-same-length-2 c = search needs
-
-same-length-3 : tie.Need-same-length-3 Inv-loop μ-loop
-same-length-3 c = search needs
-
-same-length-4 : tie.Need-same-length-4 Inv-loop μ-loop
-same-length-4 c = search needs
-
-same-length-5 : tie.Need-same-length-5 Inv-loop μ-loop
-same-length-5 c = search needs
 
 returns : tie.Need-returns Inv-loop μ-loop
 returns c =
@@ -218,27 +201,22 @@ lash-figures-spec =
     lashing-of-requires
     on-posts-requires
     mul-pull
-    slice-write-pull
+    array-write-pull
     mul-athwart
-    slice-write-athwart
+    array-write-athwart
     mul-vertical
-    slice-write-vertical
+    array-write-vertical
     mul-lee
-    slice-read-lee
+    array-read-lee
     add-lee
     mul-lee-2
-    slice-write-lee
+    array-write-lee
     mul-windward
-    slice-read-windward
+    array-read-windward
     add-windward
     mul-windward-2
-    slice-write-windward
+    array-write-windward
     add-j
     loop-less
     loop-again
-    same-length
-    same-length-2
-    same-length-3
-    same-length-4
-    same-length-5
     returns)

@@ -1,15 +1,15 @@
 use borrow.Author.Needs.{needs}
 use Prim.Native.Nat.{_<_, _-_}
-use mathlib.Core.Path.{_≡_, refl, sym, ap, _∙_}
+use mathlib.Core.Path.{_≡_, sym, ap, _∙_}
 use native.Mathlib.Omega.{arith}
 use lib.Dec.{lit<, lit≤}
 use lib.ListN.{length, take}
 use lib.Seq.{getD-take, length-take-le}
 use mir.Syntax.{w32}
 use mir.ValLaws.{toZ-ofZ}
-use Rattle.sheet.specs.Layout.{blankTier}
 use Rattle.arith.proofs.Sizes.{small-pos, small-weaken}
 use Rattle.sheet.specs.declared.Tier.{Tier}
+use Rattle.sheet.specs.Layout.{blankTier}
 use Rattle.figures.specs.Fixed.{leeFound, windwardFound}
 use Rattle.posts.proofs.Descent.{Descended, at-top, turned-once, at-foot}
 use Rattle.posts.proofs.Words.{held}
@@ -17,27 +17,16 @@ use Rattle.posts.proofs.level_figures.Statement.{statement}
 use Rattle.posts.proofs.level_figures.Tie as tie
 
 abbrev Inv-loop : tie.InvT-loop
-Inv-loop n k d most least lee windward racking₀ compression₀ tension₀ tiers above₀ i₀ racking compression tension above i =
+Inv-loop n k d most least lee windward tiers racking₀ compression₀ tension₀ above₀ i₀ racking compression tension above i =
     Descended n k (take n tiers) d most least lee windward racking compression tension (above .moment) (above .parts .lee) (above .parts .windward) i
 
 abbrev μ-loop : tie.MeasureT-loop
-μ-loop n k d most least lee windward racking₀ compression₀ tension₀ tiers above₀ i₀ racking compression tension above i =
+μ-loop n k d most least lee windward tiers racking₀ compression₀ tension₀ above₀ i₀ racking compression tension above i =
     i
 
 -- where the loop is entered from
 abbrev start : tie.At-loop Inv-loop μ-loop → tie.Start Inv-loop μ-loop
-start c = c .before .before .before .before .before .before .before .before .before .before .before .before .before .before
-
--- the figures' lengths
-module _ (c : tie.Start Inv-loop μ-loop) where
-  racking-long : length (c .args .racking .now) ≡ 10
-  racking-long = rw (c .pre .1 .1 .0) refl
-
-  compression-long : length (c .args .compression .now) ≡ 11
-  compression-long = rw (c .pre .1 .1 .1) refl
-
-  tension-long : length (c .args .tension .now) ≡ 10
-  tension-long = rw (c .pre .1 .1 .2) refl
+start c = c .before .before .before .before .before .before .before .before .before .before .before .before
 
 -- the level under a tier of the stack
 under : (c : tie.In-loop Inv-loop μ-loop) → c .before .loop .i - 1 < start (c .before) .args .n
@@ -75,7 +64,7 @@ shared-slice-read-compression-of c = search needs
 
 compression-of-requires : tie.Need-compression-of-requires Inv-loop μ-loop
 compression-of-requires c κs =
-    let b = c .before .before .before .before .before .before .before .before .before .before .before .before in
+    let b = c .before .before .before .before .before .before .before .before .before .before in
     let n = b .args .n in
     let e = c .before .parts-of .ensures in
     let m = b .pre .0 in
@@ -84,19 +73,16 @@ compression-of-requires c κs =
 mul-compression : tie.Need-mul-compression Inv-loop μ-loop
 mul-compression c = search needs
 
-slice-write-compression : tie.Need-slice-write-compression Inv-loop μ-loop
-slice-write-compression c =
-    let b = c .before .before .before .before .before .before .before .before .before .before .before .before .before in
-    search (needs, compression-long b, b .pre .0 .few)
+array-write-compression : tie.Need-array-write-compression Inv-loop μ-loop
+array-write-compression c = search needs
 
 loop-holds : tie.Need-loop-holds Inv-loop μ-loop
 unfolding leeFound windwardFound
 loop-holds c =
     let p = c .before .before in
-    let b = p .before .before .before .before .before .before .before .before .before .before .before in
+    let b = p .before .before .before .before .before .before .before .before .before in
     let e = p .parts-of .ensures in
-    let z = b .pre .1 .1 in
-    rw (z .0, z .1, z .2, e .0, e .1) (at-top (b .pre .0) (stacked b) (simp (e .0, e .1) at (c .compression-of .ensures)))
+    rw (e .0, e .1) (at-top (b .pre .0) (stacked b) (simp (e .0, e .1) at (c .compression-of .ensures)))
 
 mul-upper : tie.Need-mul-upper Inv-loop μ-loop
 mul-upper c = search needs
@@ -151,19 +137,13 @@ mul-level-under : tie.Need-mul-level-under Inv-loop μ-loop
 mul-level-under c = search needs
 
 shared-slice-read-level-under : tie.Need-shared-slice-read-level-under Inv-loop μ-loop
-shared-slice-read-level-under c =
-    let t = c .before .before .before .before .before .before .before .before .before in
-    let b = start (t .before) in
-    search (needs, under t, b .pre .0 .few, b .pre .1 .0 .2)
+shared-slice-read-level-under c = search needs
 
 mul-level-under-2 : tie.Need-mul-level-under-2 Inv-loop μ-loop
 mul-level-under-2 c = search needs
 
 shared-slice-read-level-under-2 : tie.Need-shared-slice-read-level-under-2 Inv-loop μ-loop
-shared-slice-read-level-under-2 c =
-    let t = c .before .before .before .before .before .before .before .before .before .before in
-    let b = start (t .before) in
-    search (needs, under t, b .pre .0 .few, b .pre .1 .0 .3)
+shared-slice-read-level-under-2 c = search needs
 
 level-under-requires : tie.Need-level-under-requires Inv-loop μ-loop
 level-under-requires c κs =
@@ -189,23 +169,23 @@ racking-figure-requires c κs =
     let p = c .before .before .before .before .before .before .racking-part .ensures .1 in
     rw (held p (lit< tt)) p
 
-mul-t30 : tie.Need-mul-t30 Inv-loop μ-loop
-mul-t30 c = search (needs, room c)
+mul-racking : tie.Need-mul-racking Inv-loop μ-loop
+mul-racking c = search (needs, room c)
 
-slice-set-from-racking : tie.Need-slice-set-from-racking Inv-loop μ-loop
-slice-set-from-racking c = search (needs, room c)
+array-set-from-racking : tie.Need-array-set-from-racking Inv-loop μ-loop
+array-set-from-racking c = search (needs, room c)
 
 mul-compression-2 : tie.Need-mul-compression-2 Inv-loop μ-loop
 mul-compression-2 c = search (needs, room c)
 
-slice-write-compression-2 : tie.Need-slice-write-compression-2 Inv-loop μ-loop
-slice-write-compression-2 c = search (needs, room c)
+array-write-compression-2 : tie.Need-array-write-compression-2 Inv-loop μ-loop
+array-write-compression-2 c = search (needs, room c)
 
 mul-tension : tie.Need-mul-tension Inv-loop μ-loop
 mul-tension c = search (needs, room c)
 
-slice-write-tension : tie.Need-slice-write-tension Inv-loop μ-loop
-slice-write-tension c = search (needs, room c)
+array-write-tension : tie.Need-array-write-tension Inv-loop μ-loop
+array-write-tension c = search (needs, room c)
 
 loop-less : tie.Need-loop-less Inv-loop μ-loop
 loop-less c = search needs
@@ -238,15 +218,6 @@ loop-again c =
     (e .1 .1 .0)
     (e .1 .1 .1)
 
-same-length : tie.Need-same-length Inv-loop μ-loop
-same-length c = search (needs, c .before .loop .inv .racked .long, racking-long (start (c .before)))
-
-same-length-2 : tie.Need-same-length-2 Inv-loop μ-loop
-same-length-2 c = search (needs, c .before .loop .inv .pressed .long, compression-long (start (c .before)))
-
-same-length-3 : tie.Need-same-length-3 Inv-loop μ-loop
-same-length-3 c = search (needs, c .before .loop .inv .tensed .long, tension-long (start (c .before)))
-
 returns : tie.Need-returns Inv-loop μ-loop
 returns c =
     let b = start (c .before) in
@@ -267,7 +238,7 @@ level-figures-spec =
     shared-slice-read-compression-of
     compression-of-requires
     mul-compression
-    slice-write-compression
+    array-write-compression
     loop-holds
     mul-upper
     shared-slice-read-upper
@@ -290,15 +261,12 @@ level-figures-spec =
     shared-slice-read-level-under-2
     level-under-requires
     racking-figure-requires
-    mul-t30
-    slice-set-from-racking
+    mul-racking
+    array-set-from-racking
     mul-compression-2
-    slice-write-compression-2
+    array-write-compression-2
     mul-tension
-    slice-write-tension
+    array-write-tension
     loop-less
     loop-again
-    same-length
-    same-length-2
-    same-length-3
     returns)
