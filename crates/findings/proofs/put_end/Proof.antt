@@ -1,4 +1,4 @@
--- `answer::findings::put_end`: the seven kinds are put one behind another.
+-- `findings::put_end`: the seven kinds are put one behind another.
 use native.Mathlib.Omega.{arith}
 use Rattle.findings.specs.Steps.{tierFindings, lashFindings}
 use Rattle.findings.proofs.Puts.{then}

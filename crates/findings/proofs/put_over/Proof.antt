@@ -1,4 +1,4 @@
--- `answer::findings::put_over`: the findings of the sizes passed are put.
+-- `findings::put_over`: the findings of the sizes passed are put.
 use Prim.Native.Nat.{_+_, _*_, _≤_, _-_}
 use mathlib.Core.Path.{refl}
 use native.Mathlib.Omega.{arith}

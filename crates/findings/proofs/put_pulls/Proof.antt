@@ -1,4 +1,4 @@
--- `answer::findings::put_pulls`: the findings of the lashes passed are put.
+-- `findings::put_pulls`: the findings of the lashes passed are put.
 use Prim.Native.Nat.{_+_, _*_, _≤_, _-_}
 use native.Mathlib.Omega.{arith}
 use lib.ListN.{getD}

@@ -1,4 +1,4 @@
--- `answer::findings::put_rackings`: the findings of the rackings passed are put.
+-- `findings::put_rackings`: the findings of the rackings passed are put.
 use Prim.Native.Nat.{ℕ, _+_, _*_, _≤_, _-_}
 use mathlib.Core.Path.{_≡_, refl, ap, _∙_}
 use native.Mathlib.Omega.{arith}

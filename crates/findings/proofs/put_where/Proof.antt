@@ -1,4 +1,4 @@
--- `answer::findings::put_where` stores the three bytes; the place behind them counts them or not.
+-- `findings::put_where` stores the three bytes; the place behind them counts them or not.
 use Prim.Native.Nat.{suc, _+_}
 use mathlib.Core.Path.{_≡_}
 use mathlib.Core.List.{[], _∷_}

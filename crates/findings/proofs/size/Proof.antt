@@ -1,4 +1,4 @@
--- `answer::findings::size`: below zero the sign is turned, else the number stays.
+-- `findings::size`: below zero the sign is turned, else the number stays.
 use borrow.Author.Needs.{needs}
 use mathlib.Core.Path.{refl, sym, subst}
 use lib.Dec.{T}

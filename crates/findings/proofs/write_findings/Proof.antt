@@ -1,4 +1,4 @@
--- `answer::findings::write_findings`: the two ends' findings are put one behind the other, and copied behind their count.
+-- `findings::write_findings`: the two ends' findings are put one behind the other, and copied behind their count.
 use native.Mathlib.Omega.{arith}
 use Rattle.findings.proofs.Puts.{then}
 use Rattle.findings.proofs.FindingLaws.{behind-count}

@@ -1,4 +1,4 @@
--- `answer::findings::write_found`: the bytes passed are stored.
+-- `findings::write_found`: the bytes passed are stored.
 use Prim.Native.Nat.{_+_, _≤_, _-_}
 use native.Mathlib.Omega.{arith}
 use lib.ListN.{take}

@@ -1,4 +1,4 @@
--- `answer::limits::safe_load`, by the test of the material.
+-- `findings::limits::safe_load`, by the test of the material.
 use borrow.Author.Needs.{needs}
 use borrow.Author.Tests.{eq-eqb, ne-eqb}
 use Rattle.report.specs.Limits.{safeLoad}
