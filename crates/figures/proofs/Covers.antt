@@ -84,8 +84,8 @@ module _ {e X : ℚ} (n p : ℕ) (o : Off e (newtons (pos n)) X) (pad : e ≤ℚ
       (N y : ℕ) →
       0 < y →
       N ≤ 42 * y →
-      natℚ 42 *ℚ (e +ℚ newtons (pos p)) +ℚ newtons (pos 1) ≤ℚ natℚ 12 →
-      Covers 13 (roundedUp (roundedUp ((n + p) * N) y) (2 ^ 18)) (X *ℚ (natℚ N /ℚ natℚ y))
+      natℚ 42 *ℚ (e +ℚ newtons (pos p)) +ℚ newtons (pos 1) ≤ℚ natℚ 5 →
+      Covers 6 (roundedUp (roundedUp ((n + p) * N) y) (2 ^ 18)) (X *ℚ (natℚ N /ℚ natℚ y))
   turned-covers N y y0 Ny lift =
       let m : ℕ = roundedUp ((n + p) * N) y in
       let q : ℚ = natℚ N /ℚ natℚ y in
@@ -125,8 +125,8 @@ module _ {e X : ℚ} (n p : ℕ) (o : Off e (newtons (pos n)) X) (pad : e ≤ℚ
           natℚ 0 ≤ℚ e →
           natℚ 0 ≤ℚ p →
           n ≤ℚ X +ℚ e →
-          natℚ 42 *ℚ (e +ℚ p) +ℚ h ≤ℚ natℚ 12 →
+          natℚ 42 *ℚ (e +ℚ p) +ℚ h ≤ℚ natℚ 5 →
           m ≤ℚ (n +ℚ p) *ℚ q +ℚ h →
           s ≤ℚ m +ℚ natℚ 1 →
-          s ≤ℚ X *ℚ q +ℚ natℚ 13
+          s ≤ℚ X *ℚ q +ℚ natℚ 6
       close = ∀₈ ℚR _ λ ρ. simp qq λ z l e0 p0 o k f g. by-cert (to g ⊞ to f ⊞ to z ⊠ to o ⊞ (to e0 ⊞ to p0) ⊠ to l ⊞ to k) tt

@@ -1,4 +1,4 @@
--- Every figure of an end reports its force, less than 20 N above it, from what the solver promises of the shifts.
+-- Every figure of an end reports its force, less than 9 N above it, from what the solver promises of the shifts.
 use mathlib.Core.Path.{_≡_, refl, ap, ap₂, subst, _∙_}
 use mathlib.Core.Bool.{Bool}
 use mathlib.Core.List.{List}
@@ -48,18 +48,18 @@ use Rattle.figures.proofs.PostFigures.{compression-reported, tension-re
 -- the shifts d, found for an end, are close to the solution Ds of its equations
 pub record Close (e : End) (t : Sheet) (d : List ℕ) (Ds : List Frac) : Type 0 where
   pub far : (i : ℕ) → getD d i 0 ≤ 2 ^ 40
-  pub lashes : sumq (shiftErrorq d Ds) (endLashes e t) ⊑ nat 13 /q nat 100
+  pub lashes : sumq (shiftErrorq d Ds) (endLashes e t) ⊑ nat 5 /q nat 100
   pub rackings :
       (i : ℕ) →
       i < t .ntiers →
       absq (S.tierAt (endTiers e t) i .K *q (found d (suc i) -q found d i) -q S.racking (endTiers e t) Ds i)
-      ⊑ nat 25 /q nat 100
+      ⊑ nat 5 /q nat 100
 
 -- the solver's promise says so, where its two constants are no more than these
 pub promised-close :
     (e : End) (t : Sheet) (k κ ω d : List ℕ) (Ds : List Frac) →
-    P.lashError ⊑ nat 13 /q nat 100 →
-    P.rackingError ⊑ nat 25 /q nat 100 →
+    P.lashError ⊑ nat 5 /q nat 100 →
+    P.rackingError ⊑ nat 5 /q nat 100 →
     P.Promised (t .ntiers) k κ ω d →
     P.Near (t .ntiers) k κ ω (endTiers e t) (endLashes e t) →
     Settled e t Ds →
@@ -68,23 +68,23 @@ promised-close e t k κ ω d Ds a b p n s =
     record {
       far = p .far;
       lashes =
-          ⊑-trans (sumq (shiftErrorq d Ds) (endLashes e t)) P.lashError (nat 13 /q nat 100)
+          ⊑-trans (sumq (shiftErrorq d Ds) (endLashes e t)) P.lashError (nat 5 /q nat 100)
           (p .lashes (endTiers e t) (endLashes e t) Ds n (s .solves)) a;
       rackings =
           λ i h.
           ⊑-trans
           (absq (S.tierAt (endTiers e t) i .K *q (found d (suc i) -q found d i) -q S.racking (endTiers e t) Ds i))
           P.rackingError
-          (nat 25 /q nat 100)
+          (nat 5 /q nat 100)
           (p .rackings (endTiers e t) (endLashes e t) Ds n (s .solves) i h)
           b;
     }
 
-shift-error-bound : mk (nat 13 /q nat 100) ≡ shiftErrorBound
+shift-error-bound : mk (nat 5 /q nat 100) ≡ shiftErrorBound
 unfolding _*ℚ_ recipℚ int
 shift-error-bound = refl
 
-force-bound : mk (nat 25 /q nat 100) ≡ forceBound
+force-bound : mk (nat 5 /q nat 100) ≡ forceBound
 unfolding _*ℚ_ recipℚ int
 force-bound = refl
 
@@ -110,7 +110,7 @@ module _
 
   shift-errors-small : shiftErrors d Ds ls ≤ℚ shiftErrorBound
   shift-errors-small =
-      rw (shift-errors-q d Ds ls, shift-error-bound) at (of-⊑ (sumq (shiftErrorq d Ds) (endLashes e t)) (nat 13 /q nat 100) (near .lashes))
+      rw (shift-errors-q d Ds ls, shift-error-bound) at (of-⊑ (sumq (shiftErrorq d Ds) (endLashes e t)) (nat 5 /q nat 100) (near .lashes))
 
   racking-near : (i : ℕ) → i < t .ntiers → Off roundedRackingError (newtons (rackingPart (springOf e) d i)) (mk (R i))
   racking-near i h =
@@ -120,7 +120,7 @@ module _
       let force = mk-mul K x ∙ ap₂ _*ℚ_ spring (mk-sub (found d (suc i)) (found d i)) in
       let error = mk-abs (K *q x -q R i) ∙ ap absℚ (mk-sub (K *q x) (R i) ∙ ap (λ y. y -ℚ mk (R i)) force) in
       racking-off (springOf e) d i (mk (R i))
-      (subst (λ y. y ≤ℚ forceBound) error (rw force-bound at (of-⊑ (absq (K *q x -q R i)) (nat 25 /q nat 100) (near .rackings i h))))
+      (subst (λ y. y ≤ℚ forceBound) error (rw force-bound at (of-⊑ (absq (K *q x -q R i)) (nat 5 /q nat 100) (near .rackings i h))))
 
   -- level i
   module _ (i : ℕ) (h : i ≤ t .ntiers) where
@@ -163,14 +163,14 @@ module _
           few-above (weight-off acceleration ts i) turned
           (verticals-off d Ds (near .far) windward-post (counts i) ls each (facts .ends e .few) shift-errors-small)
 
-    compressed : Reported 20 (compression classShare (routeFactor t) ts ls Ds i) (compressionFigure (springOf e) ts ls d i)
+    compressed : Reported 9 (compression classShare (routeFactor t) ts ls Ds i) (compressionFigure (springOf e) ts ls d i)
     unfolding compression compressionFigure
     compressed =
-        compression-reported 20 (lit≤ tt) _ _ _ _ (lee-near (λ u. u .avmax) inCompression) (windward-near (λ u. u .avmax) inCompression)
+        compression-reported 9 (lit≤ tt) _ _ _ _ (lee-near (λ u. u .avmax) inCompression) (windward-near (λ u. u .avmax) inCompression)
 
-    tensed : Reported 20 (tension classShare (routeFactor t) ts ls Ds i) (tensionFigure (springOf e) ts ls d i)
+    tensed : Reported 9 (tension classShare (routeFactor t) ts ls Ds i) (tensionFigure (springOf e) ts ls d i)
     unfolding tension tensionFigure
-    tensed = tension-reported 20 (lit≤ tt) _ _ _ _ (lee-near (λ u. u .avmin) inTension) (windward-near (λ u. u .avmin) inTension)
+    tensed = tension-reported 9 (lit≤ tt) _ _ _ _ (lee-near (λ u. u .avmin) inTension) (windward-near (λ u. u .avmin) inTension)
 
   -- lash j
   module _ (j : ℕ) (h : j < length (lashesOf e t)) where
@@ -183,19 +183,19 @@ module _
     shift-error-small : shiftErrorAt d Ds lash ≤ℚ shiftErrorBound
     shift-error-small = ≤ℚ-trans (shiftErrorAt d Ds lash) (shiftErrors d Ds ls) shiftErrorBound (shift-error-le d Ds ls each j h) shift-errors-small
 
-    pulled : Reported 20 (pull lash D) (pullFigure d lash)
-    pulled = pull-reported d lash D (each .at j h) (near .far (levelOf lash)) shift-error-small 20 (lit≤ tt)
+    pulled : Reported 9 (pull lash D) (pullFigure d lash)
+    pulled = pull-reported d lash D (each .at j h) (near .far (levelOf lash)) shift-error-small 9 (lit≤ tt)
 
-    athwart : Reported 20 (athwartPart lash D) (athwartFigure d lash)
-    athwart = athwart-reported d lash D (each .at j h) (near .far (levelOf lash)) shift-error-small 20 (lit≤ tt)
+    athwart : Reported 9 (athwartPart lash D) (athwartFigure d lash)
+    athwart = athwart-reported d lash D (each .at j h) (near .far (levelOf lash)) shift-error-small 9 (lit≤ tt)
 
-    upright : Reported 20 (verticalPart lash D) (verticalFigure d lash)
-    upright = vertical-reported d lash D (each .at j h) (near .far (levelOf lash)) shift-error-small 20 (lit≤ tt)
+    upright : Reported 9 (verticalPart lash D) (verticalFigure d lash)
+    upright = vertical-reported d lash D (each .at j h) (near .far (levelOf lash)) shift-error-small 9 (lit≤ tt)
 
-  pub reported : (f : EndFigures) → Computed e t d f → EndReported 20 e t Ds f
+  pub reported : (f : EndFigures) → Computed e t d f → EndReported 9 e t Ds f
   reported f c =
       record {
-        rackings = λ i h. rw (c .racking i h) (racking-reported 20 (lit≤ tt) (rackingPart (springOf e) d i) (R i) (racking-near i h));
+        rackings = λ i h. rw (c .racking i h) (racking-reported 9 (lit≤ tt) (rackingPart (springOf e) d i) (R i) (racking-near i h));
         compressions = λ i h. rw (c .compression i h) (compressed i h);
         tensions = λ i h. rw (c .tension i h) (tensed i (omega arith));
         pulls = λ j h. rw (c .pull j h) (pulled j h);

@@ -14,11 +14,11 @@ use Rattle.figures.proofs.Inputs.{near}
 use Rattle.figures.proofs.EndReported.{promised-close, reported}
 use Rattle.figures.proofs.Bounds.{Blank, figured}
 
-lash-error : lashError ⊑ nat 13 /q nat 100
+lash-error : lashError ⊑ nat 5 /q nat 100
 unfolding recip
 lash-error = record { cross = record { le = tt } }
 
-racking-error : rackingError ⊑ nat 25 /q nat 100
+racking-error : rackingError ⊑ nat 5 /q nat 100
 unfolding recip
 racking-error = record { cross = record { le = tt } }
 
@@ -29,7 +29,7 @@ module _ {e : End} {t : Sheet} {k κ ω d : List ℕ} {g : EndFigures} where
       Promised (t .ntiers) k κ ω d →
       Computed e t d g →
       Blank e t g →
-      EndFigured 20 e t g
+      EndFigured 9 e t g
   end-figured f h p c b =
       figured e f (omega arith)
       (λ Ds s. reported e t d Ds f s (promised-close e t k κ ω d Ds lash-error racking-error p (near f h) s) g c) b

@@ -113,7 +113,7 @@ module _ {n : ℕ} (d : List ℕ) (l : Lash) (D : Frac) (f : LashFacts n l) (far
       (part-off d l D (length-above f) far) (share-off (l .lz) (l .ly) wide (F.part d l)))
 
   -- the figures
-  module _ (small : shiftError d l D ≤ℚ shiftErrorBound) (m : ℕ) (margin : 13 < m) where
+  module _ (small : shiftError d l D ≤ℚ shiftErrorBound) (m : ℕ) (margin : 6 < m) where
     off : Off (partError shiftErrorBound) (newtons (pos (F.part d l))) (stiffness l *ℚ mk D)
     off = off-more (go (shiftError d l D) shiftErrorBound (newtons (pos 257)) small) (part-off d l D (length-above f) far)
       where

@@ -9,10 +9,10 @@ use Rattle.figures.proofs.Scales.{cent, newtons}
 
 -- the bounds on the shifts found: stiffness × shift error, summed over the lashes; and the error of a racking
 abbrev pub shiftErrorBound : ℚ
-shiftErrorBound = cent 13
+shiftErrorBound = cent 5
 
 abbrev pub forceBound : ℚ
-forceBound = cent 25
+forceBound = cent 5
 
 -- a lash's athwart part, for its shift error s: stiffness, shift and product are rounded
 abbrev pub partError : ℚ → ℚ
@@ -24,14 +24,14 @@ verticalError s = natℚ 40 *ℚ partError s +ℚ newtons (pos 1)
 
 -- a racking rounded to 2^-18 N, and what a tier of 2,896 mm adds to the moment
 abbrev pub roundedRackingError : ℚ
-roundedRackingError = cent 26
+roundedRackingError = cent 6
 
 abbrev pub tierError : ℚ
 tierError = natℚ 2896 *ℚ roundedRackingError
 
 -- the vertical parts of 8 lashes
 abbrev pub verticalsError : ℚ
-verticalsError = cent 552
+verticalsError = cent 232
 
 -- a post sum of n tiers: half the weight, the moment over the post spacing, the vertical parts
 abbrev pub sumError : ℚ → ℚ
@@ -39,7 +39,7 @@ sumError n =
     newtons (pos 1) +ℚ (recipℚ (natℚ postSpacing) *ℚ (n *ℚ tierError) +ℚ newtons (pos 1)) +ℚ verticalsError
 
 abbrev pub postError : ℚ
-postError = cent 886
+postError = cent 309
 
 pub racking-room : newtons (pos 1) +ℚ forceBound ≤ℚ roundedRackingError
 unfolding leℚ _+ℚ_ _*ℚ_ recipℚ recip int
@@ -62,7 +62,7 @@ pub lash-lift : partError shiftErrorBound +ℚ newtons (pos lashPad) ≤ℚ nat�
 unfolding leℚ _+ℚ_ _*ℚ_ recipℚ recip int
 lash-lift = record { le = tt }
 
-pub turned-lift : natℚ 42 *ℚ (partError shiftErrorBound +ℚ newtons (pos lashPad)) +ℚ newtons (pos 1) ≤ℚ natℚ 12
+pub turned-lift : natℚ 42 *ℚ (partError shiftErrorBound +ℚ newtons (pos lashPad)) +ℚ newtons (pos 1) ≤ℚ natℚ 5
 unfolding leℚ _+ℚ_ _*ℚ_ recipℚ recip int
 turned-lift = record { le = tt }
 
@@ -78,6 +78,6 @@ pub post-pad : postError ≤ℚ newtons (pos postPad)
 unfolding leℚ _*ℚ_ recipℚ recip int
 post-pad = record { le = tt }
 
-pub post-lift : postError +ℚ newtons (pos postPad) ≤ℚ natℚ 18
+pub post-lift : postError +ℚ newtons (pos postPad) ≤ℚ natℚ 7
 unfolding leℚ _+ℚ_ _*ℚ_ recipℚ recip int
 post-lift = record { le = tt }

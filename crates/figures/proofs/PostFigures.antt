@@ -111,16 +111,16 @@ module _ {A : ℚ} (x : ℤ) (o : Off postError (newtons x) A) where
       go : (A x p n t e : ℚ) → A ≤ℚ x +ℚ e → e ≤ℚ p → x +ℚ p ≤ℚ n → n ≤ℚ t → A ≤ℚ t
       go = ∀₆ ℚR _ λ ρ. simp qq λ o h l m. by-cert (to o ⊞ to h ⊞ to l ⊞ to m) tt
 
-  room : (X : ℚ) → natℚ 0 ≤ℚ X → A ≤ℚ X → newtons (pos padded) ≤ℚ X +ℚ natℚ 18
+  room : (X : ℚ) → natℚ 0 ≤ℚ X → A ≤ℚ X → newtons (pos padded) ≤ℚ X +ℚ natℚ 7
   unfolding padded
   room X X0 AX =
-      within (x +ℤ pos postPad) (X +ℚ natℚ 18) (above X X0)
+      within (x +ℤ pos postPad) (X +ℚ natℚ 7) (above X X0)
       (rw (newtons-add x (pos postPad)) (go A X (newtons x) (newtons (pos postPad)) postError (o .above) AX post-lift))
     where
-      above : (X : ℚ) → natℚ 0 ≤ℚ X → natℚ 0 ≤ℚ X +ℚ natℚ 18
+      above : (X : ℚ) → natℚ 0 ≤ℚ X → natℚ 0 ≤ℚ X +ℚ natℚ 7
       above = ∀₁ ℚR _ λ ρ. simp qq λ h. by-cert (to h) tt
 
-      go : (A X x p e : ℚ) → x ≤ℚ A +ℚ e → A ≤ℚ X → e +ℚ p ≤ℚ natℚ 18 → x +ℚ p ≤ℚ X +ℚ natℚ 18
+      go : (A X x p e : ℚ) → x ≤ℚ A +ℚ e → A ≤ℚ X → e +ℚ p ≤ℚ natℚ 7 → x +ℚ p ≤ℚ X +ℚ natℚ 7
       go = ∀₅ ℚR _ λ ρ. simp qq λ o h l. by-cert (to o ⊞ to h ⊞ to l) tt
 
 figure-covers :
@@ -128,7 +128,7 @@ figure-covers :
     Greatest X A B →
     Off postError (newtons x) A →
     Off postError (newtons y) B →
-    Covers 19 (postFigure x y) X
+    Covers 8 (postFigure x y) X
 unfolding postFigure padded
 figure-covers {X} {A} {B} x y g p q =
     let a = padded x p in
@@ -144,19 +144,19 @@ figure-covers {X} {A} {B} x y g p q =
       back = back X s (g .zero) s0;
       close =
           close X t s
-          (max-cases a b (t ≤ℚ X +ℚ natℚ 18) (λ h e. rw e (room y q X (g .zero) (g .right))) (λ h e. rw e (room x p X (g .zero) (g .left))))
+          (max-cases a b (t ≤ℚ X +ℚ natℚ 7) (λ h e. rw e (room y q X (g .zero) (g .right))) (λ h e. rw e (room x p X (g .zero) (g .left))))
           (ceil-high (max a b));
     }
   where
     back : (X s : ℚ) → natℚ 0 ≤ℚ X → natℚ 0 ≤ℚ s → negℚ X ≤ℚ s
     back = ∀₂ ℚR _ λ ρ. simp qq λ h l. by-cert (to h ⊞ to l) tt
 
-    close : (X t s : ℚ) → t ≤ℚ X +ℚ natℚ 18 → s ≤ℚ t +ℚ natℚ 1 → s ≤ℚ X +ℚ natℚ 19
+    close : (X t s : ℚ) → t ≤ℚ X +ℚ natℚ 7 → s ≤ℚ t +ℚ natℚ 1 → s ≤ℚ X +ℚ natℚ 8
     close = ∀₃ ℚR _ λ ρ. simp qq λ h l. by-cert (to h ⊞ to l) tt
 
 -- compression and tension, from the two sums of a level
 module _
-    (m : ℕ) (margin : 19 < m) (x y : ℤ) (l w : Frac)
+    (m : ℕ) (margin : 8 < m) (x y : ℤ) (l w : Frac)
     (p : Off postError (newtons x) (mk l)) (q : Off postError (newtons y) (mk w)) where
   pub compression-reported : Reported m (greater (nat 0) (greater l w)) (postFigure x y)
   compression-reported =

@@ -26,7 +26,7 @@ use Rattle.figures.proofs.Pads.{roundedRackingError, tierError, vertica
 use Rattle.figures.proofs.Moment.{rackingMoment}
 
 racking-error-nn : natℚ 0 ≤ℚ roundedRackingError
-racking-error-nn = nn-times (natℚ 26) (recipℚ (natℚ 100)) (nn-int 26) (recip-nn (natℚ 100))
+racking-error-nn = nn-times (natℚ 6) (recipℚ (natℚ 100)) (nn-int 6) (recip-nn (natℚ 100))
 
 tier-error-nn : natℚ 0 ≤ℚ tierError
 tier-error-nn = nn-times (natℚ 2896) roundedRackingError (nn-int 2896) racking-error-nn

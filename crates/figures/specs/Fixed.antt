@@ -73,9 +73,9 @@ part d l = stiffnessOf l * getD d (levelOf l) 0 / 2 ^ 32
 unfoldable pub upward : List ℕ → Lash → ℕ
 upward d l = part d l * l .lz / l .ly
 
--- 0.131 N in 2^-18 N: what one lash's part may lack
+-- 0.051 N in 2^-18 N: what one lash's part may lack
 abbrev pub lashPad : ℕ
-lashPad = 34336
+lashPad = 13365
 
 -- the figures of a lash: its padded part, in N upwards; times L / LY and LZ / LY
 unfoldable pub athwartFigure : List ℕ → Lash → ℕ
@@ -87,12 +87,12 @@ pullFigure d l = roundedUp (roundedUp ((part d l + lashPad) * lashLength l) (l .
 unfoldable pub verticalFigure : List ℕ → Lash → ℕ
 verticalFigure d l = roundedUp (roundedUp ((part d l + lashPad) * l .lz) (l .ly)) (2 ^ 18)
 
--- the racking of tier i, and its figure: padded by 0.26 N, in N upwards, with the sign kept
+-- the racking of tier i, and its figure: padded by 0.06 N, in N upwards, with the sign kept
 unfoldable pub rackingPart : ℕ → List ℕ → ℕ → ℤ
 rackingPart K d i = quotZ (pos (K * getD d (suc i) 0) -ℤ pos (K * getD d i 0)) (pos 1024)
 
 abbrev pub rackingPad : ℕ
-rackingPad = 68158
+rackingPad = 15729
 
 unfoldable pub rackingFigure : ℤ → ℤ
 rackingFigure (pos n) = pos (roundedUp (n + rackingPad) (2 ^ 18))
@@ -123,9 +123,9 @@ leeFound halfweight moment vertical = pos halfweight +ℤ quotZ moment (pos 2259
 unfoldable pub windwardFound : ℕ → ℤ → ℕ → ℤ
 windwardFound halfweight moment vertical = pos halfweight -ℤ quotZ moment (pos 2259) +ℤ pos vertical
 
--- 8.86 N in 2^-18 N: what a post sum may lack
+-- 3.09 N in 2^-18 N: what a post sum may lack
 abbrev pub postPad : ℕ
-postPad = 2322596
+postPad = 810025
 
 abbrev pub notBelow : ℤ → ℕ
 notBelow (pos n) = n

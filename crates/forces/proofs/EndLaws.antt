@@ -253,7 +253,7 @@ module _ {share factor : ℕ} (e : End) (t : Sheet) {k ω : List ℕ} {f : EndFi
       }
 
 -- by the class rule and the route, they report the end's forces
-pub reports : {e : End} {t : Sheet} {f : EndFigures} → Facts t → Worked 9 (10 * routePercent (t .head .route)) e t f → EndFigured 20 e t f
+pub reports : {e : End} {t : Sheet} {f : EndFigures} → Facts t → Worked 9 (10 * routePercent (t .head .route)) e t f → EndFigured 9 e t f
 reports h w =
     end-figured h (w .inputs) (w .promised) (w .computed)
     (record {

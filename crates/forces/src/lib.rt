@@ -85,7 +85,7 @@ fn figures_by(s: Sheet, share: u64, factor: u64) -> Figures
 // The figures of both ends by the class rule: 0.45 of F on a tier's own top, and the route factor.
 pub fn figures_of(s: Sheet) -> Figures
     requires { ⌜ Fits s ⌝ }
-    ensures { λ r. ⌜ EndFigured 20 door s (r .door) × EndFigured 20 closed s (r .closed) ⌝ }
+    ensures { λ r. ⌜ EndFigured 9 door s (r .door) × EndFigured 9 closed s (r .closed) ⌝ }
 {
     figures_by(s, CLASS_SHARE, 10 * sheet::route_percent(s.head.route))
 }

@@ -21,8 +21,8 @@ use sheet::Lash;
 use sheet::Lashing;
 use sheet::lashing_of;
 
-// What one lash's athwart part may lack: 0.131 N.
-const LASH_PAD: u64 = 34336;
+// What one lash's athwart part may lack: 0.051 N.
+const LASH_PAD: u64 = 13365;
 
 // The level that a lash is hooked at.
 fn hook_level(l: Lash) -> usize

@@ -13,10 +13,10 @@ use figures::NEWTON;
 use figures::PostParts;
 use sheet::Tier;
 
-// What a racking and a post sum may lack: 0.26 N and 8.86 N.
-const RACKING_PAD: u64 = 68158;
+// What a racking and a post sum may lack: 0.06 N and 3.09 N.
+const RACKING_PAD: u64 = 15729;
 
-const POST_PAD: i64 = 2322596;
+const POST_PAD: i64 = 810025;
 
 // Post spacing, mm (CR Table 2-2).
 const POST_SPACING: i64 = 2259;

@@ -62,4 +62,4 @@ abbrev pub demanded : ℕ
 demanded = 100
 
 abbrev pub kept : ℕ
-kept = 20
+kept = 9
