@@ -39,7 +39,7 @@ fn nearer(s: u64, x: u64) -> u64
 
 // The least root of s, a sum of three squares: m is the longest side, rest the other two together. Unlike a search by
 // halving, Newton's steps have no branch to guess. They start from a number that takes no division, near enough to the
-// root that after two steps the loop seldom turns, and never twice.
+// root that after two steps the loop seldom turns.
 fn least_root(s: u64, m: u64, rest: u64) -> u64
     requires { ⌜ (0 < m) × (m ≤ 20000) × (rest ≤ 40000) × (m * m ≤ s) × (s ≤ 1200000000) ⌝ }
     ensures { λ r. ⌜ Least s r × (m ≤ r) ⌝ }

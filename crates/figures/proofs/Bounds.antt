@@ -26,6 +26,7 @@ use Rattle.figures.specs.Loads.{classShare}
 use Rattle.figures.specs.Lashes.{pull, athwartPart, verticalPart}
 use Rattle.figures.specs.Ends.{End, Settled, tiersOf, lashesOf, routeFactor}
 use Rattle.figures.specs.Posts.{athwartOf, moment, weightAbove, verticals, inCompression, inTension, onLee, onWindward, lee, windward, compression, tension, greater, lower, atMost}
+use Rattle.figures.specs.Fixed.{Blank}
 use Rattle.figures.specs.Reported.{forceOf, EndReported, Fitting, EndFigured}
 use Rattle.figures.proofs.Facts.{TierFacts, Facts}
 use Rattle.figures.proofs.EndChain.{percent-most, tier-facts, end-each, endTiers, endLashes, end-length, end-stiff, share-is, factor-is}
@@ -33,14 +34,6 @@ use Rattle.figures.proofs.OneSolution.{solutionOf, exists, leeward}
 use Rattle.figures.proofs.Within.{UpTo, Within, up-none, up-more, within-up, within-less, within-neg, within-sum, within-more, within-same, within-over, within-choice, reported-below}
 use Rattle.figures.proofs.LoadBounds.{each-drop, weight-up, tier-up, turning-up}
 use Rattle.figures.proofs.LashBounds.{part-up, all-least, one-part, from-part, all-from, pull-part, vertical-part, verticals-part, arms-part, keeps-lee, keeps-windward}
-
--- the figures behind the counts are 0
-pub record Blank (e : End) (t : Sheet) (f : EndFigures) : Type 0 where
-  pub compression : (i : ℕ) → suc (t .ntiers) ≤ i → getD (f .compression) i 0 ≡ 0
-  pub tension : (i : ℕ) → t .ntiers ≤ i → getD (f .tension) i 0 ≡ 0
-  pub pull : (j : ℕ) → length (lashesOf e t) ≤ j → getD (f .pull) j 0 ≡ 0
-  pub athwart : (j : ℕ) → length (lashesOf e t) ≤ j → getD (f .athwart) j 0 ≡ 0
-  pub vertical : (j : ℕ) → length (lashesOf e t) ≤ j → getD (f .vertical) j 0 ≡ 0
 
 module _ (e : End) {t : Sheet} (f : Facts t) where
   few : length (tiersOf t) ≤ 10

@@ -8,11 +8,11 @@ use Rattle.sheet.specs.declared.Sheet.{Sheet}
 use Rattle.figures.specs.declared.EndFigures.{EndFigures}
 use Rattle.figures.specs.Ends.{End}
 use Rattle.figures.specs.Reported.{EndFigured}
-use Rattle.figures.specs.Fixed.{Inputs, Computed}
+use Rattle.figures.specs.Fixed.{Blank, Inputs, Computed}
 use Rattle.figures.proofs.Facts.{Facts}
 use Rattle.figures.proofs.Inputs.{near}
 use Rattle.figures.proofs.EndReported.{promised-close, reported}
-use Rattle.figures.proofs.Bounds.{Blank, figured}
+use Rattle.figures.proofs.Bounds.{figured}
 
 lash-error : lashError ⊑ nat 5 /q nat 100
 unfolding recip

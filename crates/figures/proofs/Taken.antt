@@ -1,22 +1,18 @@
 -- A sheet within document 01's codes and limits, as every taken one is, has the facts that the force proofs use.
 use mathlib.Core.Path.{_≡_, refl, ap}
-use mathlib.Core.Bool.{Bool, true, false}
-use mathlib.Core.List.{List, [], _∷_}
-use mathlib.Core.Logic.{_⊎_, inl, inr}
-use Prim.Native.Nat.{ℕ, zero, suc, _+_, _≤_, _<_}
+use mathlib.Core.List.{List}
+use Prim.Native.Nat.{ℕ, zero, suc, _≤_, _<_}
 use native.Mathlib.Nat.{lt-of-not-le}
 use native.Mathlib.Omega.{arith}
-use lib.Dec.{eqb}
 use lib.ListN.{getD, length, take, length-take, List·getD-eq-default}
 use lib.Seq.{getD-take}
-use borrow.Author.Tests.{eqb-true, eqb-false, eq-eqb, ne-eqb}
 use Rattle.sheet.specs.declared.Tier.{Tier}
 use Rattle.sheet.specs.declared.Lash.{Lash}
 use Rattle.sheet.specs.declared.Sheet.{Sheet}
 use Rattle.sheet.specs.Layout.{blankTier, blankLash}
-use Rattle.sheet.specs.Lashings.{levelOf, atLevel}
+use Rattle.sheet.specs.Lashings.{atLevel}
 use Rattle.sheet.specs.Fits.{tierAt, lashAt, EndFits, Fits}
-use Rattle.sheet.proofs.Limits.{TierLimits, tier-limits, LashLimits, lash-limits, LashPlaced, lash-placed, code, level-top, level-bottom}
+use Rattle.sheet.proofs.Limits.{TierLimits, tier-limits, LashLimits, lash-limits, LashPlaced, lash-placed}
 use Rattle.sheet.proofs.Levels.{four-a-level}
 use Rattle.figures.specs.Ends.{End, door, closed, tiersOf}
 use Rattle.figures.proofs.Facts.{TierFacts, LashFacts, EndFacts, Facts}

@@ -1,5 +1,4 @@
 -- Document 01, "The springs": the equations of one end of a decoded sheet.
-use mathlib.Core.Bool.{Bool, true, false}
 use mathlib.Core.List.{List, [], _∷_, map}
 use Prim.Native.Nat.{ℕ, zero, suc}
 use lib.ListN.{take}

@@ -1,9 +1,6 @@
 -- What the figures are computed from: a taken sheet's counts, and each entry within document 01's limits.
 use mathlib.Core.Path.{_≡_}
-use mathlib.Core.Bool.{Bool, true, false, cond}
-use mathlib.Core.List.{List, [], _∷_}
-use Prim.Native.Nat.{ℕ, zero, suc, _+_, _<_, _≤_}
-use lib.Dec.{eqb}
+use Prim.Native.Nat.{ℕ, zero, suc, _<_, _≤_}
 use lib.ListN.{getD, length}
 use Rattle.sheet.specs.Lashings.{levelOf, atLevel}
 use Rattle.sheet.specs.Layout.{blankLash, blankTier}

@@ -163,3 +163,11 @@ pub record Computed (e : End) (t : Sheet) (d : List ℕ) (f : EndFigures) : Type
       (j : ℕ) → j < length (lashesOf e t) → getD (f .athwart) j 0 ≡ athwartFigure d (getD (lashesOf e t) j blankLash)
   pub vertical :
       (j : ℕ) → j < length (lashesOf e t) → getD (f .vertical) j 0 ≡ verticalFigure d (getD (lashesOf e t) j blankLash)
+
+-- the figures behind the counts are 0
+pub record Blank (e : End) (t : Sheet) (f : EndFigures) : Type 0 where
+  pub compression : (i : ℕ) → suc (t .ntiers) ≤ i → getD (f .compression) i 0 ≡ 0
+  pub tension : (i : ℕ) → t .ntiers ≤ i → getD (f .tension) i 0 ≡ 0
+  pub pull : (j : ℕ) → length (lashesOf e t) ≤ j → getD (f .pull) j 0 ≡ 0
+  pub athwart : (j : ℕ) → length (lashesOf e t) ≤ j → getD (f .athwart) j 0 ≡ 0
+  pub vertical : (j : ℕ) → length (lashesOf e t) ≤ j → getD (f .vertical) j 0 ≡ 0

@@ -1,7 +1,7 @@
 -- Document 01, "The springs": a lash's length, tension and parts.
-use mathlib.Core.Bool.{Bool, true, false, cond}
-use Prim.Native.Nat.{ℕ, zero, suc, _+_, _*_, _-_}
-use lib.Dec.{leb, eqb}
+use mathlib.Core.Bool.{cond}
+use Prim.Native.Nat.{ℕ, zero, suc, _+_, _*_}
+use lib.Dec.{leb}
 use Rattle.arith.specs.Fractions.{Frac, nat, _*q_, _/q_}
 use Rattle.sheet.specs.declared.Lash.{Lash}
 

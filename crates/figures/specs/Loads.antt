@@ -1,6 +1,6 @@
 -- Document 01, "Loads on one end": the forces of a box, as exact fractions in N.
-use mathlib.Core.Bool.{Bool, true, false, cond}
-use mathlib.Core.List.{List, [], _∷_}
+use mathlib.Core.Bool.{cond}
+use mathlib.Core.List.{List}
 use Prim.Native.Nat.{ℕ, zero, suc, _+_, _*_}
 use lib.Dec.{eqb}
 use Rattle.arith.specs.Fractions.{Frac, nat, _+q_, _*q_, _/q_, sumq}

@@ -1,9 +1,9 @@
 -- Document 01, "Posts and locks": moments, and what the posts carry at a level.
-use mathlib.Core.Bool.{Bool, true, false, cond}
+use mathlib.Core.Bool.{Bool, cond}
 use mathlib.Core.List.{List, [], _∷_}
 use Prim.Native.Nat.{ℕ, zero, suc, _+_}
 use lib.Dec.{leb, ltb}
-use lib.ListN.{drop, take}
+use lib.ListN.{drop}
 use lib.IntN.{_*ℤ_}
 use lib.Signed.{leZ}
 use Rattle.arith.specs.Fractions.{Frac, nat, _+q_, _-q_, _*q_, _/q_, negq, sumq}

@@ -1,8 +1,8 @@
 -- Demand 3: what a reported force says of the exact one.
-use mathlib.Core.List.{List, [], _∷_}
+use mathlib.Core.List.{List}
 use Prim.Native.Nat.{ℕ, zero, suc, _+_, _<_, _≤_, _^_}
 use lib.ListN.{getD, length}
-use lib.IntN.{ℤ, pos, negsuc, natAbs}
+use lib.IntN.{ℤ, pos, natAbs}
 use lib.Signed.{_<ℤ_}
 use Rattle.sheet.specs.Lashings.{levelOf}
 use Rattle.arith.specs.Fractions.{Frac, nat, negq, _+q_, absq, _⊑_, _⊏_}

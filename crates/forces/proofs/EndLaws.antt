@@ -1,8 +1,8 @@
 -- The figures of an end, put together from the steps that compute them.
-use Prim.Native.Nat.{ℕ, zero, suc, _+_, _*_, _-_, _^_, _<_, _≤_}
-use mathlib.Core.Bool.{Bool, true, false, cond}
+use Prim.Native.Nat.{ℕ, zero, suc, _+_, _*_, _-_, _<_, _≤_}
+use mathlib.Core.Bool.{cond}
 use mathlib.Core.List.{List, [], _∷_}
-use mathlib.Core.Path.{_≡_, refl, sym, ap, ap₂, _∙_, subst}
+use mathlib.Core.Path.{_≡_, refl, sym, ap, ap₂, _∙_}
 use native.Mathlib.Decide.{decLt, ℕ-discrete}
 use native.Mathlib.Omega.{arith}
 use borrow.Author.Tests.{le-leb, lt-leb, eq-eqb, ne-eqb}
@@ -243,7 +243,6 @@ module _ {share factor : ℕ} (e : End) (t : Sheet) {k ω : List ℕ} {f : EndFi
         computed = computed;
         blank =
             record {
-              racking = w .racking .rest;
               compression = w .compression .rest;
               tension = w .tension .rest;
               pull = w .pull .rest;
@@ -255,11 +254,4 @@ module _ {share factor : ℕ} (e : End) (t : Sheet) {k ω : List ℕ} {f : EndFi
 -- by the class rule and the route, they report the end's forces
 pub reports : {e : End} {t : Sheet} {f : EndFigures} → Facts t → Worked 9 (10 * routePercent (t .head .route)) e t f → EndFigured 9 e t f
 reports h w =
-    end-figured h (w .inputs) (w .promised) (w .computed)
-    (record {
-      compression = w .blank .compression;
-      tension = w .blank .tension;
-      pull = w .blank .pull;
-      athwart = w .blank .athwart;
-      vertical = w .blank .vertical;
-    })
+    end-figured h (w .inputs) (w .promised) (w .computed) (w .blank)

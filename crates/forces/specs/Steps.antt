@@ -1,24 +1,20 @@
 -- Contracts of inner functions: what each step of the computation of an end's figures takes and gives. Nothing here need be believed.
 use mathlib.Core.Path.{_≡_}
-use mathlib.Core.Bool.{Bool, true, false, cond}
-use mathlib.Core.List.{List, [], _∷_}
-use Prim.Native.Nat.{ℕ, zero, suc, _+_, _*_, _-_, _^_, _<_, _≤_}
-use lib.Dec.{eqb}
-use lib.ListN.{drop, take, getD, length}
-use lib.IntN.{ℤ, pos, negℤ, _+ℤ_, _-ℤ_, _*ℤ_}
-use Rattle.sheet.specs.Lashings.{levelOf, atLevel}
+use mathlib.Core.List.{List}
+use Prim.Native.Nat.{ℕ, zero, suc, _^_, _<_, _≤_}
+use lib.ListN.{drop, getD, length}
+use lib.IntN.{pos}
+use Rattle.sheet.specs.Lashings.{atLevel}
 use Rattle.sheet.specs.Layout.{blankLash, blankTier}
 use Rattle.sheet.specs.declared.Tier.{Tier}
 use Rattle.sheet.specs.declared.Lash.{Lash}
-use Rattle.sheet.specs.declared.Lashing.{Lashing}
 use Rattle.sheet.specs.declared.Sheet.{Sheet}
 use Rattle.springs.specs.Promise.{Promised}
 use Rattle.figures.specs.declared.EndFigures.{EndFigures}
-use Rattle.figures.specs.Lashes.{lashLength}
 use Rattle.figures.specs.Ends.{End, lashesOf}
 use Rattle.figures.specs.Posts.{inCompression, inTension}
 use Rattle.figures.specs.Facts.{LashFacts}
-use Rattle.figures.specs.Fixed.{Filled, levelLoad, halfWeight, stiffnessOf, levelStiffness, pullFigure, athwartFigure, verticalFigure, upwards, leePart, windwardPart, rackingPart, rackingFigure, leeFound, windwardFound, postFigure, InputsBy, Computed}
+use Rattle.figures.specs.Fixed.{Filled, levelLoad, halfWeight, levelStiffness, pullFigure, athwartFigure, verticalFigure, upwards, leePart, windwardPart, rackingPart, rackingFigure, InputsBy, Computed, Blank}
 use Rattle.posts.specs.Steps.{momentOf, compressed, tensed}
 
 -- the loads on the levels over n tiers
@@ -76,15 +72,6 @@ pub record EndWorked (n : ℕ) (k : List ℕ) (ts : List Tier) (ls : List Lash) 
   pub pull : Filled 0 (length ls) (λ j. pullFigure d (getD ls j blankLash)) (f .pull)
   pub athwart : Filled 0 (length ls) (λ j. athwartFigure d (getD ls j blankLash)) (f .athwart)
   pub vertical : Filled 0 (length ls) (λ j. verticalFigure d (getD ls j blankLash)) (f .vertical)
-
--- the figures behind the counts are 0
-pub record Blank (e : End) (t : Sheet) (f : EndFigures) : Type 0 where
-  pub racking : (i : ℕ) → t .ntiers ≤ i → getD (f .racking) i (pos 0) ≡ pos 0
-  pub compression : (i : ℕ) → suc (t .ntiers) ≤ i → getD (f .compression) i 0 ≡ 0
-  pub tension : (i : ℕ) → t .ntiers ≤ i → getD (f .tension) i 0 ≡ 0
-  pub pull : (j : ℕ) → length (lashesOf e t) ≤ j → getD (f .pull) j 0 ≡ 0
-  pub athwart : (j : ℕ) → length (lashesOf e t) ≤ j → getD (f .athwart) j 0 ≡ 0
-  pub vertical : (j : ℕ) → length (lashesOf e t) ≤ j → getD (f .vertical) j 0 ≡ 0
 
 -- the figures of an end of a sheet, by a share in twentieths and a factor in thousandths: computed from shifts that keep the solver's promise
 pub record Worked (share factor : ℕ) (e : End) (t : Sheet) (f : EndFigures) : Type 0 where

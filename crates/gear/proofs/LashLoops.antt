@@ -1,7 +1,7 @@
 -- The two loops over an end's lashes: what they have found before lash j, and one turn of each.
 use Prim.Native.Nat.{ℕ, zero, suc, _+_, _*_, _-_, _/_, _^_, _<_, _≤_}
-use mathlib.Core.Bool.{Bool, true, false}
-use mathlib.Core.List.{List, [], _∷_}
+use mathlib.Core.Bool.{Bool}
+use mathlib.Core.List.{List, _∷_}
 use mathlib.Core.Path.{_≡_, sym, ap, _∙_}
 use native.Mathlib.Omega.{arith}
 use borrow.Author.Tests.{eq-eqb, ne-eqb}
@@ -16,7 +16,7 @@ use Rattle.sheet.specs.declared.Lashing.the-variants.{Cross, Side}
 use Rattle.sheet.specs.Lashings.{lashingOf, levelOf}
 use Rattle.figures.specs.Facts.{LashFacts}
 use Rattle.figures.specs.Lashes.{lashLength}
-use Rattle.figures.specs.Fixed.{lashPad, stiffnessOf, levelStiffness, part, upward, upwards, pullFigure, athwartFigure, verticalFigure, leePart, windwardPart}
+use Rattle.figures.specs.Fixed.{lashPad, stiffnessOf, part, upward, pullFigure, athwartFigure, verticalFigure, leePart, windwardPart}
 use Rattle.gear.specs.Steps.{Geared, Held, Pulled, Borne}
 use Rattle.figures.proofs.Arrays.{Between, between-none, fill-above, filled}
 use Rattle.figures.proofs.LashStiffness.{stiffness-most}

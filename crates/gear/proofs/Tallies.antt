@@ -1,19 +1,19 @@
 -- Sums over the lashes that pass a test, and arrays that a loop over the lashes adds them up in, an entry for each test.
-use Prim.Native.Nat.{ℕ, zero, suc, _+_, _*_, _-_, _^_, _<_, _≤_}
+use Prim.Native.Nat.{ℕ, zero, suc, _+_, _*_, _-_, _<_, _≤_}
 use mathlib.Core.Bool.{Bool, true, false, cond}
 use mathlib.Core.List.{List, [], _∷_}
-use mathlib.Core.Path.{_≡_, refl, sym, ap, ap₂, _∙_}
+use mathlib.Core.Path.{_≡_, refl, ap, _∙_}
 use native.Mathlib.Decide.{ℕ-discrete}
 use native.Mathlib.Omega.{arith}
 use lib.Dec.{eqb}
-use lib.ListN.{length, getD, set, take, drop, replicate, length-set, length-replicate, drop-of-length-le}
+use lib.ListN.{length, getD, set, drop, replicate, length-set, length-replicate, drop-of-length-le}
 use lib.Seq.{getD-set-same, getD-set-other}
 use Rattle.sheet.specs.Layout.{blankLash}
 use Rattle.sheet.specs.declared.Lash.{Lash}
 use Rattle.sheet.specs.Lashings.{lashingOf, levelOf}
 use Rattle.sheet.specs.declared.Lashing.{Lashing}
 use Rattle.figures.specs.Fixed.{stiffnessOf, levelStiffness, upward, upwards}
-use Rattle.figures.proofs.Arrays.{blank-entry, peel}
+use Rattle.figures.proofs.Arrays.{blank-entry}
 
 unfoldable pub tally : (Lash → Bool) → (Lash → ℕ) → List Lash → ℕ
 tally test v [] = 0

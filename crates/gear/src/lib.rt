@@ -39,7 +39,7 @@ fn length_of(l: Lash) -> u64
     length(l.lx as u64, l.ly as u64, l.lz as u64)
 }
 
-// What a lash's force over its length's cube gives, in 2^-22 N/mm. A lash under 16,384 mm, as all are that ships carry, takes a division less.
+// What a lash's force over its length's cube gives, in 2^-22 N/mm. A lash under 16,384 mm takes a division less.
 fn over_cube(force: u64, cube: u64) -> u64
     requires { ⌜ (0 < cube) × (cube ≤ 22913 * 22913 * 22913) × (force / cube ≤ 400000) ⌝ }
     ensures { λ r. ⌜ r ≡ force * 2 ^ 22 / cube ⌝ }

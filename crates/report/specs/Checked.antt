@@ -1,6 +1,6 @@
 -- What `check` says: document 01's demands on the two numbers returned and on each byte of the buffer.
 use mathlib.Core.Path.{_≡_}
-use mathlib.Core.List.{List, [], _∷_, _++_}
+use mathlib.Core.List.{List, _++_}
 use Prim.Native.Nat.{ℕ}
 use lib.ListN.{drop, length}
 use Rattle.arith.specs.Fractions.{Frac, _≈_}

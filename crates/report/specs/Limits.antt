@@ -1,5 +1,5 @@
 -- Document 01, "Permissible loads": the limits of CR Table 2-3 and the safe working loads, in whole newtons.
-use mathlib.Core.Bool.{Bool, true, false, cond}
+use mathlib.Core.Bool.{cond}
 use Prim.Native.Nat.{ℕ, _*_, _/_}
 use lib.Dec.{eqb}
 
