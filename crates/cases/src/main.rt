@@ -19,7 +19,7 @@ use layout::Case;
 use layout::Item;
 use libc::STDIN_FILENO;
 use libc::STDOUT_FILENO;
-use report::Outcome;
+use answer::Outcome;
 
 fn main() {
     let mut input = io::large_buffer();
@@ -53,7 +53,7 @@ fn run(input: &[u8], case: Case)
     let mut filled = space::filled();
     let buffer: &mut [u8] = &mut filled;
     let answer = &mut buffer[..room];
-    let outcome = answer::check(&input[sheet..fields], answer);
+    let outcome = stack_check::check(&input[sheet..fields], answer);
     match outcome {
         Outcome::Taken(n) => tell_taken(input, case, answer, n),
         Outcome::Refused(number, second) => tell_refused(answer, number, second),

@@ -3,9 +3,9 @@ use Prim.Native.Nat.{ℕ, _+_, _*_, _≤_}
 use mathlib.Core.List.{List}
 use mathlib.Core.Path.{_≡_, subst}
 use native.Mathlib.Omega.{arith}
-use Rattle.report.specs.declared.Outcome.{Outcome}
-use Rattle.report.specs.Checked.{Checked, number, second}
-use Rattle.report.proofs.Numbers.{Numbers, numbers}
+use Rattle.answer.specs.declared.Outcome.{Outcome}
+use Rattle.answer.specs.Checked.{Checked, number, second}
+use Rattle.answer.proofs.Numbers.{Numbers, numbers}
 use Rattle.lash.specs.Called.{Called}
 
 -- o is what the check returned, q the case that it is

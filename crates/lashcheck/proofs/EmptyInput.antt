@@ -13,9 +13,9 @@ use Rattle.sheet.specs.declared.Reading.{Reading}
 use Rattle.sheet.specs.declared.Reading.the-variants as R
 use Rattle.sheet.specs.Refusals.{first, refusal}
 use Rattle.sheet.specs.Layout.{sheetOf}
-use Rattle.report.specs.declared.Outcome.{Outcome}
-use Rattle.report.specs.declared.Outcome.the-variants.{Taken, Refused}
-use Rattle.report.specs.Checked.{TurnedBack, CheckedAs, number, second}
+use Rattle.answer.specs.declared.Outcome.{Outcome}
+use Rattle.answer.specs.declared.Outcome.the-variants.{Taken, Refused}
+use Rattle.answer.specs.Checked.{TurnedBack, CheckedAs, number, second}
 use Rattle.lashcheck.specs.Lines.{Decimal, Line}
 use Rattle.lashcheck.specs.Replies.{WrittenFor, Reply}
 

@@ -2,9 +2,9 @@
 use Prim.Native.Nat.{ℕ, _≤_}
 use mathlib.Core.List.{List}
 use mathlib.Core.Path.{_≡_, subst}
-use Rattle.report.specs.declared.Outcome.{Outcome}
-use Rattle.report.specs.Checked.{Checked, second, kept, demanded}
-use Rattle.report.proofs.Numbers.{Numbers, numbers}
+use Rattle.answer.specs.declared.Outcome.{Outcome}
+use Rattle.answer.specs.Checked.{Checked, second, kept, demanded}
+use Rattle.answer.proofs.Numbers.{Numbers, numbers}
 use Rattle.lashcheck.specs.Replies.{WrittenFor, Reply}
 
 -- o is what the check returned, q the case that it is

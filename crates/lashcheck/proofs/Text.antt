@@ -14,7 +14,7 @@ use lib.Seq.{length-take-le, take-all, take-at, take-length, drop-drop, take-suc
 use Rattle.io.specs.Counts.{Counts}
 use Rattle.io.specs.Digits.{digits, Fewest}
 use Rattle.lashcheck.specs.Lines.{Line}
-use Rattle.lashcheck.specs.Steps.{Put}
+use Rattle.lashcheck.specs.inner.Texts.{Put}
 
 -- a number of 64 bits has at most 20 digits
 pub few-digits : (n k : ℕ) → n < 2 ^ 64 → Fewest 10 1 n k → k ≤ 20

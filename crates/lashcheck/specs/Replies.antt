@@ -3,9 +3,9 @@ use Prim.Native.Nat.{ℕ}
 use mathlib.Core.List.{List}
 use mathlib.Core.Path.{_≡_}
 use lib.ListN.{take}
-use Rattle.report.specs.declared.Outcome.{Outcome}
-use Rattle.report.specs.declared.Outcome.the-variants.{Taken, Refused}
-use Rattle.report.specs.Checked.{Checked}
+use Rattle.answer.specs.declared.Outcome.{Outcome}
+use Rattle.answer.specs.declared.Outcome.the-variants.{Taken, Refused}
+use Rattle.answer.specs.Checked.{Checked}
 use Rattle.lashcheck.specs.Lines.{Line}
 
 -- for an outcome of the check, which left `after` in the answer buffer: the answer's bytes, or the line of the refusal

@@ -10,12 +10,12 @@ use Rattle.sheet.specs.Written.{headBytes, tierBytes, lashBytes}
 
 -- rule 1, route 0, an ordinary lock of 400,000 N
 abbrev head : List ℕ
-head = headBytes (record { rule = 1; route = 0; lock = 0; zero = 0; breaking = 400000 })
+head = headBytes (record { rule = 1; route = 0; lockMaterial = 0; zero = 0; lockBreakingLoad = 400000 })
 
 -- a box like B, of a size, height, mass and A_Vmin
 abbrev box : ℕ → ℕ → ℕ → ℕ → List ℕ
-box size height mass avmin =
-    tierBytes (record { size = size; wind = 0; height = height; mass = mass; at = 500; avmax = 1500; avmin = avmin })
+box size height mass aVmin =
+    tierBytes (record { size = size; wind = 0; height = height; mass = mass; aT = 500; aVmax = 1500; aVmin = aVmin })
 
 abbrev B : List ℕ
 B = box 40 2591 20000 800
@@ -34,7 +34,7 @@ rod tier hook kind ly =
       lz = 2600;
       area = 500;
       modulus = 130000;
-      breaking = 200000;
+      breakingLoad = 200000;
     })
 
 abbrev S : ℕ → ℕ → ℕ → List ℕ

@@ -39,10 +39,10 @@ pub record TierLimits (t : Tier) : Type 0 where
   pub wind : t .wind ≤ 1
   pub massLeast : 1 ≤ t .mass
   pub massMost : t .mass ≤ 30480
-  pub at : t .at ≤ 1500
-  pub avmax : t .avmax ≤ 3000
-  pub avmin : t .avmin ≤ 1000
-  pub order : t .avmin ≤ t .avmax
+  pub aT : t .aT ≤ 1500
+  pub aVmax : t .aVmax ≤ 3000
+  pub aVmin : t .aVmin ≤ 1000
+  pub order : t .aVmin ≤ t .aVmax
 
 sized : (s h z a b : ℕ) → eqb s z && (eqb h a || eqb h b) ≡ true → (s ≡ z) × ((h ≡ a) ⊎ (h ≡ b))
 sized s h z a b e =
@@ -59,9 +59,9 @@ pub tier-limits : (t : Tier) → tierFits t ≡ true → TierLimits t
 unfolding tierFits
 tier-limits t e =
     let order = and-true _ _ e in
-    let avmin = and-true _ _ (order .0) in
-    let avmax = and-true _ _ (avmin .0) in
-    let at = and-true _ _ (avmax .0) in
+    let aVmin = and-true _ _ (order .0) in
+    let aVmax = and-true _ _ (aVmin .0) in
+    let at = and-true _ _ (aVmax .0) in
     let mass = and-true _ _ (at .0) in
     let wind = and-true _ _ (mass .0) in
     let box : Box (t .size) (t .height) =
@@ -75,9 +75,9 @@ tier-limits t e =
       wind = leb-true _ _ (wind .1);
       massLeast = least 1 30480 _ (mass .1);
       massMost = most 1 30480 _ (mass .1);
-      at = leb-true _ _ (at .1);
-      avmax = leb-true _ _ (avmax .1);
-      avmin = leb-true _ _ (avmin .1);
+      aT = leb-true _ _ (at .1);
+      aVmax = leb-true _ _ (aVmax .1);
+      aVmin = leb-true _ _ (aVmin .1);
       order = leb-true _ _ (order .1);
     }
 
@@ -94,7 +94,7 @@ pub record LashLimits (l : Lash) : Type 0 where
   pub areaMost : l .area ≤ 1000
   pub modulusLeast : 10000 ≤ l .modulus
   pub modulusMost : l .modulus ≤ 200000
-  pub breaking : BreakingLimits (l .breaking)
+  pub breaking : BreakingLimits (l .breakingLoad)
 
 pub lash-limits : (l : Lash) → lashFits l ≡ true → LashLimits l
 unfolding lashFits
@@ -120,7 +120,7 @@ lash-limits l e =
       areaMost = most 50 1000 _ (area .1);
       modulusLeast = least 10000 200000 _ (modulus .1);
       modulusMost = most 10000 200000 _ (modulus .1);
-      breaking = breaking-limits (l .breaking) (breaking .1);
+      breaking = breaking-limits (l .breakingLoad) (breaking .1);
     }
 
 -- a hook or kind is 0 or 1

@@ -183,7 +183,7 @@ module _ (t : Sheet) (f : Fits t) (p : Padded t) where
   -- no row of the table holds
   head-held : headOf s ≡ t .head
   unfolding written
-  head-held = head-back (t .head) (tiers ++ (door ++ closed)) (omega (arith, breaking-limits (t .head .breaking) (f .breaking)))
+  head-held = head-back (t .head) (tiers ++ (door ++ closed)) (omega (arith, breaking-limits (t .head .lockBreakingLoad) (f .breaking)))
 
   head-clear : Clear (headRows s)
   head-clear =
@@ -191,7 +191,7 @@ module _ (t : Sheet) (f : Fits t) (p : Padded t) where
         le-ltb (length s) 8 (omega (arith, tiers-held .there)),
         (
           rw (eq-eqb (t .head .rule) 1 (f .rule), eq-eqb (t .head .zero) 0 (f .zero)),
-          (le-ltb 12 (t .head .route) (f .route), (rw (le-ltb 2 (t .head .lock) (f .lock), f .breaking), tt)),
+          (le-ltb 12 (t .head .route) (f .route), (rw (le-ltb 2 (t .head .lockMaterial) (f .lock), f .breaking), tt)),
         ),
       )
 

@@ -57,8 +57,8 @@ taken-fits s e =
     three : (not (eqb (headOf s .rule) 1) ≡ false) × (not (eqb (headOf s .zero) 0) ≡ false)
     three = or-false (not (eqb (headOf s .rule) 1)) (not (eqb (headOf s .zero) 0)) (p .head .1 .0)
 
-    five : (ltb 2 (headOf s .lock) ≡ false) × (not (breakingFits (headOf s .breaking)) ≡ false)
-    five = or-false (ltb 2 (headOf s .lock)) (not (breakingFits (headOf s .breaking))) (p .head .1 .1 .1 .0)
+    five : (ltb 2 (headOf s .lockMaterial) ≡ false) × (not (breakingFits (headOf s .lockBreakingLoad)) ≡ false)
+    five = or-false (ltb 2 (headOf s .lockMaterial)) (not (breakingFits (headOf s .lockBreakingLoad))) (p .head .1 .1 .1 .0)
 
     tier-held : (k : ℕ) → k < tierCount s → getD (tiersIn s (tierCount s)) k blankTier ≡ tierIn s k
     tier-held k q = held (tierIn s) blankTier (tierCount s) 10 k q

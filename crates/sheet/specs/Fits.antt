@@ -29,8 +29,8 @@ pub record Fits (t : Sheet) : Type 0 where
   pub rule : t .head .rule ≡ 1
   pub zero : t .head .zero ≡ 0
   pub route : t .head .route ≤ 12
-  pub lock : t .head .lock ≤ 2
-  pub breaking : breakingFits (t .head .breaking) ≡ true
+  pub lock : t .head .lockMaterial ≤ 2
+  pub breaking : breakingFits (t .head .lockBreakingLoad) ≡ true
   pub some : 1 ≤ t .ntiers
   pub few : t .ntiers ≤ 10
   pub tiers : (k : ℕ) → k < t .ntiers → tierFits (tierAt (t .tiers) k) ≡ true

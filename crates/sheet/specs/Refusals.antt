@@ -38,7 +38,7 @@ row4 s = row 4 1 (headOf s .route above 12)
 
 -- 5, 2: lock material above 2, or its breaking load outside the limits
 abbrev pub row5 : List ℕ → Row
-row5 s = row 5 2 (headOf s .lock above 2 || not (breakingFits (headOf s .breaking)))
+row5 s = row 5 2 (headOf s .lockMaterial above 2 || not (breakingFits (headOf s .lockBreakingLoad)))
 
 -- 6, 8: tier count 0 or above 10
 abbrev pub row6 : List ℕ → Row

@@ -9,11 +9,11 @@ use Rattle.sheet.specs.declared.Lash.{Lash}
 use Rattle.sheet.specs.declared.Sheet.{Sheet}
 
 abbrev pub headBytes : Head → List ℕ
-headBytes h = h .rule ∷ h .route ∷ h .lock ∷ h .zero ∷ bytes4 (h .breaking)
+headBytes h = h .rule ∷ h .route ∷ h .lockMaterial ∷ h .zero ∷ bytes4 (h .lockBreakingLoad)
 
 abbrev pub tierBytes : Tier → List ℕ
 tierBytes t =
-    t .size ∷ t .wind ∷ bytes2 (t .height) ++ bytes2 (t .mass) ++ bytes2 (t .at) ++ bytes2 (t .avmax) ++ bytes2 (t .avmin)
+    t .size ∷ t .wind ∷ bytes2 (t .height) ++ bytes2 (t .mass) ++ bytes2 (t .aT) ++ bytes2 (t .aVmax) ++ bytes2 (t .aVmin)
 
 abbrev pub lashBytes : Lash → List ℕ
 lashBytes l =
@@ -21,7 +21,7 @@ lashBytes l =
     ∷ l .hook
     ∷ l .kind
     ∷ l .material
-    ∷ bytes2 (l .lx) ++ bytes2 (l .ly) ++ bytes2 (l .lz) ++ bytes2 (l .area) ++ bytes4 (l .modulus) ++ bytes4 (l .breaking)
+    ∷ bytes2 (l .lx) ++ bytes2 (l .ly) ++ bytes2 (l .lz) ++ bytes2 (l .area) ++ bytes4 (l .modulus) ++ bytes4 (l .breakingLoad)
 
 -- a count, then as many entries
 abbrev pub counted : {A : Type 0} → (A → List ℕ) → ℕ → List A → List ℕ

@@ -19,7 +19,7 @@ use Rattle.arith.proofs.RationalOrder.{≤ℚ-trans, nat-q, above-0, div-times}
 use Rattle.arith.proofs.FractionsInRationals.{sumℚ, mk-int, mk-div, of-≈, toℚ}
 use Rattle.springs.specs.Equations.{Tier, Lash, tierAt, shift, racking, Solves}
 use Rattle.springs.specs.Promise.{stiffnessScale, stiffest, mostHeld, farthest, loadScale, shiftScale, stiffnessAt, loadAt, Near, found, Solvable, errorHundredths, lashError, rackingError, Promised}
-use Rattle.springs.specs.Steps.{divisor, shiftUp, HandedDown, Climbed}
+use Rattle.springs.specs.inner.Elimination.{divisor, shiftUp, HandedDown, Climbed}
 use Rattle.springs.proofs.Chain.{natℚ, numbers, force, load}
 use Rattle.springs.proofs.Levels.{springs, lashes, loads, shifts, mk-stiffness, mk-load, mk-racking, no-spring}
 use Rattle.springs.proofs.Stability.{lash-errors, racking-errors, mk-errors}

@@ -7,7 +7,7 @@ use native.Mathlib.Decide.{ℕ-discrete}
 use lib.ListN.{getD, length, set, replicate, length-set}
 use lib.Seq.{getD-set-same, getD-set-other}
 use Rattle.springs.specs.Promise.{farthest, Solvable}
-use Rattle.springs.specs.Steps.{stiffnessDown, loadDown, shiftUp, InRange, mostLoad, HandedDown, Climbed}
+use Rattle.springs.specs.inner.Elimination.{stiffnessDown, loadDown, shiftUp, InRange, mostLoad, HandedDown, Climbed}
 use Rattle.springs.proofs.Ranges.{later, in-range, load-in-range, far-at}
 
 -- a new array holds zeros

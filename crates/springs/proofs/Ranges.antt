@@ -8,7 +8,7 @@ use native.Mathlib.Omega.{arith}
 use native.Mathlib.Decide.{decLe}
 use lib.ListN.{getD}
 use Rattle.springs.specs.Promise.{stiffnessScale, softest, stiffest, mostLoaded, farthest, Solvable}
-use Rattle.springs.specs.Steps.{divisor, stiffnessDown, loadDown, shiftUp, InRange, mostLoad, HandedDown, Climbed}
+use Rattle.springs.specs.inner.Elimination.{divisor, stiffnessDown, loadDown, shiftUp, InRange, mostLoad, HandedDown, Climbed}
 
 pub quotient-le : (x c b : ℕ) → 0 < c → x ≤ b * c → x / c ≤ b
 quotient-le x c b p h = le-of-mul-le-mul-right (omega (arith, div-add-mod' x c)) p

@@ -5,7 +5,7 @@ use native.Mathlib.Nat.{mul-div-mul-right, add-mul-div-left, mul-div-cancel-left
 use native.Mathlib.Omega.{arith}
 use Rattle.arith.specs.Rounding.{scaledDown}
 use Rattle.springs.specs.Promise.{stiffnessScale}
-use Rattle.springs.specs.Steps.{divisor, stiffnessDown, loadDown, shiftUp}
+use Rattle.springs.specs.inner.Elimination.{divisor, stiffnessDown, loadDown, shiftUp}
 
 module _ (k κ x : ℕ) (stiff : 0 < k) (free : κ + x ≡ 0) where
   cancelled : (a : ℕ) → scaledDown a stiffnessScale (divisor k κ x) ≡ a / k

@@ -5,7 +5,7 @@ ghost use mathlib.Core.Path.{_≡_};
 ghost use Prim.Native.Nat.{_+_, _<_, _≤_};
 ghost use lib.ListN.{length, getD};
 ghost use Rattle.springs.specs.Promise.{farthest, Solvable, Promised};
-ghost use Rattle.springs.specs.Steps.{stiffnessDown, loadDown, shiftUp, InRange, mostLoad, HandedDown, Climbed};
+ghost use Rattle.springs.specs.inner.Elimination.{stiffnessDown, loadDown, shiftUp, InRange, mostLoad, HandedDown, Climbed};
 use arith::rounding::scaled;
 
 // Stiffnesses are in 2^-22 N/mm. At a level that nothing holds, above the uppermost lash, the scale cancels: that spares divisions.

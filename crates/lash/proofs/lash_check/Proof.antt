@@ -1,4 +1,4 @@
--- `lash::lash_check` says what `answer::check` says, with its two numbers in one.
+-- `lash::lash_check` says what `stack_check::check` says, with its two numbers in one.
 use borrow.Author.Needs.{needs}
 use Rattle.lash.proofs.OneNumber.{fitting, called}
 use Rattle.lash.proofs.lash_check.Statement.{statement}

@@ -3,7 +3,7 @@ use mathlib.Core.Path.{subst}
 use Prim.Native.Nat.{ℕ, _+_, _-_}
 use native.Mathlib.Omega.{arith}
 use native.Mathlib.Numerals.{add-one}
-use Rattle.springs.specs.Steps.{Climbed}
+use Rattle.springs.specs.inner.Elimination.{Climbed}
 use Rattle.springs.proofs.Loops.{Up, up-start, up-ready, up-next}
 use borrow.Author.Needs.{needs}
 use Rattle.springs.proofs.climb.Statement.{statement}

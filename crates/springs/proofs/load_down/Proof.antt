@@ -3,7 +3,7 @@ use mathlib.Core.Path.{sym}
 use Prim.Native.Nat.{_+_, _*_}
 use native.Mathlib.Nat.{mul-le-mul-right}
 use native.Mathlib.Omega.{arith}
-use Rattle.springs.specs.Steps.{loadDown}
+use Rattle.springs.specs.inner.Elimination.{loadDown}
 use Rattle.springs.proofs.Ranges.{scalable, load-fits}
 use Rattle.springs.proofs.Unheld.{load-unheld}
 use borrow.Author.Needs.{needs}

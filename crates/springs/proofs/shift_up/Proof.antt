@@ -3,7 +3,7 @@ use mathlib.Core.Path.{sym}
 use Prim.Native.Nat.{_+_, _*_}
 use native.Mathlib.Nat.{mul-le-mul-right, div-le-self}
 use native.Mathlib.Omega.{arith}
-use Rattle.springs.specs.Steps.{shiftUp}
+use Rattle.springs.specs.inner.Elimination.{shiftUp}
 use Rattle.springs.proofs.Ranges.{scalable, shift-fits}
 use Rattle.springs.proofs.Unheld.{shift-unheld}
 use borrow.Author.Needs.{needs}

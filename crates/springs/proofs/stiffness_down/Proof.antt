@@ -3,7 +3,7 @@ use mathlib.Core.Path.{sym}
 use Prim.Native.Nat.{_+_, _*_}
 use native.Mathlib.Nat.{mul-le-mul-right}
 use native.Mathlib.Omega.{arith}
-use Rattle.springs.specs.Steps.{stiffnessDown}
+use Rattle.springs.specs.inner.Elimination.{stiffnessDown}
 use Rattle.springs.proofs.Ranges.{scalable, stiffness-fits}
 use Rattle.springs.proofs.Unheld.{stiffness-unheld}
 use borrow.Author.Needs.{needs}

@@ -4,7 +4,7 @@ use mathlib.Core.Path.{_≡_, ap}
 use native.Mathlib.Omega.{arith}
 use borrow.Author.Needs.{needs}
 use lib.ListN.{length}
-use Rattle.lashcheck.specs.Steps.{counted}
+use Rattle.lashcheck.specs.inner.Texts.{counted}
 use Rattle.lashcheck.proofs.Text.{counts-of}
 use Rattle.lashcheck.proofs.input.read.Statement.{statement}
 use Rattle.lashcheck.proofs.input.read.Tie as tie

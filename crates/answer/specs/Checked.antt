@@ -1,0 +1,65 @@
+-- What `check` says: document 01's demands on the two numbers returned and on each byte of the buffer.
+use mathlib.Core.Path.{_≡_}
+use mathlib.Core.List.{List, _++_}
+use Prim.Native.Nat.{ℕ}
+use lib.ListN.{drop, length}
+use Rattle.arith.specs.Fractions.{Frac, _≈_}
+use Rattle.springs.specs.Equations.{shift}
+use Rattle.sheet.specs.declared.Reading.{Reading}
+use Rattle.sheet.specs.declared.Reading.the-variants.{Taken, Refused}
+use Rattle.sheet.specs.declared.Sheet.{Sheet}
+use Rattle.sheet.specs.Layout.{sheetOf}
+use Rattle.sheet.specs.Refusals.{refusal}
+use Rattle.statics.specs.declared.Figures.{Figures}
+use Rattle.statics.specs.Ends.{End, EndSolved}
+use Rattle.statics.specs.Reported.{EndFigured}
+use Rattle.answer.specs.declared.Outcome.{Outcome}
+use Rattle.answer.specs.declared.Outcome.the-variants as O
+use Rattle.answer.specs.Findings.{figuresOf}
+use Rattle.answer.specs.Answers.{answerBytes}
+
+-- the two numbers that document 01 returns: 0 and the answer's length, or a refusal's number and second number
+abbrev pub number : Outcome → ℕ
+number (O.Taken n) = 0
+number (O.Refused c p) = c
+
+abbrev pub second : Outcome → ℕ
+second (O.Taken n) = n
+second (O.Refused c p) = p
+
+-- exactly one solution in fractions: there is one, and any two agree up to cross products
+pub record OneSolution (e : End) (t : Sheet) : Type 0 where
+  pub shifts : List Frac
+  pub exists : EndSolved e t shifts
+  pub unique : (Ds Es : List Frac) → EndSolved e t Ds → EndSolved e t Es → (i : ℕ) → shift Ds i ≈ shift Es i
+
+-- a refused sheet: its two numbers, and the buffer as it was
+pub record TurnedBack (c p : ℕ) (before after : List ℕ) (r : Outcome) : Type 0 where
+  pub first : number r ≡ c
+  pub next : second r ≡ p
+  pub untouched : after ≡ before
+
+-- a taken sheet t: 0 and the answer's length; the buffer holds the answer's bytes, then what stood there. The figures in it are within
+-- `margin` N of the exact forces at each end, whose equations have one solution; findings and verdict are the rule's, by answerBytes
+pub record Answered (margin : ℕ) (t : Sheet) (before after : List ℕ) (r : Outcome) : Type 0 where
+  pub figures : Figures
+  pub taken : number r ≡ 0
+  pub size : second r ≡ length (answerBytes t figures)
+  pub written : after ≡ answerBytes t figures ++ drop (length (answerBytes t figures)) before
+  pub told : (e : End) → EndFigured margin e t (figuresOf e figures)
+  pub one : (e : End) → OneSolution e t
+
+-- the sheet s with a buffer that held `before`, by cases on document 01's refusals
+abbrev pub CheckedAs : Reading → ℕ → Sheet → List ℕ → List ℕ → Outcome → Type 0
+CheckedAs (Refused c p) margin t before after r = TurnedBack c p before after r
+CheckedAs Taken margin t before after r = Answered margin t before after r
+
+pub record Checked (margin : ℕ) (s before after : List ℕ) (r : Outcome) : Type 0 where
+  pub holds : CheckedAs (refusal s (length before)) margin (sheetOf s) before after r
+
+-- demand 3's margin, and the one that the check keeps
+abbrev pub demanded : ℕ
+demanded = 100
+
+abbrev pub kept : ℕ
+kept = 9

@@ -1,0 +1,109 @@
+-- `figures::end_figures`: its steps give the figures of an end (EndLaws).
+use borrow.Author.Needs.{needs}
+use mathlib.Core.Path.{_≡_, refl}
+use native.Mathlib.Omega.{arith}
+use lib.ListN.{length, take}
+use lib.Seq.{length-take-le}
+use Rattle.figures.proofs.EndLaws.{each-ten, end-solvable, end-measured, end-worked}
+use Rattle.figures.proofs.end_figures.Statement.{statement}
+use Rattle.figures.proofs.end_figures.Tie as tie
+
+-- from each step to the one before it
+abbrev entered : tie.After-gear-of → tie.Start
+entered c = c .before .before .before .before .before .before .before .before
+
+abbrev geared : tie.After-solve → tie.After-gear-of
+geared c = c .before .before .before .before .before
+
+abbrev solved : tie.After-lash-figures → tie.After-solve
+solved c = c .before .before .before .before
+
+abbrev pulled : tie.After-level-figures → tie.After-lash-figures
+pulled c = c .before .before .before .before .before .before .before
+
+counted : (c : tie.Start) → length (take (c .args .m) (c .args .lashes)) ≡ c .args .m
+counted c = length-take-le (c .args .m) (c .args .lashes) (omega (arith, c .pre .0 .few-lashes, c .good .1 .1 .1 .0 .1 .0 .1))
+
+slice-aggregate-gear-of : tie.Need-slice-aggregate-gear-of
+slice-aggregate-gear-of c = search needs
+
+slice-aggregate-gear-of-2 : tie.Need-slice-aggregate-gear-of-2
+slice-aggregate-gear-of-2 c = search needs
+
+slice-aggregate-gear-of-3 : tie.Need-slice-aggregate-gear-of-3
+slice-aggregate-gear-of-3 c = search needs
+
+gear-of-requires : tie.Need-gear-of-requires
+gear-of-requires c κs =
+    let b = c .before .before .before .before .before .before .before in
+    ((b .pre .0 .few-lashes, each-ten (b .pre .0) (counted b)), (refl, refl, refl))
+
+slice-aggregate-solve : tie.Need-slice-aggregate-solve
+slice-aggregate-solve c = search needs
+
+solve-requires : tie.Need-solve-requires
+solve-requires c κs =
+    let g = c .before .before .before .before in
+    let b = entered g in
+    let p = b .pre in
+    (end-solvable (p .0) (counted b) (g .gear-of .ensures .1), omega (arith, p .0 .few, p .1 .0), omega (arith, p .0 .few, g .gear-of .kept .1 .1 .1 .1 .0), omega (arith, p .0 .few, p .1 .1))
+
+slice-aggregate-lash-figures : tie.Need-slice-aggregate-lash-figures
+slice-aggregate-lash-figures c = search needs
+
+slice-aggregate-lash-figures-2 : tie.Need-slice-aggregate-lash-figures-2
+slice-aggregate-lash-figures-2 c = search needs
+
+slice-aggregate-lash-figures-3 : tie.Need-slice-aggregate-lash-figures-3
+slice-aggregate-lash-figures-3 c = search needs
+
+lash-figures-requires : tie.Need-lash-figures-requires
+lash-figures-requires c κs =
+    let s = c .before .before .before in
+    let g = geared s in
+    let b = entered g in
+    let long = g .gear-of .kept .1 .1 in (
+      (b .pre .0 .few-lashes, each-ten (b .pre .0) (counted b)),
+      ((g .gear-of .ensures .0, s .solve .ensures .far), (long .0, long .1 .0, s .solve .ok .1 .0 .1)),
+    )
+
+slice-aggregate-level-figures : tie.Need-slice-aggregate-level-figures
+slice-aggregate-level-figures c = search needs
+
+level-figures-requires : tie.Need-level-figures-requires
+level-figures-requires c κs =
+    let p = c .before .before .before .before .before .before in
+    let s = solved p in
+    let b = entered (geared s) in
+    let posts = p .lash-figures .ensures .1 in (
+      end-measured (b .pre .0) (counted b) (s .solve .ensures) (posts .0) (posts .1),
+      (b .pre .1 .0, s .solve .ok .1 .0 .1, b .pre .1 .2, b .pre .1 .3),
+    )
+
+returns : tie.Need-returns
+returns c =
+    let v = c .before .before .before .before .before .before in
+    let p = pulled v in
+    let s = solved p in
+    let g = geared s in
+    let b = entered g in
+    let posts = p .lash-figures .ensures .1 in
+    end-worked (b .pre .0) (counted b) (g .gear-of .ensures .1) (s .solve .ensures) (p .lash-figures .ensures .0) (posts .0) (posts .1) (v .level-figures .ensures)
+
+pub end-figures-spec : {M : Type 1} → statement M
+end-figures-spec =
+    tie.close
+    (tie.spec
+    slice-aggregate-gear-of
+    slice-aggregate-gear-of-2
+    slice-aggregate-gear-of-3
+    gear-of-requires
+    slice-aggregate-solve
+    solve-requires
+    slice-aggregate-lash-figures
+    slice-aggregate-lash-figures-2
+    slice-aggregate-lash-figures-3
+    lash-figures-requires
+    slice-aggregate-level-figures
+    level-figures-requires
+    returns)

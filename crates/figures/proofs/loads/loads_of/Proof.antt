@@ -1,0 +1,188 @@
+-- `figures::loads::loads_of`: from the top down, each level's load and the weights above it (LoadLaws).
+use mathlib.Core.Path.{_≡_}
+use lib.ListN.{getD, length, take}
+use lib.Seq.{getD-take, length-take-le}
+use Prim.Native.Nat.{_-_}
+use native.Mathlib.Omega.{arith}
+use Rattle.sheet.specs.Layout.{blankTier}
+use Rattle.statics.specs.inner.Limits.{TierFacts}
+use borrow.Author.Needs.{needs}
+use Rattle.figures.proofs.LoadLaws.{Pushed, pushed-none, pushed-more, Carried, carried-none, carried-more, carried-all}
+use Rattle.figures.proofs.loads.loads_of.Statement.{statement}
+use Rattle.figures.proofs.loads.loads_of.Tie as tie
+
+abbrev Inv-loop : tie.InvT-loop
+Inv-loop n share factor loads₀ most₀ least₀ tiers over₀ most-lifted₀ least-lifted₀ i₀ loads most least over most-lifted least-lifted i =
+    Pushed share factor n (take n tiers) loads (over .push) (over .gust) i
+    × Carried (λ t. t .aVmax) n (take n tiers) most most-lifted i
+    × Carried (λ t. t .aVmin) n (take n tiers) least least-lifted i
+
+abbrev μ-loop : tie.MeasureT-loop
+μ-loop n share factor loads₀ most₀ least₀ tiers over₀ most-lifted₀ least-lifted₀ i₀ loads most least over most-lifted least-lifted i =
+    i
+
+-- where the loop is entered from
+abbrev start : tie.At-loop Inv-loop μ-loop → tie.Start Inv-loop μ-loop
+start c = c .before .before .before .before
+
+stacked : (c : tie.Start Inv-loop μ-loop) → length (take (c .args .n) (c .args .t2)) ≡ c .args .n
+stacked c = length-take-le (c .args .n) (c .args .t2) (omega (arith, c .pre .0 .0, c .good .1 .0 .1 .0 .1))
+
+own :
+    (c : tie.In-loop Inv-loop μ-loop) →
+    let a = start (c .before) .args in
+    getD (take (a .n) (a .t2)) (c .before .loop .i - 1) blankTier ≡ getD (a .t2) (c .before .loop .i - 1) blankTier
+own c =
+    let a = start (c .before) .args in
+    let l = c .before .loop in
+    getD-take (a .n) (a .t2) (l .i - 1) blankTier (omega (arith, c .loop-test .taken, l .inv .0 .within))
+
+facts : (c : tie.In-loop Inv-loop μ-loop) → TierFacts (getD (start (c .before) .args .t2) (c .before .loop .i - 1) blankTier)
+facts c =
+    let l = c .before .loop in
+    rw (own c) at (start (c .before) .pre .1 .0 (l .i - 1) (omega (arith, c .loop-test .taken, l .inv .0 .within)))
+
+loop-holds : tie.Need-loop-holds Inv-loop μ-loop
+loop-holds c =
+    let b = c .before .before .before in
+    let p = b .pre .1 .1 in
+    rw (p .0, p .1, p .2) (pushed-none (stacked b), carried-none (stacked b), carried-none (stacked b))
+
+sub-i : tie.Need-sub-i Inv-loop μ-loop
+sub-i c = search needs
+
+mul-t : tie.Need-mul-t Inv-loop μ-loop
+mul-t c = search needs
+
+array-copy-out-t : tie.Need-array-copy-out-t Inv-loop μ-loop
+array-copy-out-t c = search needs
+
+thrust-of-requires : tie.Need-thrust-of-requires Inv-loop μ-loop
+thrust-of-requires c κs = facts (c .before)
+
+level-load-requires : tie.Need-level-load-requires Inv-loop μ-loop
+level-load-requires c κs =
+    let a = c .before .before .before in
+    let p = start a .pre .0 in
+    let t = c .thrust-of .ensures in
+    ((p .1, p .2), ((t .1, t .3), (a .loop .inv .0 .push-small, a .loop .inv .0 .gust-small)))
+
+mul-loads : tie.Need-mul-loads Inv-loop μ-loop
+mul-loads c = search needs
+
+slice-write-loads : tie.Need-slice-write-loads Inv-loop μ-loop
+slice-write-loads c = search needs
+
+lift-requires : tie.Need-lift-requires Inv-loop μ-loop
+lift-requires c κs =
+    let f = facts (c .before .before .before) in
+    (f .mass, f .aVmax)
+
+add-most-lifted : tie.Need-add-most-lifted Inv-loop μ-loop
+add-most-lifted c = search needs
+
+lift-requires-2 : tie.Need-lift-requires-2 Inv-loop μ-loop
+lift-requires-2 c κs =
+    let f = facts (c .before .before .before .before) in
+    (f .mass, omega (arith, f .aVmin))
+
+add-least-lifted : tie.Need-add-least-lifted Inv-loop μ-loop
+add-least-lifted c = search needs
+
+half-weight-requires : tie.Need-half-weight-requires Inv-loop μ-loop
+half-weight-requires c κs =
+    let a = c .before .before .before .before .before .before in
+    omega (arith, a .loop .inv .1 .sum-small, start a .pre .0 .0, c .before .lift .ensures .1)
+
+mul-most : tie.Need-mul-most Inv-loop μ-loop
+mul-most c = search needs
+
+slice-write-most : tie.Need-slice-write-most Inv-loop μ-loop
+slice-write-most c = search needs
+
+half-weight-requires-2 : tie.Need-half-weight-requires-2 Inv-loop μ-loop
+half-weight-requires-2 c κs =
+    let a = c .before .before .before .before .before .before .before in
+    omega (arith, a .loop .inv .2 .sum-small, start a .pre .0 .0, c .before .lift2 .ensures .1)
+
+mul-least : tie.Need-mul-least Inv-loop μ-loop
+mul-least c = search needs
+
+slice-write-least : tie.Need-slice-write-least Inv-loop μ-loop
+slice-write-least c = search needs
+
+loop-less : tie.Need-loop-less Inv-loop μ-loop
+loop-less c = search needs
+
+loop-again : tie.Need-loop-again Inv-loop μ-loop
+loop-again c =
+    let w = c .before .before in
+    let v = w .before .before in
+    let t = v .before .before .before in
+    let l = t .before .loop in
+    let b = start (t .before) in
+    let few = b .pre .0 .0 in
+    let up = t .loop-test .taken in
+    let e = v .before .thrust-of .ensures in
+    let r = v .level-load .ensures in
+    let f = w .before .lift .ensures in
+    let g = w .lift2 .ensures in
+    let x = c .before .half-weight .ensures in
+    let y = c .half-weight2 .ensures in (
+      pushed-more few up (l .inv .0) (rw (own t) (e .0)) (rw (own t) (e .2)) (e .1) (e .3) (r .0) (r .1),
+      carried-more (stacked b) few up (l .inv .1) (rw (own t) (f .0)) (f .1) (x .0) (x .1),
+      carried-more (stacked b) few up (l .inv .2) (rw (own t) (g .0)) (g .1) (y .0) (y .1),
+    )
+
+same-length : tie.Need-same-length Inv-loop μ-loop
+same-length c = search needs
+
+same-length-2 : tie.Need-same-length-2 Inv-loop μ-loop
+same-length-2 c = search needs
+
+same-length-3 : tie.Need-same-length-3 Inv-loop μ-loop
+same-length-3 c = search needs
+
+returns : tie.Need-returns Inv-loop μ-loop
+returns c =
+    let l = c .before .loop in
+    let b = start (c .before) in
+    let m = carried-all (stacked b) (c .loop-test .left) (l .inv .1) in
+    let k = carried-all (stacked b) (c .loop-test .left) (l .inv .2) in (
+      record {
+        each = λ i h. l .inv .0 .loaded .each i (omega arith) h .0;
+        small = λ i h. l .inv .0 .loaded .each i (omega arith) h .1;
+      },
+      record { most-is = λ i. m i .0; least-is = λ i. k i .0; most-light = λ i. m i .1; least-light = λ i. k i .1 },
+    )
+
+pub loads-of-spec : {M : Type 1} → statement M
+loads-of-spec =
+    tie.close
+    (tie.spec
+    Inv-loop
+    μ-loop
+    loop-holds
+    sub-i
+    mul-t
+    array-copy-out-t
+    thrust-of-requires
+    level-load-requires
+    mul-loads
+    slice-write-loads
+    lift-requires
+    add-most-lifted
+    lift-requires-2
+    add-least-lifted
+    half-weight-requires
+    mul-most
+    slice-write-most
+    half-weight-requires-2
+    mul-least
+    slice-write-least
+    loop-less
+    loop-again
+    same-length
+    same-length-2
+    same-length-3
+    returns)

@@ -1,0 +1,140 @@
+use mathlib.Core.Path.{_≡_}
+use lib.ListN.{getD, take}
+use lib.Seq.{getD-take}
+use Rattle.sheet.specs.Layout.{blankLash}
+use Rattle.figures_lashes.proofs.LashLoops.{Listed, listed, Hung, hung-none, held-fits, hung-more, hung-all}
+use Prim.Native.Nat.{_-_}
+use native.Mathlib.Numerals.{add-one}
+use native.Mathlib.Omega.{arith}
+use Rattle.statics.specs.inner.Limits.{LashFacts}
+use borrow.Author.Needs.{needs}
+use Rattle.figures_lashes.proofs.gear_of.Statement.{statement}
+use Rattle.figures_lashes.proofs.gear_of.Tie as tie
+
+abbrev Inv-loop : tie.InvT-loop
+Inv-loop m lengths₀ stiffnesses₀ levels₀ lashes j₀ lengths stiffnesses levels j = Hung m (take m lashes) lengths stiffnesses levels j
+
+abbrev μ-loop : tie.MeasureT-loop
+μ-loop m lengths₀ stiffnesses₀ levels₀ lashes j₀ lengths stiffnesses levels j = m - j
+
+-- where the loop is entered from
+abbrev start : tie.At-loop Inv-loop μ-loop → tie.Start Inv-loop μ-loop
+start c = c .before .before .before .before
+
+lashes-of : (c : tie.Start Inv-loop μ-loop) → Listed (c .args .m) (take (c .args .m) (c .args .t1))
+lashes-of c = listed (c .args .t1) (c .good .0 .1 .0 .1) (c .pre .0)
+
+own : (c : tie.In-loop Inv-loop μ-loop) → getD (take (start (c .before) .args .m) (start (c .before) .args .t1)) (c .before .loop .j) blankLash ≡ getD (start (c .before) .args .t1) (c .before .loop .j) blankLash
+own c = getD-take (start (c .before) .args .m) (start (c .before) .args .t1) (c .before .loop .j) blankLash (c .loop-test .taken)
+
+lash-facts : (c : tie.In-loop Inv-loop μ-loop) → LashFacts 10 (getD (start (c .before) .args .t1) (c .before .loop .j) blankLash)
+lash-facts c = rw (own c) at (start (c .before) .pre .0 .1 (c .before .loop .j) (c .loop-test .taken))
+
+loop-holds : tie.Need-loop-holds Inv-loop μ-loop
+loop-holds c =
+    let p = c .before .before .before .pre .1 in
+    rw (p .0, p .1, p .2) hung-none
+
+mul-l : tie.Need-mul-l Inv-loop μ-loop
+mul-l c = search needs
+
+array-copy-out-l : tie.Need-array-copy-out-l Inv-loop μ-loop
+array-copy-out-l c = search needs
+
+length-of-requires : tie.Need-length-of-requires Inv-loop μ-loop
+length-of-requires c κs = lash-facts (c .before)
+
+stiffness-of-requires : tie.Need-stiffness-of-requires Inv-loop μ-loop
+stiffness-of-requires c κs = (lash-facts (c .before .before), c .length-of .ensures)
+
+hook-level-requires : tie.Need-hook-level-requires Inv-loop μ-loop
+hook-level-requires c κs = lash-facts (c .before .before .before)
+
+sub-at : tie.Need-sub-at Inv-loop μ-loop
+sub-at c = search needs
+
+mul-lengths : tie.Need-mul-lengths Inv-loop μ-loop
+mul-lengths c = search needs
+
+slice-write-lengths : tie.Need-slice-write-lengths Inv-loop μ-loop
+slice-write-lengths c = search needs
+
+mul-stiffnesses : tie.Need-mul-stiffnesses Inv-loop μ-loop
+mul-stiffnesses c = search needs
+
+slice-write-stiffnesses : tie.Need-slice-write-stiffnesses Inv-loop μ-loop
+slice-write-stiffnesses c = search needs
+
+mul-levels : tie.Need-mul-levels Inv-loop μ-loop
+mul-levels c = search needs
+
+slice-read-levels : tie.Need-slice-read-levels Inv-loop μ-loop
+slice-read-levels c = search needs
+
+add-levels : tie.Need-add-levels Inv-loop μ-loop
+add-levels c =
+    let t = c .before .before .before .before .before in
+    let l = t .before .loop in
+    let h = c .before .hook-level .ensures in
+    record { fits = held-fits (lashes-of (start (t .before))) (l .inv) (t .loop-test .taken) (own t) (c .before .before .stiffness-of .ensures) (omega (arith, h .0, h .1)) }
+
+mul-levels-2 : tie.Need-mul-levels-2 Inv-loop μ-loop
+mul-levels-2 c = search needs
+
+slice-write-levels : tie.Need-slice-write-levels Inv-loop μ-loop
+slice-write-levels c = search needs
+
+add-j : tie.Need-add-j Inv-loop μ-loop
+add-j c = search needs
+
+loop-less : tie.Need-loop-less Inv-loop μ-loop
+loop-less c = search needs
+
+loop-again : tie.Need-loop-again Inv-loop μ-loop
+loop-again c =
+    let t = c .before .before .before .before .before in
+    let l = t .before .loop in
+    let h = c .before .hook-level .ensures in
+    rw (add-one (l .j)) (hung-more (lashes-of (start (t .before))) (l .inv) (t .loop-test .taken) (own t) (c .before .before .stiffness-of .ensures) (omega (arith, h .0, h .1)) (c .before .before .before .length-of .ensures) (omega (arith, h .1, h .2)))
+
+same-length : tie.Need-same-length Inv-loop μ-loop
+same-length c = search needs
+
+same-length-2 : tie.Need-same-length-2 Inv-loop μ-loop
+same-length-2 c = search needs
+
+same-length-3 : tie.Need-same-length-3 Inv-loop μ-loop
+same-length-3 c = search needs
+
+returns : tie.Need-returns Inv-loop μ-loop
+returns c = hung-all (lashes-of (start (c .before))) (c .loop-test .left) (c .before .loop .inv)
+
+pub gear-of-spec : {M : Type 1} → statement M
+gear-of-spec =
+    tie.close
+    (tie.spec
+    Inv-loop
+    μ-loop
+    loop-holds
+    mul-l
+    array-copy-out-l
+    length-of-requires
+    stiffness-of-requires
+    hook-level-requires
+    sub-at
+    mul-lengths
+    slice-write-lengths
+    mul-stiffnesses
+    slice-write-stiffnesses
+    mul-levels
+    slice-read-levels
+    add-levels
+    mul-levels-2
+    slice-write-levels
+    add-j
+    loop-less
+    loop-again
+    same-length
+    same-length-2
+    same-length-3
+    returns)

@@ -1,0 +1,222 @@
+use borrow.Author.Needs.{needs}
+use Prim.Native.Nat.{_-_}
+use mathlib.Core.Path.{_≡_}
+use native.Mathlib.Numerals.{add-one}
+use native.Mathlib.Omega.{arith}
+use lib.ListN.{getD, take}
+use lib.Seq.{getD-take}
+use Rattle.statics.specs.inner.Limits.{LashFacts}
+use Rattle.statics.specs.inner.WholeNumbers.{leePart, windwardPart}
+use Rattle.sheet.specs.Layout.{blankLash}
+use Rattle.figures_lashes.proofs.LashLoops.{Listed, listed, Strained, strained-none, post-fits, strained-more, strained-all, lee-kept, windward-kept}
+use Rattle.figures_lashes.proofs.lash_figures.Statement.{statement}
+use Rattle.figures_lashes.proofs.lash_figures.Tie as tie
+
+abbrev Inv-loop : tie.InvT-loop
+Inv-loop m lengths stiffnesses d lashes pull₀ athwart₀ vertical₀ lee₀ windward₀ j₀ pull athwart vertical lee windward j =
+    Strained m (take m lashes) d pull athwart vertical lee windward j
+
+abbrev μ-loop : tie.MeasureT-loop
+μ-loop m lengths stiffnesses d lashes pull₀ athwart₀ vertical₀ lee₀ windward₀ j₀ pull athwart vertical lee windward j =
+    m - j
+
+lashes-of : (c : tie.Start Inv-loop μ-loop) → Listed (c .args .m) (take (c .args .m) (c .args .t1))
+lashes-of c = listed (c .args .t1) (c .good .0 .1 .0 .1) (c .pre .0)
+
+-- where the loop is entered from
+abbrev start : tie.At-loop Inv-loop μ-loop → tie.Start Inv-loop μ-loop
+start c = c .before .before .before .before
+
+own :
+    (c : tie.In-loop Inv-loop μ-loop) →
+    let a = start (c .before) .args in
+    getD (take (a .m) (a .t1)) (c .before .loop .j) blankLash ≡ getD (a .t1) (c .before .loop .j) blankLash
+own c =
+    let a = start (c .before) .args in
+    getD-take (a .m) (a .t1) (c .before .loop .j) blankLash (c .loop-test .taken)
+
+lash-facts : (c : tie.In-loop Inv-loop μ-loop) → LashFacts 10 (getD (start (c .before) .args .t1) (c .before .loop .j) blankLash)
+lash-facts c = rw (own c) at (start (c .before) .pre .0 .1 (c .before .loop .j) (c .loop-test .taken))
+
+loop-holds : tie.Need-loop-holds Inv-loop μ-loop
+loop-holds c = strained-none
+
+mul-l : tie.Need-mul-l Inv-loop μ-loop
+mul-l c = search needs
+
+array-copy-out-l : tie.Need-array-copy-out-l Inv-loop μ-loop
+array-copy-out-l c = search needs
+
+hook-level-requires : tie.Need-hook-level-requires Inv-loop μ-loop
+hook-level-requires c κs = lash-facts (c .before)
+
+mul-pull-of : tie.Need-mul-pull-of Inv-loop μ-loop
+mul-pull-of c = search needs
+
+shared-slice-read-pull-of : tie.Need-shared-slice-read-pull-of Inv-loop μ-loop
+shared-slice-read-pull-of c = search needs
+
+mul-pull-of-2 : tie.Need-mul-pull-of-2 Inv-loop μ-loop
+mul-pull-of-2 c = search needs
+
+shared-slice-read-pull-of-2 : tie.Need-shared-slice-read-pull-of-2 Inv-loop μ-loop
+shared-slice-read-pull-of-2 c = search needs
+
+mul-pull-of-3 : tie.Need-mul-pull-of-3 Inv-loop μ-loop
+mul-pull-of-3 c = search needs
+
+shared-slice-read-pull-of-3 : tie.Need-shared-slice-read-pull-of-3 Inv-loop μ-loop
+shared-slice-read-pull-of-3 c = search needs
+
+pull-of-requires : tie.Need-pull-of-requires Inv-loop μ-loop
+pull-of-requires c κs =
+    let k = c .before .before .before in
+    let t = k .before .before in
+    let b = start (t .before) in
+    let j = t .before .loop .j in
+    let g = b .pre .1 .0 .0 in (
+      lash-facts t,
+      rw (own t) at (g .long j (t .loop-test .taken)),
+      rw (own t) at (g .stiff j (t .loop-test .taken)),
+      b .pre .1 .0 .1 (k .hook-level .result),
+    )
+
+lashing-of-requires : tie.Need-lashing-of-requires Inv-loop μ-loop
+lashing-of-requires c κs = search needs
+
+on-posts-requires : tie.Need-on-posts-requires Inv-loop μ-loop
+on-posts-requires c κs = search needs
+
+mul-pull : tie.Need-mul-pull Inv-loop μ-loop
+mul-pull c = search needs
+
+array-write-pull : tie.Need-array-write-pull Inv-loop μ-loop
+array-write-pull c = search needs
+
+mul-athwart : tie.Need-mul-athwart Inv-loop μ-loop
+mul-athwart c = search needs
+
+array-write-athwart : tie.Need-array-write-athwart Inv-loop μ-loop
+array-write-athwart c = search needs
+
+mul-vertical : tie.Need-mul-vertical Inv-loop μ-loop
+mul-vertical c = search needs
+
+array-write-vertical : tie.Need-array-write-vertical Inv-loop μ-loop
+array-write-vertical c = search needs
+
+mul-lee : tie.Need-mul-lee Inv-loop μ-loop
+mul-lee c = search needs
+
+array-read-lee : tie.Need-array-read-lee Inv-loop μ-loop
+array-read-lee c = search needs
+
+add-lee : tie.Need-add-lee Inv-loop μ-loop
+add-lee c =
+    let o = c .before in
+    let q = o .before .before in
+    let k = q .before .before .before .before in
+    let t = k .before .before in
+    let l = t .before .loop in
+    let b = start (t .before) in
+    let e = o .on-posts .ensures in
+    let g = o .before .lashing-of .ensures in
+    rw (e .0, g)
+    (record { fits = post-fits (lashes-of b) (b .pre .1 .0 .1) (l .inv) (t .loop-test .taken) (own t) (k .hook-level .ensures .0) (q .pull-of .ensures .1 .1 .1 .0) leePart lee-kept (l .inv .lees) })
+
+mul-lee-2 : tie.Need-mul-lee-2 Inv-loop μ-loop
+mul-lee-2 c = search needs
+
+array-write-lee : tie.Need-array-write-lee Inv-loop μ-loop
+array-write-lee c = search needs
+
+mul-windward : tie.Need-mul-windward Inv-loop μ-loop
+mul-windward c = search needs
+
+array-read-windward : tie.Need-array-read-windward Inv-loop μ-loop
+array-read-windward c = search needs
+
+add-windward : tie.Need-add-windward Inv-loop μ-loop
+add-windward c =
+    let o = c .before .before in
+    let q = o .before .before in
+    let k = q .before .before .before .before in
+    let t = k .before .before in
+    let l = t .before .loop in
+    let b = start (t .before) in
+    let e = o .on-posts .ensures in
+    let g = o .before .lashing-of .ensures in
+    rw (e .1, g)
+    (record { fits = post-fits (lashes-of b) (b .pre .1 .0 .1) (l .inv) (t .loop-test .taken) (own t) (k .hook-level .ensures .0) (q .pull-of .ensures .1 .1 .1 .0) windwardPart windward-kept (l .inv .windwards) })
+
+mul-windward-2 : tie.Need-mul-windward-2 Inv-loop μ-loop
+mul-windward-2 c = search needs
+
+array-write-windward : tie.Need-array-write-windward Inv-loop μ-loop
+array-write-windward c = search needs
+
+add-j : tie.Need-add-j Inv-loop μ-loop
+add-j c = search needs
+
+loop-less : tie.Need-loop-less Inv-loop μ-loop
+loop-less c = search needs
+
+loop-again : tie.Need-loop-again Inv-loop μ-loop
+loop-again c =
+    let o = c .before .before in
+    let q = o .before .before in
+    let k = q .before .before .before .before in
+    let t = k .before .before in
+    let l = t .before .loop in
+    let b = start (t .before) in
+    let e = o .on-posts .ensures in
+    let g = o .before .lashing-of .ensures in
+    let r = q .pull-of .ensures in
+    rw (add-one (l .j), e .0, e .1, g)
+    (strained-more (lashes-of b) (b .pre .1 .0 .1) (l .inv) (t .loop-test .taken) (own t) (k .hook-level .ensures .0) (q .pull-of .ensures .1 .1 .1 .0) (omega (arith, k .hook-level .ensures .2)) (r .0) (r .1 .0) (r .1 .1 .0))
+
+returns : tie.Need-returns Inv-loop μ-loop
+returns c =
+    let b = start (c .before) in
+    let s = strained-all (lashes-of b) (b .pre .1 .0 .1) (c .loop-test .left) (c .before .loop .inv) in
+    (s .0, (s .1, s .2))
+
+pub lash-figures-spec : {M : Type 1} → statement M
+lash-figures-spec =
+    tie.close
+    (tie.spec
+    Inv-loop
+    μ-loop
+    loop-holds
+    mul-l
+    array-copy-out-l
+    hook-level-requires
+    mul-pull-of
+    shared-slice-read-pull-of
+    mul-pull-of-2
+    shared-slice-read-pull-of-2
+    mul-pull-of-3
+    shared-slice-read-pull-of-3
+    pull-of-requires
+    lashing-of-requires
+    on-posts-requires
+    mul-pull
+    array-write-pull
+    mul-athwart
+    array-write-athwart
+    mul-vertical
+    array-write-vertical
+    mul-lee
+    array-read-lee
+    add-lee
+    mul-lee-2
+    array-write-lee
+    mul-windward
+    array-read-windward
+    add-windward
+    mul-windward-2
+    array-write-windward
+    add-j
+    loop-less
+    loop-again
+    returns)

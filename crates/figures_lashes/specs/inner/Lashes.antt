@@ -1,0 +1,33 @@
+-- Contracts of inner functions: what is found of an end's lashes before and after the springs are solved. Nothing here need be believed.
+use mathlib.Core.Path.{_≡_}
+use mathlib.Core.List.{List}
+use Prim.Native.Nat.{ℕ, suc, _^_, _<_, _≤_}
+use lib.Dec.{eqb}
+use lib.ListN.{getD, length}
+use Rattle.sheet.specs.declared.Lash.{Lash}
+use Rattle.sheet.specs.declared.Lashing.{Lashing}
+use Rattle.sheet.specs.Layout.{blankLash}
+use Rattle.sheet.specs.Lashings.{levelOf}
+use Rattle.statics.specs.Lashes.{lashLength}
+use Rattle.statics.specs.inner.WholeNumbers.{Filled, stiffnessOf, levelStiffness, pullFigure, athwartFigure, verticalFigure, upwards}
+
+-- lengths and stiffnesses of m lashes
+pub record Geared (m : ℕ) (ls : List Lash) (lengths stiffnesses : List ℕ) : Type 0 where
+  pub long : (j : ℕ) → j < m → getD lengths j 0 ≡ lashLength (getD ls j blankLash)
+  pub stiff : (j : ℕ) → j < m → getD stiffnesses j 0 ≡ stiffnessOf (getD ls j blankLash)
+
+-- the stiffness of all lashes at each level over the deck
+abbrev pub Held : List Lash → List ℕ → Type 0
+Held ls levels = (i : ℕ) → getD levels i 0 ≡ levelStiffness ls (suc i)
+
+-- the figures of m lashes at the shifts d
+pub record Pulled (m : ℕ) (ls : List Lash) (d pull athwart vertical : List ℕ) : Type 0 where
+  pub pull-is : Filled 0 m (λ j. pullFigure d (getD ls j blankLash)) pull
+  pub athwart-is : Filled 0 m (λ j. athwartFigure d (getD ls j blankLash)) athwart
+  pub vertical-is : Filled 0 m (λ j. verticalFigure d (getD ls j blankLash)) vertical
+
+-- the vertical parts of the lashes on a post at each level
+pub record Borne (post : Lashing → ℕ → ℕ) (ls : List Lash) (d r : List ℕ) : Type 0 where
+  pub each : (i : ℕ) → getD r i 0 ≡ upwards post (λ l. eqb i (levelOf l)) d ls
+  pub small : (i : ℕ) → getD r i 0 ≤ 2 ^ 58
+  pub long : length r ≡ 11

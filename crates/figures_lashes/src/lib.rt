@@ -1,0 +1,205 @@
+// Lashes: their lengths and stiffnesses, and their forces at the shifts of the levels. Scales are those of statics/specs/Fixed.
+
+ghost use mathlib.Core.Path.{_≡_};
+ghost use Prim.Native.Nat.{ℕ, _+_, _*_, _/_, _<_, _≤_, _^_};
+ghost use lib.ListN.{take, getD, length, replicate};
+ghost use Rattle.arith.specs.Rounding.{roundedUp};
+ghost use Rattle.sheet.specs.Lashings.{levelOf};
+ghost use Rattle.sheet.specs.Layout.{blankLash};
+ghost use Rattle.statics.specs.inner.Limits.{LashFacts};
+ghost use Rattle.statics.specs.Lashes.{lashLength};
+ghost use Rattle.statics.specs.inner.WholeNumbers.{lashPad, stiffnessOf, leePart, windwardPart};
+ghost use Rattle.figures_lashes.specs.inner.Lashes.{Geared, Held, Pulled, Borne};
+use arith::roots::length;
+use arith::rounding::ceil_div;
+use arith::rounding::scaled;
+use arith::rounding::scaled_twice;
+use arith::rounding::split_product;
+use statics::NEWTON;
+use statics::PostParts;
+use sheet::Lash;
+use sheet::Lashing;
+use sheet::lashing_of;
+
+// What one lash's athwart part may lack: 0.051 N.
+const LASH_PAD: u64 = 13365;
+
+// The level that a lash is hooked at.
+fn hook_level(l: Lash) -> usize
+    requires { ⌜ LashFacts 10 l ⌝ }
+    ensures { λ r. ⌜ (r ≡ levelOf l) × (1 ≤ r) × (r ≤ 10) ⌝ }
+{
+    (l.tier - l.hook) as usize
+}
+
+fn length_of(l: Lash) -> u64
+    requires { ⌜ LashFacts 10 l ⌝ }
+    ensures { λ r. ⌜ r ≡ lashLength l ⌝ }
+{
+    length(l.lx as u64, l.ly as u64, l.lz as u64)
+}
+
+// What a lash's force over its length's cube gives, in 2^-22 N/mm. A lash under 16,384 mm takes a division less.
+fn over_cube(force: u64, cube: u64) -> u64
+    requires { ⌜ (0 < cube) × (cube ≤ 22913 * 22913 * 22913) × (force / cube ≤ 400000) ⌝ }
+    ensures { λ r. ⌜ r ≡ force * 2 ^ 22 / cube ⌝ }
+{
+    if cube < 4398046511104 {
+        return scaled(force, 4194304, cube);
+    }
+    scaled_twice(force, 1048576, 4, cube)
+}
+
+// The athwart stiffness of a lash of this length.
+fn stiffness_of(l: Lash, length: u64) -> u64
+    requires { ⌜ LashFacts 10 l × (length ≡ lashLength l) ⌝ }
+    ensures { λ r. ⌜ r ≡ stiffnessOf l ⌝ }
+{
+    let ly = l.ly as u64;
+    over_cube(
+        (l.modulus as u64) * (l.area as u64) * (ly * ly),
+        length * length * length,
+    )
+}
+
+// Lengths and stiffnesses of an end's lashes, and the sums of the stiffnesses by level.
+pub fn gear_of(
+    lashes: [Lash; 8],
+    m: usize,
+    lengths: &mut [u64],
+    stiffnesses: &mut [u64],
+    levels: &mut [u64],
+)
+    requires { ⌜ (m ≤ 8) × ((j : ℕ) → j < m → LashFacts 10 (getD (take m lashes) j blankLash)) ⌝ }
+    requires { ⌜ (now lengths ≡ replicate 8 0) × (now stiffnesses ≡ replicate 8 0) × (now levels ≡ replicate 10 0) ⌝ }
+    ensures { λ _. ⌜ Geared m (take m lashes) (now (lengths .exit)) (now (stiffnesses .exit)) × Held (take m lashes) (now (levels .exit)) ⌝ }
+{
+    let mut j = 0;
+    while j < m {
+        let l = lashes[j];
+        let long = length_of(l);
+        let stiff = stiffness_of(l, long);
+        let at = hook_level(l) - 1;
+        lengths[j] = long;
+        stiffnesses[j] = stiff;
+        levels[at] = levels[at] + stiff;
+        j += 1;
+    }
+}
+
+// The athwart part of a lash at a shift of its hook.
+fn part_of(stiffness: u64, shift: u64) -> u64
+    requires { ⌜ (stiffness ≤ 155000 * 2 ^ 22) × (shift ≤ 2 ^ 40) ⌝ }
+    ensures { λ r. ⌜ (r ≡ stiffness * shift / 2 ^ 32) × (r ≤ 2 ^ 48) ⌝ }
+{
+    split_product(stiffness, shift, 4194304, 1024)
+}
+
+// A padded athwart part × a side / LY, in N upwards.
+fn figure_along(padded: u64, side: u64, ly: u64) -> u64
+    requires { ⌜ (padded ≤ 2 ^ 48 + lashPad) × (side ≤ 22913) × (500 ≤ ly) ⌝ }
+    ensures { λ r. ⌜ r ≡ roundedUp (roundedUp (padded * side) ly) (2 ^ 18) ⌝ }
+{
+    ceil_div(ceil_div(padded * side, ly), NEWTON)
+}
+
+// The vertical part, from the athwart part.
+fn upward_of(part: u64, ly: u64, lz: u64) -> u64
+    requires { ⌜ (part ≤ 2 ^ 48) × (500 ≤ ly) × (lz ≤ 20000) ⌝ }
+    ensures { λ r. ⌜ (r ≡ part * lz / ly) × (r ≤ 2 ^ 54) ⌝ }
+{
+    part * lz / ly
+}
+
+// The figures of one lash, and its vertical part.
+struct Pull {
+    pull: u64,
+    athwart: u64,
+    vertical: u64,
+    upward: u64,
+}
+
+fn pull_of(l: Lash, length: u64, stiffness: u64, shift: u64) -> Pull
+    requires { ⌜ LashFacts 10 l × (length ≡ lashLength l) × (stiffness ≡ stiffnessOf l) × (shift ≤ 2 ^ 40) ⌝ }
+    ensures { λ r. ⌜ r .pull ≡ roundedUp (roundedUp ((stiffnessOf l * shift / 2 ^ 32 + lashPad) * lashLength l) (l .ly)) (2 ^ 18) ⌝ }
+    ensures { λ r. ⌜ r .athwart ≡ roundedUp (stiffnessOf l * shift / 2 ^ 32 + lashPad) (2 ^ 18) ⌝ }
+    ensures { λ r. ⌜ r .vertical ≡ roundedUp (roundedUp ((stiffnessOf l * shift / 2 ^ 32 + lashPad) * l .lz) (l .ly)) (2 ^ 18) ⌝ }
+    ensures { λ r. ⌜ (r .upward ≡ stiffnessOf l * shift / 2 ^ 32 * l .lz / l .ly) × (r .upward ≤ 2 ^ 54) ⌝ }
+{
+    let ly = l.ly as u64;
+    let lz = l.lz as u64;
+    let part = part_of(stiffness, shift);
+    let padded = part + LASH_PAD;
+    Pull {
+        pull: figure_along(padded, length, ly),
+        athwart: ceil_div(padded, NEWTON),
+        vertical: figure_along(padded, lz, ly),
+        upward: upward_of(part, ly, lz),
+    }
+}
+
+// The vertical part of a lash on its post: of a cross lash on the lee post, of a side lash on the windward post.
+fn on_posts(l: Lashing, upward: u64) -> PostParts
+    ensures { λ r. ⌜ (r .lee ≡ leePart l upward) × (r .windward ≡ windwardPart l upward) ⌝ }
+{
+    match l {
+        Lashing::Cross(_) => PostParts {
+            lee: upward,
+            windward: 0,
+        },
+        Lashing::Side(_) => PostParts {
+            lee: 0,
+            windward: upward,
+        },
+    }
+}
+
+// The figures of an end's lashes, and the vertical parts on each post at levels 0 to 10.
+pub struct Pulls {
+    pub pull: [u64; 8],
+    pub athwart: [u64; 8],
+    pub vertical: [u64; 8],
+    pub lee: [u64; 11],
+    pub windward: [u64; 11],
+}
+
+// The figures of an end's lashes, and the sums of the vertical parts by level on each post.
+pub fn lash_figures(
+    lashes: [Lash; 8],
+    m: usize,
+    lengths: &[u64],
+    stiffnesses: &[u64],
+    d: &[u64],
+) -> Pulls
+    requires { ⌜ (m ≤ 8) × ((j : ℕ) → j < m → LashFacts 10 (getD (take m lashes) j blankLash)) ⌝ }
+    requires { ⌜ Geared m (take m lashes) (now lengths) (now stiffnesses) × ((i : ℕ) → getD (now d) i 0 ≤ 2 ^ 40) ⌝ }
+    requires { ⌜ (length (now lengths) ≡ 8) × (length (now stiffnesses) ≡ 8) × (length (now d) ≡ 11) ⌝ }
+    ensures { λ r. ⌜ Pulled m (take m lashes) (now (d .entry)) (r .pull) (r .athwart) (r .vertical) ⌝ }
+    ensures { λ r. ⌜ Borne leePart (take m lashes) (now (d .entry)) (r .lee) × Borne windwardPart (take m lashes) (now (d .entry)) (r .windward) ⌝ }
+{
+    let mut pull = [0u64; 8];
+    let mut athwart = [0u64; 8];
+    let mut vertical = [0u64; 8];
+    let mut lee = [0u64; 11];
+    let mut windward = [0u64; 11];
+    let mut j = 0;
+    while j < m {
+        let l = lashes[j];
+        let at = hook_level(l);
+        let p = pull_of(l, lengths[j], stiffnesses[j], d[at]);
+        let u = on_posts(lashing_of(l), p.upward);
+        pull[j] = p.pull;
+        athwart[j] = p.athwart;
+        vertical[j] = p.vertical;
+        lee[at] = lee[at] + u.lee;
+        windward[at] = windward[at] + u.windward;
+        j += 1;
+    }
+    Pulls {
+        pull,
+        athwart,
+        vertical,
+        lee,
+        windward,
+    }
+}

@@ -1,0 +1,3 @@
+-- What the functions' proofs rest on.
+mod AnswerLaws
+mod CheckLaws

@@ -1,0 +1,55 @@
+-- `stack_check::encode::write_end` writes the four sections one behind another.
+use native.Mathlib.Omega.{arith}
+use Rattle.stack_check.specs.inner.Encoding.{endBytesOf}
+use Rattle.answer_findings.proofs.Stores.{then}
+use borrow.Author.Needs.{needs}
+use Rattle.stack_check.proofs.encode.write_end.Statement.{statement}
+use Rattle.stack_check.proofs.encode.write_end.Tie as tie
+
+write-rackings-requires : tie.Need-write-rackings-requires
+write-rackings-requires c κs = search needs
+
+add-write-figures : tie.Need-add-write-figures
+add-write-figures c = search needs
+
+write-figures-requires : tie.Need-write-figures-requires
+write-figures-requires c κs = search needs
+
+write-figures-requires-2 : tie.Need-write-figures-requires-2
+write-figures-requires-2 c κs = search needs
+
+write-lashes-requires : tie.Need-write-lashes-requires
+write-lashes-requires c κs =
+    let t = c .before .before .before .before .before .before .before .before .before .before in
+    let p = t .before .before .before .before .before .before .before in
+    let r = p .before .before .before .before .before .before .before in
+    let s = r .before .before .before .before .before .before in
+    let q = s .pre in
+    let pulls = c .before .before .before .before .write-lashes-arg3 .given .0 in
+    let athwarts = c .before .before .write-lashes-arg5 .given .0 in
+    let verticals = c .write-lashes-arg7 .given .0 in
+    (q .1, omega arith, omega arith, omega arith, omega arith, q .3 .pull, q .3 .athwart, q .3 .vertical)
+
+same-length : tie.Need-same-length
+same-length c = search needs
+
+returns : tie.Need-returns
+unfolding endBytesOf
+returns c =
+    let l = c .before .before in
+    let t = l .before .before .before .before .before .before .before .before .before .before .before in
+    let p = t .before .before .before .before .before .before .before in
+    let r = p .before .before .before .before .before .before .before in
+    (then (then (then (r .write-rackings .ensures .0) (p .write-figures .ensures .0)) (t .write-figures2 .ensures .0)) (l .write-lashes .ensures .0), omega arith)
+
+pub write-end-spec : {M : Type 1} → statement M
+write-end-spec =
+    tie.close
+    (tie.spec
+    write-rackings-requires
+    add-write-figures
+    write-figures-requires
+    write-figures-requires-2
+    write-lashes-requires
+    same-length
+    returns)

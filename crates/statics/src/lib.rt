@@ -1,0 +1,26 @@
+// The figures that are reported of a stack. Its exact forces are in specs/; proofs/ shows that figures computed in whole numbers report them.
+
+// The figures of one end: racking per tier, compression per level from 0, tension per level from 0, and each lash's tension,
+// athwart and vertical part, all in N.
+pub struct EndFigures {
+    pub racking: [i32; 10],
+    pub compression: [u64; 11],
+    pub tension: [u64; 10],
+    pub pull: [u64; 8],
+    pub athwart: [u64; 8],
+    pub vertical: [u64; 8],
+}
+
+pub struct Figures {
+    pub door: EndFigures,
+    pub closed: EndFigures,
+}
+
+// Vertical parts of lashes on the two posts.
+pub struct PostParts {
+    pub lee: u64,
+    pub windward: u64,
+}
+
+// 1 N in 2^-18 N, the scale of lash parts, rackings and post sums.
+pub const NEWTON: u64 = 262144;
