@@ -25,7 +25,8 @@ use Rattle.statics.proofs.Taken.{facts}
 use Rattle.statics.proofs.Within.{reported-below}
 use Rattle.answer.specs.declared.Outcome.{Outcome}
 use Rattle.answer.specs.Findings.{Kind, racking, compression, cornerTension, lockTension, lashTension, lashVertical, lashAthwart, kinds, Finding, endCode, kindCode, figuresOf, firstIndex, indexCount, reportedSize, limitAt, findingsFrom, endFindings, findings, verdict}
-use Rattle.answer.specs.Answers.{upFrom, below, answerBytes}
+use Rattle.answer.specs.Answers.{answerBytes}
+use Rattle.arith.specs.Lists.{from, below}
 use Rattle.answer.specs.Checked.{Answered, CheckedAs, Checked}
 use Rattle.answer.specs.Places.{EndReadBack, noFinding, ReadBack, reportedIn, figuresIn}
 use Rattle.answer.specs.Consequences.{CheckedAt, Justified, AnswerSays}
@@ -34,8 +35,8 @@ use Rattle.answer.proofs.ReadBack as R
 use Rattle.answer.proofs.ReadBack.{Signed}
 
 -- entry i of a list made by index
-made-at : {A : Type 0} (g : ℕ → A) (d : A) (a n i : ℕ) → i < n → getD (map g (upFrom a n)) i d ≡ g (a + i)
-unfolding upFrom
+made-at : {A : Type 0} (g : ℕ → A) (d : A) (a n i : ℕ) → i < n → getD (map g (from a n)) i d ≡ g (a + i)
+unfolding from
 made-at g d a zero i h = absurd (none h)
   where
     none : i < 0 → ⊥

@@ -8,7 +8,7 @@ use lib.IntN.{ℤ, pos, negsuc, natAbs}
 use lib.ListN.{getD, length, length-append}
 use mir.Syntax.{w32}
 use mir.Val.{SFits}
-use Rattle.arith.specs.Bytes.{le4, bytes4, twos, signed4}
+use Rattle.arith.specs.Bytes.{le4, bytes4, twos, signed4, byteAt}
 use Rattle.arith.proofs.ByteLaws.{getD-behind, le4-back, signed-back}
 use Rattle.sheet.specs.declared.Sheet.{Sheet}
 use Rattle.statics.specs.declared.EndFigures.{EndFigures}
@@ -16,8 +16,9 @@ use Rattle.statics.specs.declared.Figures.{Figures}
 use Rattle.statics.specs.Ends.{End, door, closed, lashesOf}
 use Rattle.statics.specs.Reported.{Fitting}
 use Rattle.answer.specs.Findings.{Finding, figuresOf, findings, verdict}
-use Rattle.answer.specs.Answers.{upFrom, below, counted, endBytes, findingBytes, answerBytes}
-use Rattle.answer.specs.Places.{byteAt, sectionSize, entryPlace, endSize, endPlace, findingsPlace, compressionsPlace, tensionsPlace, lashesPlace, EndReadBack, noFinding, ReadBack}
+use Rattle.answer.specs.Answers.{counted, endBytes, findingBytes, answerBytes}
+use Rattle.arith.specs.Lists.{from, below}
+use Rattle.answer.specs.Places.{sectionSize, entryPlace, endSize, endPlace, findingsPlace, compressionsPlace, tensionsPlace, lashesPlace, EndReadBack, noFinding, ReadBack}
 
 -- xs stands in l from `at` on
 record Stands (l : List ℕ) (at : ℕ) (xs : List ℕ) : Type 0 where
@@ -55,24 +56,24 @@ module _ {l : List ℕ} {at : ℕ} where
 
 -- entries of one size, one after another
 module _ (entry : ℕ → List ℕ) (size : ℕ) (wide : (i : ℕ) → length (entry i) ≡ size) where
-  entries-length : (a n : ℕ) → length (flatMap entry (upFrom a n)) ≡ size * n
-  unfolding flatMap upFrom
+  entries-length : (a n : ℕ) → length (flatMap entry (from a n)) ≡ size * n
+  unfolding flatMap from
   entries-length a zero = omega arith
   entries-length a (suc n) =
       let e : size * suc n ≡ size + size * n = omega arith in
-      length-append (entry a) (flatMap entry (upFrom (suc a) n)) ∙ ap₂ (λ (x y : ℕ). x + y) (wide a) (entries-length (suc a) n) ∙ sym e
+      length-append (entry a) (flatMap entry (from (suc a) n)) ∙ ap₂ (λ (x y : ℕ). x + y) (wide a) (entries-length (suc a) n) ∙ sym e
 
-  one-entry : {l : List ℕ} (at a n i : ℕ) → i < n → Stands l at (flatMap entry (upFrom a n)) → Stands l (at + size * i) (entry (a + i))
-  unfolding flatMap upFrom
+  one-entry : {l : List ℕ} (at a n i : ℕ) → i < n → Stands l at (flatMap entry (from a n)) → Stands l (at + size * i) (entry (a + i))
+  unfolding flatMap from
   one-entry at a zero i h s = absurd (none h)
     where
       none : i < 0 → ⊥
       none h = omega arith
   one-entry {l} at a (suc n) zero h s =
       let e : at + size * 0 ≡ at = omega arith in
-      rw (e, add-zero a) (first-part (entry a) (flatMap entry (upFrom (suc a) n)) s)
+      rw (e, add-zero a) (first-part (entry a) (flatMap entry (from (suc a) n)) s)
   one-entry {l} at a (suc n) (suc i) h s =
-      let r = rw (wide a) at (second-part (entry a) (flatMap entry (upFrom (suc a) n)) s) in
+      let r = rw (wide a) at (second-part (entry a) (flatMap entry (from (suc a) n)) s) in
       let e : at + size * suc i ≡ at + size + size * i = omega arith in
       let g : a + suc i ≡ suc a + i = omega arith in
       rw (e, g) (one-entry (at + size) (suc a) n i (omega arith) r)

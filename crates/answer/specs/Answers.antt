@@ -4,19 +4,12 @@ use Prim.Native.Nat.{ℕ, zero, suc}
 use lib.IntN.{pos}
 use lib.ListN.{getD, length}
 use Rattle.arith.specs.Bytes.{bytes4, twos}
+use Rattle.arith.specs.Lists.{below}
 use Rattle.sheet.specs.declared.Sheet.{Sheet}
 use Rattle.statics.specs.declared.EndFigures.{EndFigures}
 use Rattle.statics.specs.declared.Figures.{Figures}
 use Rattle.statics.specs.Ends.{End, door, closed, lashesOf}
 use Rattle.answer.specs.Findings.{Finding, figuresOf, findings, verdict}
-
--- i, i + 1, .. of which there are `more`; the first n from 0
-unfoldable pub upFrom : ℕ → ℕ → List ℕ
-upFrom i zero = []
-upFrom i (suc more) = i ∷ upFrom (suc i) more
-
-abbrev pub below : ℕ → List ℕ
-below n = upFrom 0 n
 
 -- a count, then the bytes of each entry
 abbrev pub counted : ℕ → (ℕ → List ℕ) → List ℕ

@@ -7,7 +7,8 @@ use Rattle.sheet.specs.declared.Sheet.{Sheet}
 use Rattle.statics.specs.Ends.{End, EndSolved}
 use Rattle.statics.specs.Reported.{EndReported}
 use Rattle.answer.specs.Findings.{Kind, Finding, endCode, kindCode, firstIndex, indexCount, limitAt, exactForce}
-use Rattle.answer.specs.Places.{byteAt, findingsPlace, ReadBack, reportedIn, figuresIn, findingIn}
+use Rattle.answer.specs.Places.{findingsPlace, ReadBack, reportedIn, figuresIn, findingIn}
+use Rattle.arith.specs.Bytes.{byteAt}
 
 -- kind k is checked at index i of an end
 pub record CheckedAt (e : End) (t : Sheet) (k : Kind) (i : ℕ) : Type 0 where

@@ -4,16 +4,13 @@ use mathlib.Core.List.{List, map}
 use Prim.Native.Nat.{ℕ, suc, _+_, _*_, _<_, _≤_}
 use lib.IntN.{ℤ, pos}
 use lib.ListN.{getD, length}
-use Rattle.arith.specs.Bytes.{le4, signed4}
+use Rattle.arith.specs.Bytes.{byteAt, le4, signed4}
 use Rattle.sheet.specs.declared.Sheet.{Sheet}
 use Rattle.statics.specs.declared.EndFigures.{EndFigures}
 use Rattle.statics.specs.declared.Figures.{Figures}
 use Rattle.statics.specs.Ends.{End, door, closed, lashesOf}
 use Rattle.answer.specs.Findings.{Finding, figuresOf, findings, verdict}
-use Rattle.answer.specs.Answers.{below}
-
-abbrev pub byteAt : List ℕ → ℕ → ℕ
-byteAt s at = getD s at 0
+use Rattle.arith.specs.Lists.{below}
 
 -- a section: a count of one byte, then n entries of `size` bytes
 abbrev pub sectionSize : ℕ → ℕ → ℕ

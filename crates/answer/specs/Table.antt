@@ -8,7 +8,8 @@ use Rattle.springs.specs.Equations as S
 use Rattle.sheet.specs.declared.Tier.{Tier}
 use Rattle.sheet.specs.declared.Lash.{Lash}
 use Rattle.sheet.specs.declared.Sheet.{Sheet}
-use Rattle.sheet.specs.Layout.{padded, blankTier, blankLash}
+use Rattle.sheet.specs.Layout.{blankTier, blankLash}
+use Rattle.arith.specs.Lists.{padded}
 use Rattle.statics.specs.Loads.{transverse, wind, classShare}
 use Rattle.statics.specs.Lashes.{lashLength, athwartPart}
 use Rattle.statics.specs.Ends.{door, tiersOf, lashesOf, chainTiers, routeFactor, EndSolved}

@@ -16,20 +16,21 @@ use Rattle.statics.specs.declared.Figures.{Figures}
 use Rattle.statics.specs.Ends.{End, door, closed, lashesOf}
 use Rattle.answer.specs.Limits.{safeLoad}
 use Rattle.answer.specs.Findings.{Finding, Kind, racking, compression, cornerTension, lockTension, lashTension, lashVertical, lashAthwart, endCode, kindCode, figuresOf, firstIndex, indexCount, reportedSize, limitAt, findingsFrom, endFindings, findings}
-use Rattle.answer.specs.Answers.{upFrom, findingBytes}
+use Rattle.answer.specs.Answers.{findingBytes}
+use Rattle.arith.specs.Lists.{from}
 use Rattle.answer_findings.specs.inner.Findings.{Wrote, Put, Sized, lashLimit, findingWhere, findingsOver, tierFindings, lashFindings, findingsBytes}
 use Rattle.answer.proofs.ReadBack.{bytes-length}
 use Rattle.answer_findings.proofs.Stores.{run, then}
 
 -- entries that agree from i on, and entries counted from another place
-entries-same : (f g : ℕ → List ℕ) (i n : ℕ) → ((k : ℕ) → i ≤ k → k < i + n → f k ≡ g k) → flatMap f (upFrom i n) ≡ flatMap g (upFrom i n)
-unfolding flatMap upFrom
+entries-same : (f g : ℕ → List ℕ) (i n : ℕ) → ((k : ℕ) → i ≤ k → k < i + n → f k ≡ g k) → flatMap f (from i n) ≡ flatMap g (from i n)
+unfolding flatMap from
 entries-same f g i zero h = refl
 entries-same f g i (suc n) h =
     ap₂ (λ (a b : List ℕ). a ++ b) (h i (omega arith) (omega arith)) (entries-same f g (suc i) n (λ k l u. h k (omega arith) (omega arith)))
 
-entries-from : (g : ℕ → List ℕ) (a i n : ℕ) → flatMap g (upFrom (a + i) n) ≡ flatMap (λ k. g (a + k)) (upFrom i n)
-unfolding flatMap upFrom
+entries-from : (g : ℕ → List ℕ) (a i n : ℕ) → flatMap g (from (a + i) n) ≡ flatMap (λ k. g (a + k)) (from i n)
+unfolding flatMap from
 entries-from g a i zero = refl
 entries-from g a i (suc n) =
     let e : suc (a + i) ≡ a + suc i = omega arith in
@@ -56,8 +57,8 @@ module _ (e : End) (t : Sheet) (f : EndFigures) (k : Kind) where
   abbrev entry : ℕ → List ℕ
   entry i = findingWhere (endCode e) (kindCode k) i (reportedSize f k i) (limitAt e t k i)
 
-  from-bytes : (i n : ℕ) → flatMap findingBytes (findingsFrom e t f k i n) ≡ flatMap entry (upFrom i n)
-  unfolding findingsFrom flatMap upFrom findingWhere
+  from-bytes : (i n : ℕ) → flatMap findingBytes (findingsFrom e t f k i n) ≡ flatMap entry (from i n)
+  unfolding findingsFrom flatMap from findingWhere
   from-bytes i zero = refl
   from-bytes i (suc n) =
       where-found (ltb (limitAt e t k i) (reportedSize f k i)) (record { end = endCode e; kind = kindCode k; index = i }) (findingsFrom e t f k (suc i) n)

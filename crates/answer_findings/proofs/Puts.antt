@@ -9,7 +9,7 @@ use lib.Dec.{ltb}
 use lib.ListN.{length, take, drop, length-append}
 use lib.Seq.{sets, sets-eq, length-sets, length-take-le, take-at}
 use mir.Val.{boolByte}
-use Rattle.answer.specs.Answers.{upFrom}
+use Rattle.arith.specs.Lists.{from}
 use Rattle.answer_findings.specs.inner.Findings.{Put, findingWhere, findingsOver}
 use Rattle.answer_findings.proofs.Stores.{one-more}
 
@@ -51,7 +51,7 @@ stored-where false l at bytes h =
 -- the findings of one kind: before the first, after one more, and after the last of n
 module _ (end kind first : ℕ) (size limit : ℕ → ℕ) where
   pub over-none : (l : List ℕ) (at : ℕ) → Put l at (findingsOver end kind first size limit 0) l at
-  unfolding findingsOver flatMap upFrom
+  unfolding findingsOver flatMap from
   over-none l at = none l at
 
   module _ {l m : List ℕ} {at p : ℕ} (k : ℕ) (w : Put l at (findingsOver end kind first size limit k) m p) where

@@ -8,7 +8,8 @@ use native.Mathlib.Numerals.{add-one}
 use native.Mathlib.Omega.{arith}
 use lib.ListN.{length, getD, set, take, drop, length-append, length-set}
 use lib.Seq.{sets, sets-eq, set-comm, take-suc, length-sets}
-use Rattle.answer.specs.Answers.{upFrom, below, counted}
+use Rattle.answer.specs.Answers.{counted}
+use Rattle.arith.specs.Lists.{from, below}
 use Rattle.answer_findings.specs.inner.Findings.{Wrote}
 
 sets-append : (l xs ys : List ℕ) (i : ℕ) → sets l i (xs ++ ys) ≡ sets (sets l i xs) (i + length xs) ys
@@ -59,8 +60,8 @@ from-start {l} {m} {bytes} {next} w h =
 
 -- entries one after another: before the first, after one more, and after the last of n
 module _ (entry : ℕ → List ℕ) where
-  last : (i n : ℕ) → flatMap entry (upFrom i (suc n)) ≡ flatMap entry (upFrom i n) ++ entry (i + n)
-  unfolding flatMap upFrom
+  last : (i n : ℕ) → flatMap entry (from i (suc n)) ≡ flatMap entry (from i n) ++ entry (i + n)
+  unfolding flatMap from
   last i zero = rw (add-zero i) (append-nil (entry i))
   last i (suc n) =
       let e : i + suc n ≡ suc i + n = omega arith in
@@ -72,7 +73,7 @@ module _ (entry : ℕ → List ℕ) where
       rw (add-one i) (rw e at (last 0 i))
 
   pub entries-none : (l : List ℕ) (at : ℕ) → Wrote l at (flatMap entry (below 0)) l at
-  unfolding flatMap upFrom
+  unfolding flatMap from
   entries-none l at = none l at
 
   module _ {l m : List ℕ} {at p : ℕ} (i : ℕ) (w : Wrote l at (flatMap entry (below i)) m p) where

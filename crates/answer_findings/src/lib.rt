@@ -13,10 +13,10 @@ ghost use Rattle.answer_findings.specs.inner.Findings.{Wrote, Put, Sized
 use crate::limits::Limits;
 use crate::limits::safe_load;
 use arith::bytes::write1;
-use statics::EndFigures;
-use statics::Figures;
 use sheet::Lash;
 use sheet::Sheet;
+use statics::EndFigures;
+use statics::Figures;
 
 // The size of a racking, its value without the sign.
 fn size(x: i32) -> u64

@@ -1,4 +1,5 @@
 pub mod Fractions
+pub mod Lists
 pub mod Bytes
 pub mod Rounding
 pub mod Roots

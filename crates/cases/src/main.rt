@@ -14,12 +14,12 @@ mod space; // space.rt: the answer buffer, filled before each case
 
 ghost use lib.ListN.{length};
 ghost use Rattle.cases.specs.Places.{Placed};
+use answer::Outcome;
 use fields::Held;
 use layout::Case;
 use layout::Item;
 use libc::STDIN_FILENO;
 use libc::STDOUT_FILENO;
-use answer::Outcome;
 
 fn main() {
     let mut input = io::large_buffer();

@@ -7,11 +7,11 @@ ghost use Rattle.sheet.specs.Fits.{Fits};
 ghost use Rattle.statics.specs.Ends.{door, closed};
 ghost use Rattle.statics.specs.Reported.{EndFigured};
 ghost use Rattle.figures.specs.inner.Ends.{Workable, EndWorked, Worked};
-use statics::EndFigures;
-use statics::Figures;
 use sheet::Lash;
 use sheet::Sheet;
 use sheet::Tier;
+use statics::EndFigures;
+use statics::Figures;
 
 mod loads; // loads.rt: the loads on the levels and the weights above them
 
@@ -44,7 +44,16 @@ fn end_figures(
     figures_lashes::gear_of(lashes, m, &mut lengths, &mut stiffnesses, &mut kappa);
     let d = springs::solve(n, k, &kappa, loads);
     let pulls = figures_lashes::lash_figures(lashes, m, &lengths, &stiffnesses, &d);
-    let levels = figures_levels::level_figures(n, k, tiers, &d, most, least, &pulls.lee, &pulls.windward);
+    let levels = figures_levels::level_figures(
+        n,
+        k,
+        tiers,
+        &d,
+        most,
+        least,
+        &pulls.lee,
+        &pulls.windward,
+    );
     let racking = levels.racking;
     let compression = levels.compression;
     let tension = levels.tension;

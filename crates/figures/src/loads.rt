@@ -9,8 +9,8 @@ ghost use Rattle.statics.specs.inner.WholeNumbers.{push, gust};
 ghost use Rattle.statics.specs.Loads.{boxLength};
 ghost use Rattle.figures.specs.inner.Ends.{Loaded, Weighed};
 use arith::rounding::scaled;
-use statics::NEWTON;
 use sheet::Tier;
+use statics::NEWTON;
 
 // Length of a box of 20 feet and of 40 feet, mm (CR Table 2-1).
 const LENGTH_20: u64 = 6058;

@@ -15,11 +15,11 @@ use arith::rounding::ceil_div;
 use arith::rounding::scaled;
 use arith::rounding::scaled_twice;
 use arith::rounding::split_product;
-use statics::NEWTON;
-use statics::PostParts;
 use sheet::Lash;
 use sheet::Lashing;
 use sheet::lashing_of;
+use statics::NEWTON;
+use statics::PostParts;
 
 // What one lash's athwart part may lack: 0.051 N.
 const LASH_PAD: u64 = 13365;

@@ -9,9 +9,9 @@ ghost use Rattle.arith.specs.Sizes.{Small};
 ghost use Rattle.statics.specs.inner.WholeNumbers.{rackingFigure, postFigure, notBelow};
 ghost use Rattle.figures_levels.specs.inner.Levels.{compressed, tensed, Measured, Levelled};
 use arith::rounding::ceil_div;
+use sheet::Tier;
 use statics::NEWTON;
 use statics::PostParts;
-use sheet::Tier;
 
 // What a racking and a post sum may lack: 0.06 N and 3.09 N.
 const RACKING_PAD: u64 = 15729;

@@ -4,7 +4,8 @@ use mathlib.Core.List.{List, [], _∷_, _++_, map, flatMap}
 use mathlib.Core.Path.{_≡_, refl}
 use Rattle.sheet.specs.declared.Reading.{Reading}
 use Rattle.sheet.specs.declared.Reading.the-variants.{Taken, Refused}
-use Rattle.sheet.specs.Layout.{headOf, tierOf, lashOf, tierFits, breakingFits, lashFits, from, below}
+use Rattle.sheet.specs.Layout.{headOf, tierOf, lashOf, tierFits, breakingFits, lashFits}
+use Rattle.arith.specs.Lists.{from, below}
 use Rattle.sheet.specs.Refusals.{offTiers, later, notLater, first, refusal}
 use Rattle.sheet.specs.Written.{headBytes, tierBytes, lashBytes}
 

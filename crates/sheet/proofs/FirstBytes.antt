@@ -10,11 +10,12 @@ use borrow.Author.Tests.{ltb-true, ltb-false, le-ltb, lt-ltb}
 use lib.Dec.{ltb}
 use lib.ListN.{length, getD, take, length-take}
 use lib.Seq.{take-all, getD-take}
-use Rattle.arith.specs.Bytes.{le2, le4}
+use Rattle.arith.specs.Bytes.{le2, le4, byteAt}
 use Rattle.sheet.specs.declared.Reading.{Reading}
 use Rattle.sheet.specs.declared.Reading.the-variants.{Taken, Refused}
 use Rattle.sheet.specs.declared.Sheet.{Sheet}
-use Rattle.sheet.specs.Layout.{byteAt, headOf, tierOf, lashOf, tierCount, tierPlace, lashPlace, doorPlace, closedPlace, sparePlace, from, below, sheetOf}
+use Rattle.sheet.specs.Layout.{headOf, tierOf, lashOf, tierCount, tierPlace, lashPlace, doorPlace, closedPlace, sparePlace, sheetOf}
+use Rattle.arith.specs.Lists.{from, below}
 use Rattle.sheet.specs.Refusals.{Row, row1, row2, row3, row4, row5, row6, row7, row8, row9, row10, row11, row12, row13, notLater, first, headRows, tierCountRows, tierRows, tiersRows, lashCountRows, lashRows, endRows, doorRows, closedRows, sheetRows, unlessRefused, decoded, refusal}
 use Rattle.sheet.proofs.Items.{count-fits}
 use Rattle.sheet.proofs.Rows.{orElse, first-append}

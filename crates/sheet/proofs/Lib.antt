@@ -11,7 +11,6 @@ pub mod WrittenBytes
 -- What they and the decoder's proofs rest on.
 pub mod Rows
 pub mod Items
-pub mod Arrays
 pub mod Clear
 mod Bools
 mod ReadBack

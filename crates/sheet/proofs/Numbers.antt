@@ -8,7 +8,9 @@ use borrow.Author.Tests.{ltb-true, ltb-false}
 use lib.ListN.{length}
 use Rattle.sheet.specs.declared.Reading.{Reading}
 use Rattle.sheet.specs.declared.Reading.the-variants.{Taken, Refused}
-use Rattle.sheet.specs.Layout.{byteAt, tierCount, tierPlace, lashPlace, doorPlace, closedPlace, from, below}
+use Rattle.sheet.specs.Layout.{tierCount, tierPlace, lashPlace, doorPlace, closedPlace}
+use Rattle.arith.specs.Bytes.{byteAt}
+use Rattle.arith.specs.Lists.{from, below}
 use Rattle.sheet.specs.Refusals.{Row, row1, row13, first, headRows, tierCountRows, tierRows, tiersRows, lashCountRows, lashRows, endRows, doorRows, closedRows, sheetRows, refusal}
 use Rattle.sheet.proofs.Rows.{orElse, first-append}
 use Rattle.sheet.proofs.Clear.{clear, few-tiers, few-lashes}

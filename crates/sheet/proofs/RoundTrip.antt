@@ -11,11 +11,13 @@ use lib.Seq.{getD-take}
 use Rattle.sheet.specs.declared.Lash.{Lash}
 use Rattle.sheet.specs.declared.Sheet.{Sheet}
 use Rattle.sheet.specs.declared.Reading.the-variants.{Taken}
-use Rattle.sheet.specs.Layout.{byteAt, headOf, tierCount, tierPlace, lashPlace, doorPlace, closedPlace, sparePlace, below, padded, blankTier, blankLash, tiersIn, lashesIn, sheetOf}
+use Rattle.sheet.specs.Layout.{headOf, tierCount, tierPlace, lashPlace, doorPlace, closedPlace, sparePlace, blankTier, blankLash, tiersIn, lashesIn, sheetOf}
+use Rattle.arith.specs.Bytes.{byteAt}
+use Rattle.arith.specs.Lists.{below, padded}
 use Rattle.sheet.specs.Refusals.{notLater, first, headRows, tierRows, tierCountRows, tiersRows, lashCountRows, lashRows, endRows, doorRows, closedRows, endsRows, sheetRows, row2, decoded}
 use Rattle.sheet.specs.Fits.{EndFits, Fits, Padded}
 use Rattle.sheet.specs.Written.{headBytes, tierBytes, lashBytes, counted, written}
-use Rattle.sheet.proofs.Arrays.{entries-are, full}
+use Rattle.arith.proofs.Arrays.{entries-are, full}
 use Rattle.sheet.proofs.Clear.{Clear, clear-taken, clear-join, clear-all}
 use Rattle.sheet.proofs.Limits.{tier-limits, lash-limits, breaking-limits}
 use Rattle.sheet.proofs.ReadBack.{first-back, head-back, Entry, tierEntry, lashEntry, entries-length, entry-back}

@@ -7,7 +7,8 @@ use native.Mathlib.Numerals.{add-one}
 use native.Mathlib.Omega.{arith}
 use Rattle.sheet.specs.declared.Reading.{Reading}
 use Rattle.sheet.specs.declared.Reading.the-variants.{Taken, Refused}
-use Rattle.sheet.specs.Layout.{from, sparePlace}
+use Rattle.sheet.specs.Layout.{sparePlace}
+use Rattle.arith.specs.Lists.{from}
 use Rattle.sheet.specs.Refusals.{Row, first, row2, headRows, tiersRows, doorRows, closedRows, endsRows, sheetRows}
 
 -- the first reading, unless it is Taken: then the second

@@ -11,10 +11,12 @@ use lib.Seq.{take-at}
 use Rattle.sheet.specs.declared.Reading.{Reading}
 use Rattle.sheet.specs.declared.Reading.the-variants.{Taken, Refused}
 use Rattle.sheet.specs.declared.Decoded.{Decoded}
-use Rattle.sheet.specs.Layout.{headOf, byteAt, tierCount, tierIn, lashIn, doorPlace, closedPlace, sparePlace, breakingFits, below, padded, blankTier, blankLash, tiersIn, lashesIn, sheetOf}
+use Rattle.sheet.specs.Layout.{headOf, tierCount, tierIn, lashIn, doorPlace, closedPlace, sparePlace, breakingFits, blankTier, blankLash, tiersIn, lashesIn, sheetOf}
+use Rattle.arith.specs.Bytes.{byteAt}
+use Rattle.arith.specs.Lists.{below, padded}
 use Rattle.sheet.specs.Refusals.{notLater, first, endRows, sheetRows, unlessRefused, decoded}
 use Rattle.sheet.specs.Fits.{EndFits, Fits, Padded}
-use Rattle.sheet.proofs.Arrays.{length-entries, held}
+use Rattle.arith.proofs.Arrays.{length-entries, held}
 use Rattle.sheet.proofs.Bools.{or-false}
 use Rattle.sheet.proofs.Clear.{Clear, Parts, parts, not-taken, tier-clear, some-tier, few-tiers, lash-clear, few-lashes, lashes-there}
 

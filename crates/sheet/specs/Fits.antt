@@ -7,7 +7,8 @@ use lib.ListN.{getD, take}
 use Rattle.sheet.specs.declared.Tier.{Tier}
 use Rattle.sheet.specs.declared.Lash.{Lash}
 use Rattle.sheet.specs.declared.Sheet.{Sheet}
-use Rattle.sheet.specs.Layout.{tierFits, breakingFits, lashFits, blankTier, blankLash, padded}
+use Rattle.sheet.specs.Layout.{tierFits, breakingFits, lashFits, blankTier, blankLash}
+use Rattle.arith.specs.Lists.{padded}
 use Rattle.sheet.specs.Refusals.{offTiers, later}
 
 abbrev pub tierAt : List Tier → ℕ → Tier

@@ -5,16 +5,14 @@ use mathlib.Core.Bool.{Bool, _&&_, _||_}
 use mathlib.Core.List.{List, [], _∷_, _++_, map}
 use lib.Dec.{leb, ltb, eqb}
 use lib.ListN.{length, getD, replicate}
-use Rattle.arith.specs.Bytes.{le2, le4}
+use Rattle.arith.specs.Bytes.{byteAt, le2, le4}
+use Rattle.arith.specs.Lists.{below, padded}
 use Rattle.sheet.specs.declared.Head.{Head}
 use Rattle.sheet.specs.declared.Tier.{Tier}
 use Rattle.sheet.specs.declared.Lash.{Lash}
 use Rattle.sheet.specs.declared.Sheet.{Sheet}
 
 -- Fields: one byte each, or two or four, the least byte first
-
-abbrev pub byteAt : List ℕ → ℕ → ℕ
-byteAt s at = getD s at 0
 
 -- the head, 8 bytes: rule number, route, lock material, a zero byte, lock breaking load
 unfoldable pub headOf : List ℕ → Head
@@ -140,17 +138,6 @@ blankTier = record { size = 0; wind = 0; height = 0; mass = 0; aT = 0; aVmax = 0
 abbrev pub blankLash : Lash
 blankLash =
     record { tier = 0; hook = 0; kind = 0; material = 0; lx = 0; ly = 0; lz = 0; area = 0; modulus = 0; breakingLoad = 0 }
-
--- i, i + 1, .. of which there are `left`; 0 to n - 1
-unfoldable pub from : ℕ → ℕ → List ℕ
-from i zero = []
-from i (suc left) = i ∷ from (suc i) left
-
-abbrev pub below : ℕ → List ℕ
-below n = from 0 n
-
-abbrev pub padded {ℓ} : {A : Type ℓ} → ℕ → A → List A → List A
-padded size blank l = l ++ replicate (size - length l) blank
 
 abbrev pub tiersIn : List ℕ → ℕ → List Tier
 tiersIn s n = padded 10 blankTier (map (tierIn s) (below n))

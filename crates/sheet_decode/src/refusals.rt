@@ -3,7 +3,8 @@
 ghost use mathlib.Core.Path.{_≡_};
 ghost use mathlib.Core.List.{flatMap};
 ghost use Prim.Native.Nat.{_+_, _*_, _<_, _≤_};
-ghost use Rattle.sheet.specs.Layout.{tierFits, lashFits, breakingFits, below};
+ghost use Rattle.sheet.specs.Layout.{tierFits, lashFits, breakingFits};
+ghost use Rattle.arith.specs.Lists.{below};
 ghost use Rattle.sheet.specs.Refusals.{offTiers, later, first, headRows, tierRows, tiersRows, lashRows, endRows, doorRows, closedRows, endsRows, sheetRows};
 use sheet::Lash;
 use sheet::Reading;
@@ -184,7 +185,11 @@ fn test_door(s: &[u8]) -> Reading
 fn test_closed(s: &[u8]) -> Reading
     ensures { λ r. ⌜ r ≡ first (closedRows (now (s .entry))) ⌝ }
 {
-    test_end(sheet_fields::byte_at(s, 8), s, sheet_fields::closed_place(s))
+    test_end(
+        sheet_fields::byte_at(s, 8),
+        s,
+        sheet_fields::closed_place(s),
+    )
 }
 
 // Both ends, then whether bytes follow the last entry.

@@ -3,9 +3,9 @@
 ghost use mathlib.Core.Path.{_≡_};
 ghost use Prim.Native.Nat.{_+_, _*_, _<_, _≤_};
 ghost use lib.ListN.{length};
-ghost use Rattle.arith.specs.Bytes.{le2, le4};
+ghost use Rattle.arith.specs.Bytes.{le2, le4, byteAt};
 ghost use Rattle.sheet.specs.declared.Reading.the-variants.{Taken};
-ghost use Rattle.sheet.specs.Layout.{byteAt, headOf, tierOf, lashOf, tierPlace, lashPlace, doorPlace, closedPlace, sparePlace, tiersIn, lashesIn, sheetOf, blankTier, blankLash, blankSheet};
+ghost use Rattle.sheet.specs.Layout.{headOf, tierOf, lashOf, tierPlace, lashPlace, doorPlace, closedPlace, sparePlace, tiersIn, lashesIn, sheetOf, blankTier, blankLash, blankSheet};
 ghost use Rattle.sheet.specs.Refusals.{first, sheetRows};
 use arith::bytes::read1;
 use arith::bytes::read2;

@@ -11,7 +11,8 @@ use lib.ListN.{length, take, replicate, length-append, length-take, length-repli
 use lib.Seq.{sets}
 use Rattle.sheet.specs.declared.Lash.{Lash}
 use Rattle.sheet.specs.declared.Sheet.{Sheet}
-use Rattle.sheet.specs.Layout.{blankLash, padded}
+use Rattle.sheet.specs.Layout.{blankLash}
+use Rattle.arith.specs.Lists.{padded}
 use Rattle.sheet.specs.Fits.{Fits, Padded}
 use Rattle.statics.specs.declared.EndFigures.{EndFigures}
 use Rattle.statics.specs.declared.Figures.{Figures}

@@ -12,13 +12,13 @@ ghost use Rattle.statics.specs.Reported.{Fitting};
 ghost use Rattle.answer.specs.Answers.{counted, answerBytes};
 ghost use Rattle.answer_findings.specs.inner.Findings.{Wrote, Sized};
 ghost use Rattle.stack_check.specs.inner.Encoding.{lashBytes, endBytesOf};
+use answer_findings::write_findings;
 use arith::bytes::write_signed;
 use arith::bytes::write1;
 use arith::bytes::write4;
+use sheet::Sheet;
 use statics::EndFigures;
 use statics::Figures;
-use answer_findings::write_findings;
-use sheet::Sheet;
 
 // The longest answer, in bytes.
 pub const LONGEST: usize = 834;

@@ -15,7 +15,8 @@ use Rattle.statics.specs.declared.Figures.{Figures}
 use Rattle.statics.specs.Ends.{door, closed, lashesOf}
 use Rattle.answer.specs.Limits.{rackingLimit, compressionLimit, cornerTensionLimit, lashVerticalLimit, lashAthwartLimit, safeLoad}
 use Rattle.answer.specs.Findings.{findings}
-use Rattle.answer.specs.Answers.{below, findingBytes}
+use Rattle.answer.specs.Answers.{findingBytes}
+use Rattle.arith.specs.Lists.{below}
 
 -- `bytes` stored in a buffer from `at` on, and the place behind them
 pub record Wrote (before : List ℕ) (at : ℕ) (bytes after : List ℕ) (next : ℕ) : Type 0 where

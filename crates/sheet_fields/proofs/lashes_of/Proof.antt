@@ -3,8 +3,9 @@ use Prim.Native.Nat.{_≤_, _-_}
 use mathlib.Core.Path.{_≡_, _∙_, ap}
 use native.Mathlib.Omega.{arith}
 use borrow.Author.Needs.{needs}
-use Rattle.sheet.specs.Layout.{from, lashIn, lashesIn, blankLash}
-use Rattle.sheet.proofs.Arrays.{one-more}
+use Rattle.sheet.specs.Layout.{lashIn, lashesIn, blankLash}
+use Rattle.arith.specs.Lists.{from}
+use Rattle.arith.proofs.Arrays.{one-more}
 use Rattle.sheet_fields.proofs.lashes_of.Statement.{statement}
 use Rattle.sheet_fields.proofs.lashes_of.Tie as tie
 

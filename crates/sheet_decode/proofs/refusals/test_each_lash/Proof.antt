@@ -4,7 +4,7 @@ use mathlib.Core.List.{flatMap}
 use mathlib.Core.Path.{_≡_, sym, _∙_}
 use native.Mathlib.Nat.{sub-zero}
 use borrow.Author.Needs.{needs}
-use Rattle.sheet.specs.Layout.{from, below}
+use Rattle.arith.specs.Lists.{from, below}
 use Rattle.sheet.specs.Refusals.{first, lashRows}
 use Rattle.sheet.proofs.Rows.{entry-taken, entry-refused, no-entry-left}
 use Rattle.sheet_decode.proofs.refusals.test_each_lash.Statement.{statement}

@@ -4,7 +4,7 @@ use mathlib.Core.Path.{_≡_}
 use mathlib.Core.List.{flatMap}
 use native.Mathlib.Omega.{arith}
 use lib.ListN.{getD}
-use Rattle.answer.specs.Answers.{below}
+use Rattle.arith.specs.Lists.{below}
 use Rattle.answer_findings.specs.inner.Findings.{Wrote}
 use Rattle.stack_check.specs.inner.Encoding.{lashBytes}
 use Rattle.answer_findings.proofs.Stores.{entries-none, entries-more, counted-all}

@@ -9,7 +9,7 @@ use mir.Syntax.{w32}
 use mir.Val.{SFits}
 use mir.ValLaws.{toZ-ofZ}
 use Rattle.arith.specs.Bytes.{bytes4, twos}
-use Rattle.answer.specs.Answers.{below}
+use Rattle.arith.specs.Lists.{below}
 use Rattle.answer_findings.specs.inner.Findings.{Wrote}
 use Rattle.answer_findings.proofs.Stores.{run, entries-none, entries-more, counted-all}
 use borrow.Author.Needs.{needs}

@@ -7,7 +7,7 @@ use native.Mathlib.Numerals.{add-one}
 use native.Mathlib.Omega.{arith}
 use lib.ListN.{length, getD, List·getD-append, set, take, replicate, length-append, length-map, length-replicate, length-take}
 use lib.Seq.{set-at, ext-getD}
-use Rattle.sheet.specs.Layout.{from, below, padded}
+use Rattle.arith.specs.Lists.{from, below, padded}
 
 pub length-from : (i n : ℕ) → length (from i n) ≡ n
 unfolding from
