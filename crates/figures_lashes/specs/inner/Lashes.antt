@@ -22,9 +22,9 @@ Held ls levels = (i : ℕ) → getD levels i 0 ≡ levelStiffness ls (suc i)
 
 -- the figures of m lashes at the shifts d
 pub record Pulled (m : ℕ) (ls : List Lash) (d pull athwart vertical : List ℕ) : Type 0 where
-  pub pull-is : Filled 0 m (λ j. pullFigure d (getD ls j blankLash)) pull
-  pub athwart-is : Filled 0 m (λ j. athwartFigure d (getD ls j blankLash)) athwart
-  pub vertical-is : Filled 0 m (λ j. verticalFigure d (getD ls j blankLash)) vertical
+  pub pull-is : Filled 8 0 m (λ j. pullFigure d (getD ls j blankLash)) pull
+  pub athwart-is : Filled 8 0 m (λ j. athwartFigure d (getD ls j blankLash)) athwart
+  pub vertical-is : Filled 8 0 m (λ j. verticalFigure d (getD ls j blankLash)) vertical
 
 -- the vertical parts of the lashes on a post at each level
 pub record Borne (post : Lashing → ℕ → ℕ) (ls : List Lash) (d r : List ℕ) : Type 0 where
