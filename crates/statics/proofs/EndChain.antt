@@ -13,7 +13,8 @@ use Rattle.arith.proofs.Rationals.{ℚR, ℚ, mk, _*ℚ_, _≤ℚ_, nn-int, to-
 use Rattle.arith.proofs.RationalTerms.{qq}
 use Rattle.arith.proofs.FractionsInRationals.{mk-int}
 use Rattle.springs.specs.Equations as S
-use Rattle.springs.specs.Promise.{Rounded, loadAt}
+use Rattle.springs.specs.Promise.{Rounded}
+use Rattle.springs.specs.Equations.{loadAt}
 use Rattle.springs.proofs.Chain.{natℚ}
 use Rattle.springs.proofs.Inputs.{rounded-low}
 use Rattle.sheet.specs.declared.Tier.{Tier}

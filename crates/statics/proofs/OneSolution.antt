@@ -4,7 +4,7 @@ use Prim.Native.Nat.{ℕ}
 use Rattle.arith.specs.Fractions.{Frac, nat, _⊑_}
 use Rattle.springs.specs.Equations as S
 use Rattle.springs.proofs.OneSolution as O
-use Rattle.springs.proofs.Growth.{windward}
+use Rattle.springs.proofs.Growth.{no-shift-to-windward}
 use Rattle.sheet.specs.declared.Sheet.{Sheet}
 use Rattle.statics.specs.Ends.{End, EndSolved}
 use Rattle.statics.specs.inner.Limits.{Facts}
@@ -23,4 +23,4 @@ module _ (e : End) {t : Sheet} (f : Facts t) where
     unique {Es} r = O.unique (endTiers e t) (endLashes e t) Ds Es (end-stiff e t f) (s .solves) (r .solves)
 
     pub leeward : (i : ℕ) → nat 0 ⊑ S.shift Ds i
-    leeward i = windward (endTiers e t) (endLashes e t) Ds (end-stiff e t f) (s .solves) (λ j h. end-pushed e t j) i
+    leeward i = no-shift-to-windward (endTiers e t) (endLashes e t) Ds (end-stiff e t f) (s .solves) (λ j h. end-pushed e t j) i

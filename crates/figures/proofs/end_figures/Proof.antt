@@ -64,7 +64,7 @@ lash-figures-requires c κs =
     let b = entered g in
     let long = g .gear-of .kept .1 .1 in (
       (b .pre .0 .few-lashes, each-ten (b .pre .0) (counted b)),
-      ((g .gear-of .ensures .0, s .solve .ensures .far), (long .0, long .1 .0, s .solve .ok .1 .0 .1)),
+      ((g .gear-of .ensures .0, s .solve .ensures .0 .far), (long .0, long .1 .0, s .solve .ok .1 .0 .1)),
     )
 
 slice-aggregate-level-figures : tie.Need-slice-aggregate-level-figures
@@ -76,7 +76,7 @@ level-figures-requires c κs =
     let s = solved p in
     let b = entered (geared s) in
     let posts = p .lash-figures .ensures .1 in (
-      end-measured (b .pre .0) (counted b) (s .solve .ensures) (posts .0) (posts .1),
+      end-measured (b .pre .0) (counted b) (s .solve .ensures .0) (posts .0) (posts .1),
       (b .pre .1 .0, s .solve .ok .1 .0 .1, b .pre .1 .2, b .pre .1 .3),
     )
 
@@ -88,7 +88,7 @@ returns c =
     let g = geared s in
     let b = entered g in
     let posts = p .lash-figures .ensures .1 in
-    end-worked (b .pre .0) (counted b) (g .gear-of .ensures .1) (s .solve .ensures) (p .lash-figures .ensures .0) (posts .0) (posts .1) (v .level-figures .ensures)
+    end-worked (b .pre .0) (counted b) (g .gear-of .ensures .1) (s .solve .ensures .0) (p .lash-figures .ensures .0) (posts .0) (posts .1) (v .level-figures .ensures)
 
 pub end-figures-spec : {M : Type 1} → statement M
 end-figures-spec =
