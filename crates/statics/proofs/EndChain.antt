@@ -9,7 +9,8 @@ use lib.IntN.{pos}
 use Rattle.sheet.specs.Layout.{blankTier}
 use Rattle.arith.specs.Fractions.{nat, recip, _⊏_}
 use Rattle.springs.specs.Equations as S
-use Rattle.springs.specs.Promise.{Rounded, loadAt}
+use Rattle.springs.specs.Equations.{loadAt}
+use Rattle.springs.specs.Promise.{Rounded}
 use Rattle.sheet.specs.declared.Tier.{Tier}
 use Rattle.sheet.specs.declared.Lash.{Lash}
 use Rattle.sheet.specs.declared.Sheet.{Sheet}

@@ -15,8 +15,8 @@ use Rattle.arith.proofs.Rings.{∀₂, ∀₄, ∀₅, ∀₁₂, by-ring, by-e
 use Rattle.arith.proofs.Rationals.{ℚR, ℚ, mk, int, _+ℚ_, _-ℚ_, _*ℚ_}
 use Rattle.arith.proofs.RationalTerms.{qq}
 use Rattle.arith.proofs.FractionsInRationals.{mk-int, mk-sub}
-use Rattle.springs.specs.Equations.{given}
-use Rattle.springs.specs.Promise.{Rounded, loadAt}
+use Rattle.springs.specs.Equations.{given, loadAt}
+use Rattle.springs.specs.Promise.{Rounded}
 use Rattle.springs.proofs.Chain.{natℚ}
 use Rattle.springs.proofs.Inputs.{rounded-quotient, rounded-same}
 use Rattle.sheet.specs.declared.Tier.{Tier}

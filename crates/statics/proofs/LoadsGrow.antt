@@ -13,7 +13,7 @@ use Rattle.arith.proofs.Rationals.{ℚR, ℚ, mk, _+ℚ_, _-ℚ_, _*ℚ_, _≤�
 use Rattle.arith.proofs.RationalTerms.{qq}
 use Rattle.arith.proofs.RationalOrder.{nat-q}
 use Rattle.arith.proofs.FractionsInRationals.{mk-int}
-use Rattle.springs.specs.Promise.{loadAt}
+use Rattle.springs.specs.Equations.{loadAt}
 use Rattle.springs.proofs.Chain.{natℚ}
 use Rattle.sheet.specs.declared.Tier.{Tier}
 use Rattle.sheet.specs.Layout.{blankTier}

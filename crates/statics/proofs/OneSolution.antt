@@ -4,7 +4,7 @@ use Prim.Native.Nat.{ℕ}
 use Rattle.arith.specs.Fractions.{Frac, nat, _⊑_}
 use Rattle.springs.specs.Equations as S
 use Rattle.springs.proofs.OneSolution as O
-use Rattle.springs.proofs.Growth.{windward}
+use Rattle.springs.proofs.Growth.{no-shift-to-windward}
 use Rattle.sheet.specs.declared.Sheet.{Sheet}
 use Rattle.statics.specs.Loads.{Rule}
 use Rattle.statics.specs.Ends.{End, tiersOf, endTiers, endLashes, EndSolved}
@@ -30,4 +30,4 @@ module _ (rule : Rule) (e : End) {t : Sheet} (f : Facts t) where
 
   pub leeward : Proper rule → NoWindwardShift rule e t
   leeward p Ds s i =
-      windward (endTiers rule e t) (endLashes e t) Ds (end-stiff rule e t f) (s .solves) (λ j h. loads-leeward rule p e (tiersOf t) j) i
+      no-shift-to-windward (endTiers rule e t) (endLashes e t) Ds (end-stiff rule e t f) (s .solves) (λ j h. loads-leeward rule p e (tiersOf t) j) i

@@ -17,8 +17,8 @@ pub data End : Type 0 where
 
 -- K of a tier at an end, N/mm (CR Table 2-4)
 abbrev pub springOf : End → Tier → ℕ
-springOf door t = 3730
-springOf closed t = 15690
+springOf door t = S.doorSpring
+springOf closed t = S.closedSpring
 
 -- the tiers of a sheet, bottom first, and the lashes of an end, in sheet order
 abbrev pub tiersOf : Sheet → List Tier

@@ -4,8 +4,7 @@ use mathlib.Core.List.{List}
 use Prim.Native.Nat.{ℕ, _≤_, _<_}
 use lib.ListN.{getD, length}
 use Rattle.arith.specs.Fractions.{Frac, nat, _≈_, _⊑_}
-use Rattle.springs.specs.Equations.{shift}
-use Rattle.springs.specs.Promise.{loadAt}
+use Rattle.springs.specs.Equations.{shift, loadAt}
 use Rattle.sheet.specs.declared.Tier.{Tier}
 use Rattle.sheet.specs.declared.Sheet.{Sheet}
 use Rattle.sheet.specs.Layout.{blankTier}
