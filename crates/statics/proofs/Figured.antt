@@ -42,7 +42,7 @@ module _ {rule : Rule} {c : LoadRule} (stands : StandsFor c rule) (e : End) {t :
   d = shiftsOf c e t
 
   promised : Promised (t .ntiers) (springsOf e ts) (stiffnessesOf ls) (loadsOf c ts) d
-  promised = solved-promised (solvable stands e f)
+  promised = solved-promised (t .ntiers) (springsOf e ts) (stiffnessesOf ls) (loadsOf c ts) (solvable stands e f)
 
   -- behind the counts stands 0
   blank : (x : F.Force) (i : ℕ) → F.entryCount x e t ≤ i → reportedSize x (endFiguresBy c e t) i ≡ 0
