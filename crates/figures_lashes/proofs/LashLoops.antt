@@ -1,15 +1,15 @@
 -- The two loops over an end's lashes: what they have found before lash j, and one turn of each.
 use Prim.Native.Nat.{ℕ, zero, suc, _+_, _*_, _-_, _/_, _^_, _<_, _≤_}
-use mathlib.Core.Bool.{Bool}
+use mathlib.Core.Bool.{Bool, true, false, cond}
 use mathlib.Core.List.{List, _∷_}
-use mathlib.Core.Path.{_≡_, sym, ap, _∙_}
+use mathlib.Core.Path.{_≡_, refl, sym, _∙_}
 use native.Mathlib.Omega.{arith}
 use borrow.Author.Tests.{eq-eqb, ne-eqb}
 use lib.Dec.{eqb}
 use lib.ListN.{length, getD, set, take, drop, replicate}
 use lib.Seq.{drop-cons, length-take-le}
 use Rattle.arith.specs.Rounding.{roundedUp}
-use Rattle.sheet.specs.Layout.{blankLash}
+use Rattle.sheet.specs.Layout.{_is_, blankLash}
 use Rattle.sheet.specs.declared.Lash.{Lash}
 use Rattle.sheet.specs.declared.Lashing.{Lashing}
 use Rattle.sheet.specs.declared.Lashing.the-variants.{Cross, Side}
@@ -17,7 +17,7 @@ use Rattle.sheet.specs.Lashings.{lashingOf, levelOf}
 use Rattle.statics.specs.inner.Limits.{LashFacts}
 use Rattle.statics.specs.Lashes.{lashLength}
 use Rattle.statics.specs.inner.WholeNumbers.{lashPad, stiffnessOf, part, upward, pullFigure, athwartFigure, verticalFigure, leePart, windwardPart}
-use Rattle.figures_lashes.specs.inner.Lashes.{Geared, Held, Pulled, Borne}
+use Rattle.figures_lashes.specs.inner.Lashes.{carriedLash, verticalFrom, Geared, Held, Pulled, Borne}
 use Rattle.statics.proofs.Arrays.{Between, between-none, fill-above, filled}
 use Rattle.statics.proofs.LashStiffness.{stiffness-most}
 use Rattle.figures_lashes.proofs.LashLaws.{part-le, upward-le}
@@ -95,13 +95,11 @@ module _ {m : ℕ} {ls : List Lash} (g : Listed m ls) where
         }
 
   pub hung-all : {lengths stiffnesses levels : List ℕ} {j : ℕ} → m ≤ j → Hung m ls lengths stiffnesses levels j → Geared m ls lengths stiffnesses × Held ls levels
-  hung-all h s = (
-    record {
-      long = λ k q. s .long .each k (omega arith) (omega arith);
-      stiff = λ k q. s .stiff .each k (omega arith) (omega arith);
-    },
-    λ i. tallied-all (s .held) (omega (arith, g .counted)) i ∙ sym (tally-stiffness (suc i) ls),
-  )
+  hung-all {j = j} h s =
+      let e : j ≡ m = omega (arith, s .within) in (
+        record { long = filled (rw e at (s .long)); stiff = filled (rw e at (s .stiff)) },
+        λ i. tallied-all (s .held) (omega (arith, g .counted)) i ∙ sym (tally-stiffness (suc i) ls),
+      )
 
 -- a post takes no more than the whole vertical part
 pub lee-kept : (g : Lashing) (x : ℕ) → leePart g x ≤ x
@@ -140,9 +138,21 @@ upward-small : (d : List ℕ) (l : Lash) → getD d (levelOf l) 0 ≤ 2 ^ 40 →
 unfolding upward part
 upward-small d l h f = upward-le (part-le (stiffness-most l f) h) (f .ly) (f .lz-most)
 
-is-upward : (d : List ℕ) (l : Lash) {at up : ℕ} → at ≡ levelOf l → up ≡ stiffnessOf l * getD d at 0 / 2 ^ 32 * l .lz / l .ly → up ≡ upward d l
+carried-by : (cross : Bool) (l : Lash) → carriedLash (cond cross (Cross l) (Side l)) ≡ l
+carried-by true l = refl
+carried-by false l = refl
+
+pub carried : (l : Lash) → carriedLash (lashingOf l) ≡ l
+carried l = carried-by (l .kind is 0) l
+
+-- the vertical part that the code puts on a post
+is-upward :
+    (d : List ℕ) (l : Lash) {at x : ℕ} →
+    at ≡ levelOf l →
+    x ≡ stiffnessOf l * getD d at 0 / 2 ^ 32 →
+    verticalFrom x (carriedLash (lashingOf l)) ≡ upward d l
 unfolding upward part
-is-upward d l ea eu = eu ∙ ap (λ (z : ℕ). stiffnessOf l * getD d z 0 / 2 ^ 32 * l .lz / l .ly) ea
+is-upward d l ea ex = rw (carried l, ex, ea) refl
 
 -- the sum of a post at a level
 post-le :
@@ -163,29 +173,50 @@ post-le {ls = ls} d g small post kept i =
 
 module _ {m : ℕ} {ls : List Lash} {d : List ℕ} (g : Listed m ls) (small : (i : ℕ) → getD d i 0 ≤ 2 ^ 40) where
   module _ {pull athwart vertical lee windward : List ℕ} {j : ℕ} (s : Strained m ls d pull athwart vertical lee windward j) (h : j < m)
-      {l : Lash} (own : getD ls j blankLash ≡ l) {at up : ℕ} (ea : at ≡ levelOf l)
-      (eu : up ≡ stiffnessOf l * getD d at 0 / 2 ^ 32 * l .lz / l .ly) where
-    pub post-fits : (post : Lashing → ℕ → ℕ) → ((g : Lashing) (x : ℕ) → post g x ≤ x) → {r : List ℕ} → Tallied at-level (on post d) ls 11 j r → getD r at 0 + post (lashingOf l) up < 2 ^ 64
-    post-fits post kept t =
-        rw (is-upward d l ea eu) (omega (arith, tallied-le t (first g h own) (only-at ea), post-le d g small post kept at))
+      {l : Lash} (own : getD ls j blankLash ≡ l) {at x : ℕ} (ea : at ≡ levelOf l)
+      (ex : x ≡ stiffnessOf l * getD d at 0 / 2 ^ 32) where
+    abbrev up : ℕ
+    up = verticalFrom x (carriedLash (lashingOf l))
 
-    post-more : (post : Lashing → ℕ → ℕ) {r : List ℕ} → at < 11 → Tallied at-level (on post d) ls 11 j r → Tallied at-level (on post d) ls 11 (suc j) (set r at (getD r at 0 + post (lashingOf l) up))
-    post-more post low t = rw (is-upward d l ea eu) (tallied-more t (first g h own) (only-at ea) low)
+    pub post-fits :
+        (post : Lashing → ℕ → ℕ) →
+        ((g : Lashing) (x : ℕ) → post g x ≤ x) →
+        {r : List ℕ} →
+        Tallied at-level (on post d) ls 11 j r →
+        getD r at 0 + post (lashingOf l) up < 2 ^ 64
+    post-fits post kept t =
+        rw (is-upward d l ea ex) (omega (arith, tallied-le t (first g h own) (only-at ea), post-le d g small post kept at))
+
+    post-more :
+        (post : Lashing → ℕ → ℕ) {r : List ℕ} →
+        at < 11 →
+        Tallied at-level (on post d) ls 11 j r →
+        Tallied at-level (on post d) ls 11 (suc j) (set r at (getD r at 0 + post (lashingOf l) up))
+    post-more post low t = rw (is-upward d l ea ex) (tallied-more t (first g h own) (only-at ea) low)
 
     pub strained-more :
         {p a v : ℕ} →
         at < 11 →
-        p ≡ roundedUp (roundedUp ((stiffnessOf l * getD d at 0 / 2 ^ 32 + lashPad) * lashLength l) (l .ly)) (2 ^ 18) →
-        a ≡ roundedUp (stiffnessOf l * getD d at 0 / 2 ^ 32 + lashPad) (2 ^ 18) →
-        v ≡ roundedUp (roundedUp ((stiffnessOf l * getD d at 0 / 2 ^ 32 + lashPad) * l .lz) (l .ly)) (2 ^ 18) →
-        Strained m ls d (set pull j p) (set athwart j a) (set vertical j v) (set lee at (getD lee at 0 + leePart (lashingOf l) up)) (set windward at (getD windward at 0 + windwardPart (lashingOf l) up)) (suc j)
+        p ≡ roundedUp (roundedUp ((x + lashPad) * lashLength l) (l .ly)) (2 ^ 18) →
+        a ≡ roundedUp (x + lashPad) (2 ^ 18) →
+        v ≡ roundedUp (roundedUp ((x + lashPad) * l .lz) (l .ly)) (2 ^ 18) →
+        Strained
+        m
+        ls
+        d
+        (set pull j p)
+        (set athwart j a)
+        (set vertical j v)
+        (set lee at (getD lee at 0 + leePart (lashingOf l) up))
+        (set windward at (getD windward at 0 + windwardPart (lashingOf l) up))
+        (suc j)
     unfolding pullFigure athwartFigure verticalFigure part
     strained-more {p} {a} {v} low ep eq ev =
         record {
           within = h;
-          pulls = fill-above 0 _ 8 0 j pull p (omega (arith, g .few)) (rw (own, ← ea) ep) (s .pulls);
-          athwarts = fill-above 0 _ 8 0 j athwart a (omega (arith, g .few)) (rw (own, ← ea) eq) (s .athwarts);
-          verticals = fill-above 0 _ 8 0 j vertical v (omega (arith, g .few)) (rw (own, ← ea) ev) (s .verticals);
+          pulls = fill-above 0 _ 8 0 j pull p (omega (arith, g .few)) (rw (own, ← ea, ← ex) ep) (s .pulls);
+          athwarts = fill-above 0 _ 8 0 j athwart a (omega (arith, g .few)) (rw (own, ← ea, ← ex) eq) (s .athwarts);
+          verticals = fill-above 0 _ 8 0 j vertical v (omega (arith, g .few)) (rw (own, ← ea, ← ex) ev) (s .verticals);
           lees = post-more leePart low (s .lees);
           windwards = post-more windwardPart low (s .windwards);
         }
