@@ -1,4 +1,4 @@
-// Lashes: their lengths and stiffnesses, and their forces at the shifts of the levels. Scales are those of statics/specs/inner/WholeNumbers.
+// Lashes: their lengths and stiffnesses, and their forces at the shifts of the levels. Scales: see statics/specs/inner/WholeNumbers.
 
 ghost use mathlib.Core.Path.{_≡_};
 ghost use Prim.Native.Nat.{ℕ, _+_, _*_, _/_, _<_, _≤_, _^_};

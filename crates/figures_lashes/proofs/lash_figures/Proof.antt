@@ -10,13 +10,14 @@ use Rattle.statics.specs.inner.Limits.{LashFacts}
 use Rattle.statics.specs.inner.WholeNumbers.{stiffnessOf, leePart, windwardPart}
 use Rattle.statics.proofs.LashStiffness.{stiffness-most}
 use Rattle.sheet.specs.Layout.{blankLash}
-use Rattle.figures_lashes.proofs.LashLoops.{Listed, listed, carried, Strained, strained-none, post-fits, strained-more, strained-all, lee-kept, windward-kept}
+use Rattle.figures_lashes.proofs.LashLoops.{Listed, listed, carried, lee-kept, windward-kept}
+use Rattle.figures_lashes.proofs.LashLoops.{FiguredTo, figured-none, post-fits, figured-more, figured-all}
 use Rattle.figures_lashes.proofs.lash_figures.Statement.{statement}
 use Rattle.figures_lashes.proofs.lash_figures.Tie as tie
 
 abbrev Inv-loop : tie.InvT-loop
 Inv-loop m lengths stiffnesses d lashes pull₀ athwart₀ vertical₀ lee₀ windward₀ j₀ pull athwart vertical lee windward j =
-    Strained m (take m lashes) d pull athwart vertical lee windward j
+    FiguredTo m (take m lashes) d pull athwart vertical lee windward j
 
 abbrev μ-loop : tie.MeasureT-loop
 μ-loop m lengths stiffnesses d lashes pull₀ athwart₀ vertical₀ lee₀ windward₀ j₀ pull athwart vertical lee windward j =
@@ -70,7 +71,7 @@ athwart :
 athwart c = rw (stiffness (turn (hooked c))) at (c .athwart-part .ensures .0)
 
 loop-holds : tie.Need-loop-holds Inv-loop μ-loop
-loop-holds c = strained-none
+loop-holds c = figured-none
 
 mul-l : tie.Need-mul-l Inv-loop μ-loop
 mul-l c = search needs
@@ -156,7 +157,7 @@ add-lee c =
     (record {
       fits =
           post-fits (lashes-of b) (b .pre .1 .0 .1) (l .inv) (t .loop-test .taken) (own t) (k .hook-level .ensures .0) (athwart x)
-          leePart lee-kept (l .inv .lees)
+          leePart lee-kept (l .inv .lees);
     })
 
 mul-lee-2 : tie.Need-mul-lee-2 Inv-loop μ-loop
@@ -183,7 +184,7 @@ add-windward c =
     (record {
       fits =
           post-fits (lashes-of b) (b .pre .1 .0 .1) (l .inv) (t .loop-test .taken) (own t) (k .hook-level .ensures .0) (athwart x)
-          windwardPart windward-kept (l .inv .windwards)
+          windwardPart windward-kept (l .inv .windwards);
     })
 
 mul-windward-2 : tie.Need-mul-windward-2 Inv-loop μ-loop
@@ -210,13 +211,13 @@ loop-again c =
     let e = o .on-posts .ensures in
     let r = f .forces-of .ensures in
     rw (e .0, e .1, o .before .lashing-of .ensures, add-one (l .j))
-    (strained-more (lashes-of b) (b .pre .1 .0 .1) (l .inv) (t .loop-test .taken) (own t) (k .hook-level .ensures .0) (athwart x)
+    (figured-more (lashes-of b) (b .pre .1 .0 .1) (l .inv) (t .loop-test .taken) (own t) (k .hook-level .ensures .0) (athwart x)
     (omega (arith, k .hook-level .ensures .2)) (r .0) (r .1 .0) (r .1 .1))
 
 returns : tie.Need-returns Inv-loop μ-loop
 returns c =
     let b = start (c .before) in
-    let s = strained-all (lashes-of b) (b .pre .1 .0 .1) (c .loop-test .left) (c .before .loop .inv) in
+    let s = figured-all (lashes-of b) (b .pre .1 .0 .1) (c .loop-test .left) (c .before .loop .inv) in
     (s .0, (s .1, s .2))
 
 pub lash-figures-spec : {M : Type 1} → statement M
