@@ -10,7 +10,11 @@ use Rattle.statics.proofs.LashLength.{squares, length-least}
 
 module _ {n : ℕ} {l : Lash} (f : LashFacts n l) where
   pub length-most : lashLength l ≤ 22913
-  length-most = length-least l .least 22913 (omega (arith, mul-le-mul (f .lx) (f .lx), mul-le-mul (f .ly-most) (f .ly-most), mul-le-mul (f .lz-most) (f .lz-most)))
+  length-most =
+      let x = mul-le-mul (f .lx) (f .lx) in
+      let y = mul-le-mul (f .ly-most) (f .ly-most) in
+      let z = mul-le-mul (f .lz-most) (f .lz-most) in
+      length-least l .least 22913 (omega (arith, x, y, z))
 
   short : (k : ℕ) → squares l ≤ k * k → suc k ≤ l .ly → ⊥
   short k h q = omega (arith, mul-le-mul q q)

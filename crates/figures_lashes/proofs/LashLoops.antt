@@ -1,27 +1,29 @@
 -- The two loops over an end's lashes: what they have found before lash j, and one turn of each.
 use Prim.Native.Nat.{ℕ, zero, suc, _+_, _*_, _-_, _/_, _^_, _<_, _≤_}
-use mathlib.Core.Bool.{Bool}
+use mathlib.Core.Bool.{Bool, true, false, cond}
 use mathlib.Core.List.{List, _∷_}
-use mathlib.Core.Path.{_≡_, sym, ap, _∙_}
+use mathlib.Core.Path.{_≡_, refl, sym, _∙_}
 use native.Mathlib.Omega.{arith}
 use borrow.Author.Tests.{eq-eqb, ne-eqb}
 use lib.Dec.{eqb}
 use lib.ListN.{length, getD, set, take, drop, replicate}
 use lib.Seq.{drop-cons, length-take-le}
 use Rattle.arith.specs.Rounding.{roundedUp}
-use Rattle.sheet.specs.Layout.{blankLash}
+use Rattle.sheet.specs.Layout.{_is_, blankLash}
 use Rattle.sheet.specs.declared.Lash.{Lash}
 use Rattle.sheet.specs.declared.Lashing.{Lashing}
 use Rattle.sheet.specs.declared.Lashing.the-variants.{Cross, Side}
 use Rattle.sheet.specs.Lashings.{lashingOf, levelOf}
 use Rattle.statics.specs.inner.Limits.{LashFacts}
 use Rattle.statics.specs.Lashes.{lashLength}
-use Rattle.statics.specs.inner.WholeNumbers.{lashPad, stiffnessOf, part, upward, pullFigure, athwartFigure, verticalFigure, leePart, windwardPart}
-use Rattle.figures_lashes.specs.inner.Lashes.{Geared, Held, Pulled, Borne}
+use Rattle.statics.specs.inner.WholeNumbers.{lashPad, stiffnessOf, part, upward}
+use Rattle.statics.specs.inner.WholeNumbers.{pullFigure, athwartFigure, verticalFigure, leePart, windwardPart}
+use Rattle.figures_lashes.specs.inner.Lashes.{carriedLash, verticalFrom, Geared, Held, Pulled, Borne}
 use Rattle.statics.proofs.Arrays.{Between, between-none, fill-above, filled}
 use Rattle.statics.proofs.LashStiffness.{stiffness-most}
 use Rattle.figures_lashes.proofs.LashLaws.{part-le, upward-le}
-use Rattle.figures_lashes.proofs.Tallies.{tally, tally-stiffness, tally-upwards, tally-le, Tallied, Only, tallied-none, tallied-all, tallied-le, tallied-more}
+use Rattle.figures_lashes.proofs.Tallies.{tally, tally-stiffness, tally-upwards, tally-le}
+use Rattle.figures_lashes.proofs.Tallies.{Tallied, Only, tallied-none, tallied-all, tallied-le, tallied-more}
 
 -- the lashes of an end
 pub record Listed (m : ℕ) (ls : List Lash) : Type 0 where
@@ -29,7 +31,11 @@ pub record Listed (m : ℕ) (ls : List Lash) : Type 0 where
   pub few : m ≤ 8
   pub each : (j : ℕ) → j < m → LashFacts 10 (getD ls j blankLash)
 
-pub listed : {m : ℕ} (lashes : List Lash) → length lashes ≡ 8 → (m ≤ 8) × ((j : ℕ) → j < m → LashFacts 10 (getD (take m lashes) j blankLash)) → Listed m (take m lashes)
+pub listed :
+    {m : ℕ} (lashes : List Lash) →
+    length lashes ≡ 8 →
+    (m ≤ 8) × ((j : ℕ) → j < m → LashFacts 10 (getD (take m lashes) j blankLash)) →
+    Listed m (take m lashes)
 listed {m} lashes e p = record { counted = length-take-le m lashes (omega (arith, p .0)); few = p .0; each = p .1 }
 
 -- a lash is hooked at level suc i; at level i
@@ -51,19 +57,19 @@ only-at {l} {at} e =
     record { here = eq-eqb at (levelOf l) e; others = λ i ne. ne-eqb i (levelOf l) (λ q. ne (omega arith)) }
 
 -- the first loop
-pub record Hung (m : ℕ) (ls : List Lash) (lengths stiffnesses levels : List ℕ) (j : ℕ) : Type 0 where
+pub record MeasuredTo (m : ℕ) (ls : List Lash) (lengths stiffnesses levels : List ℕ) (j : ℕ) : Type 0 where
   pub within : j ≤ m
   pub long : Between 0 (λ k x. x ≡ lashLength (getD ls k blankLash)) 8 0 j lengths
   pub stiff : Between 0 (λ k x. x ≡ stiffnessOf (getD ls k blankLash)) 8 0 j stiffnesses
-  pub held : Tallied over stiffnessOf ls 10 j levels
+  pub levels-are : Tallied over stiffnessOf ls 10 j levels
 
-pub hung-none : {m : ℕ} {ls : List Lash} → Hung m ls (replicate 8 0) (replicate 8 0) (replicate 10 0) 0
-hung-none =
+pub measured-none : {m : ℕ} {ls : List Lash} → MeasuredTo m ls (replicate 8 0) (replicate 8 0) (replicate 10 0) 0
+measured-none =
     record {
       within = omega arith;
       long = between-none 0 _ 8 0;
       stiff = between-none 0 _ 8 0;
-      held = tallied-none 10;
+      levels-are = tallied-none 10;
     }
 
 module _ {m : ℕ} {ls : List Lash} (g : Listed m ls) where
@@ -73,35 +79,41 @@ module _ {m : ℕ} {ls : List Lash} (g : Listed m ls) where
   each-stiff : (k : ℕ) → k < length ls → stiffnessOf (getD ls k blankLash) ≤ 155000 * 2 ^ 22
   each-stiff k q = stiffness-most (getD ls k blankLash) (g .each k (omega (arith, g .counted)))
 
-  module _ {lengths stiffnesses levels : List ℕ} {j : ℕ} (s : Hung m ls lengths stiffnesses levels j) (h : j < m)
+  module _ {lengths stiffnesses levels : List ℕ} {j : ℕ} (s : MeasuredTo m ls lengths stiffnesses levels j) (h : j < m)
       {l : Lash} (own : getD ls j blankLash ≡ l) {stiff at : ℕ} (es : stiff ≡ stiffnessOf l) (ea : suc at ≡ levelOf l) where
-    pub held-fits : getD levels at 0 + stiff < 2 ^ 64
-    held-fits =
+    pub level-fits : getD levels at 0 + stiff < 2 ^ 64
+    level-fits =
         omega (
           arith,
-          tallied-le (s .held) (first h own) (only-over ea),
+          tallied-le (s .levels-are) (first h own) (only-over ea),
           tally-le (155000 * 2 ^ 22) (over at) stiffnessOf ls each-stiff,
           g .counted,
           g .few,
         )
 
-    pub hung-more : {long : ℕ} → long ≡ lashLength l → at < 10 → Hung m ls (set lengths j long) (set stiffnesses j stiff) (set levels at (getD levels at 0 + stiff)) (suc j)
-    hung-more {long} el low =
+    pub measured-more :
+        {long : ℕ} →
+        long ≡ lashLength l →
+        at < 10 →
+        MeasuredTo m ls (set lengths j long) (set stiffnesses j stiff) (set levels at (getD levels at 0 + stiff)) (suc j)
+    measured-more {long} el low =
         record {
           within = h;
           long = fill-above 0 _ 8 0 j lengths long (omega (arith, g .few)) (rw own el) (s .long);
           stiff = fill-above 0 _ 8 0 j stiffnesses stiff (omega (arith, g .few)) (rw own es) (s .stiff);
-          held = rw es (tallied-more (s .held) (first h own) (only-over ea) low);
+          levels-are = rw es (tallied-more (s .levels-are) (first h own) (only-over ea) low);
         }
 
-  pub hung-all : {lengths stiffnesses levels : List ℕ} {j : ℕ} → m ≤ j → Hung m ls lengths stiffnesses levels j → Geared m ls lengths stiffnesses × Held ls levels
-  hung-all h s = (
-    record {
-      long = λ k q. s .long .each k (omega arith) (omega arith);
-      stiff = λ k q. s .stiff .each k (omega arith) (omega arith);
-    },
-    λ i. tallied-all (s .held) (omega (arith, g .counted)) i ∙ sym (tally-stiffness (suc i) ls),
-  )
+  pub measured-all :
+      {lengths stiffnesses levels : List ℕ} {j : ℕ} →
+      m ≤ j →
+      MeasuredTo m ls lengths stiffnesses levels j →
+      Geared m ls lengths stiffnesses × Held ls levels
+  measured-all {j = j} h s =
+      let e : j ≡ m = omega (arith, s .within) in (
+        record { long = filled (rw e at (s .long)); stiff = filled (rw e at (s .stiff)) },
+        λ i. tallied-all (s .levels-are) (omega (arith, g .counted)) i ∙ sym (tally-stiffness (suc i) ls),
+      )
 
 -- a post takes no more than the whole vertical part
 pub lee-kept : (g : Lashing) (x : ℕ) → leePart g x ≤ x
@@ -117,19 +129,21 @@ abbrev on : (Lashing → ℕ → ℕ) → List ℕ → Lash → ℕ
 on post d l = post (lashingOf l) (upward d l)
 
 -- the second loop
-pub record Strained (m : ℕ) (ls : List Lash) (d pull athwart vertical lee windward : List ℕ) (j : ℕ) : Type 0 where
+pub record FiguredTo (m : ℕ) (ls : List Lash) (d pull athwart vertical lee windward : List ℕ) (j : ℕ) : Type 0 where
   pub within : j ≤ m
-  pub pulls : Between 0 (λ k x. x ≡ pullFigure d (getD ls k blankLash)) 8 0 j pull
+  pub tensions : Between 0 (λ k x. x ≡ pullFigure d (getD ls k blankLash)) 8 0 j pull
   pub athwarts : Between 0 (λ k x. x ≡ athwartFigure d (getD ls k blankLash)) 8 0 j athwart
   pub verticals : Between 0 (λ k x. x ≡ verticalFigure d (getD ls k blankLash)) 8 0 j vertical
   pub lees : Tallied at-level (on leePart d) ls 11 j lee
   pub windwards : Tallied at-level (on windwardPart d) ls 11 j windward
 
-pub strained-none : {m : ℕ} {ls : List Lash} {d : List ℕ} → Strained m ls d (replicate 8 0) (replicate 8 0) (replicate 8 0) (replicate 11 0) (replicate 11 0) 0
-strained-none =
+pub figured-none :
+    {m : ℕ} {ls : List Lash} {d : List ℕ} →
+    FiguredTo m ls d (replicate 8 0) (replicate 8 0) (replicate 8 0) (replicate 11 0) (replicate 11 0) 0
+figured-none =
     record {
       within = omega arith;
-      pulls = between-none 0 _ 8 0;
+      tensions = between-none 0 _ 8 0;
       athwarts = between-none 0 _ 8 0;
       verticals = between-none 0 _ 8 0;
       lees = tallied-none 11;
@@ -140,9 +154,21 @@ upward-small : (d : List ℕ) (l : Lash) → getD d (levelOf l) 0 ≤ 2 ^ 40 →
 unfolding upward part
 upward-small d l h f = upward-le (part-le (stiffness-most l f) h) (f .ly) (f .lz-most)
 
-is-upward : (d : List ℕ) (l : Lash) {at up : ℕ} → at ≡ levelOf l → up ≡ stiffnessOf l * getD d at 0 / 2 ^ 32 * l .lz / l .ly → up ≡ upward d l
+carried-by : (cross : Bool) (l : Lash) → carriedLash (cond cross (Cross l) (Side l)) ≡ l
+carried-by true l = refl
+carried-by false l = refl
+
+pub carried : (l : Lash) → carriedLash (lashingOf l) ≡ l
+carried l = carried-by (l .kind is 0) l
+
+-- the vertical part that the code puts on a post
+is-upward :
+    (d : List ℕ) (l : Lash) {at x : ℕ} →
+    at ≡ levelOf l →
+    x ≡ stiffnessOf l * getD d at 0 / 2 ^ 32 →
+    verticalFrom x (carriedLash (lashingOf l)) ≡ upward d l
 unfolding upward part
-is-upward d l ea eu = eu ∙ ap (λ (z : ℕ). stiffnessOf l * getD d z 0 / 2 ^ 32 * l .lz / l .ly) ea
+is-upward d l ea ex = rw (carried l, ex, ea) refl
 
 -- the sum of a post at a level
 post-le :
@@ -162,36 +188,63 @@ post-le {ls = ls} d g small post kept i =
         omega (arith, kept (lashingOf l) (upward d l), upward-small d l (small (levelOf l)) (g .each k (omega (arith, g .counted))))
 
 module _ {m : ℕ} {ls : List Lash} {d : List ℕ} (g : Listed m ls) (small : (i : ℕ) → getD d i 0 ≤ 2 ^ 40) where
-  module _ {pull athwart vertical lee windward : List ℕ} {j : ℕ} (s : Strained m ls d pull athwart vertical lee windward j) (h : j < m)
-      {l : Lash} (own : getD ls j blankLash ≡ l) {at up : ℕ} (ea : at ≡ levelOf l)
-      (eu : up ≡ stiffnessOf l * getD d at 0 / 2 ^ 32 * l .lz / l .ly) where
-    pub post-fits : (post : Lashing → ℕ → ℕ) → ((g : Lashing) (x : ℕ) → post g x ≤ x) → {r : List ℕ} → Tallied at-level (on post d) ls 11 j r → getD r at 0 + post (lashingOf l) up < 2 ^ 64
+  module _ {pull athwart vertical lee windward : List ℕ} {j : ℕ} (s : FiguredTo m ls d pull athwart vertical lee windward j) (h : j < m)
+      {l : Lash} (own : getD ls j blankLash ≡ l) {at x : ℕ} (ea : at ≡ levelOf l)
+      (ex : x ≡ stiffnessOf l * getD d at 0 / 2 ^ 32) where
+    abbrev up : ℕ
+    up = verticalFrom x (carriedLash (lashingOf l))
+
+    pub post-fits :
+        (post : Lashing → ℕ → ℕ) →
+        ((g : Lashing) (x : ℕ) → post g x ≤ x) →
+        {r : List ℕ} →
+        Tallied at-level (on post d) ls 11 j r →
+        getD r at 0 + post (lashingOf l) up < 2 ^ 64
     post-fits post kept t =
-        rw (is-upward d l ea eu) (omega (arith, tallied-le t (first g h own) (only-at ea), post-le d g small post kept at))
+        rw (is-upward d l ea ex) (omega (arith, tallied-le t (first g h own) (only-at ea), post-le d g small post kept at))
 
-    post-more : (post : Lashing → ℕ → ℕ) {r : List ℕ} → at < 11 → Tallied at-level (on post d) ls 11 j r → Tallied at-level (on post d) ls 11 (suc j) (set r at (getD r at 0 + post (lashingOf l) up))
-    post-more post low t = rw (is-upward d l ea eu) (tallied-more t (first g h own) (only-at ea) low)
+    post-more :
+        (post : Lashing → ℕ → ℕ) {r : List ℕ} →
+        at < 11 →
+        Tallied at-level (on post d) ls 11 j r →
+        Tallied at-level (on post d) ls 11 (suc j) (set r at (getD r at 0 + post (lashingOf l) up))
+    post-more post low t = rw (is-upward d l ea ex) (tallied-more t (first g h own) (only-at ea) low)
 
-    pub strained-more :
+    pub figured-more :
         {p a v : ℕ} →
         at < 11 →
-        p ≡ roundedUp (roundedUp ((stiffnessOf l * getD d at 0 / 2 ^ 32 + lashPad) * lashLength l) (l .ly)) (2 ^ 18) →
-        a ≡ roundedUp (stiffnessOf l * getD d at 0 / 2 ^ 32 + lashPad) (2 ^ 18) →
-        v ≡ roundedUp (roundedUp ((stiffnessOf l * getD d at 0 / 2 ^ 32 + lashPad) * l .lz) (l .ly)) (2 ^ 18) →
-        Strained m ls d (set pull j p) (set athwart j a) (set vertical j v) (set lee at (getD lee at 0 + leePart (lashingOf l) up)) (set windward at (getD windward at 0 + windwardPart (lashingOf l) up)) (suc j)
+        p ≡ roundedUp (roundedUp ((x + lashPad) * lashLength l) (l .ly)) (2 ^ 18) →
+        a ≡ roundedUp (x + lashPad) (2 ^ 18) →
+        v ≡ roundedUp (roundedUp ((x + lashPad) * l .lz) (l .ly)) (2 ^ 18) →
+        FiguredTo
+        m
+        ls
+        d
+        (set pull j p)
+        (set athwart j a)
+        (set vertical j v)
+        (set lee at (getD lee at 0 + leePart (lashingOf l) up))
+        (set windward at (getD windward at 0 + windwardPart (lashingOf l) up))
+        (suc j)
     unfolding pullFigure athwartFigure verticalFigure part
-    strained-more {p} {a} {v} low ep eq ev =
+    figured-more {p} {a} {v} low ep eq ev =
         record {
           within = h;
-          pulls = fill-above 0 _ 8 0 j pull p (omega (arith, g .few)) (rw (own, ← ea) ep) (s .pulls);
-          athwarts = fill-above 0 _ 8 0 j athwart a (omega (arith, g .few)) (rw (own, ← ea) eq) (s .athwarts);
-          verticals = fill-above 0 _ 8 0 j vertical v (omega (arith, g .few)) (rw (own, ← ea) ev) (s .verticals);
+          tensions = fill-above 0 _ 8 0 j pull p (omega (arith, g .few)) (rw (own, ← ea, ← ex) ep) (s .tensions);
+          athwarts = fill-above 0 _ 8 0 j athwart a (omega (arith, g .few)) (rw (own, ← ea, ← ex) eq) (s .athwarts);
+          verticals = fill-above 0 _ 8 0 j vertical v (omega (arith, g .few)) (rw (own, ← ea, ← ex) ev) (s .verticals);
           lees = post-more leePart low (s .lees);
           windwards = post-more windwardPart low (s .windwards);
         }
 
-  borne : (post : Lashing → ℕ → ℕ) → ((g : Lashing) (x : ℕ) → post g x ≤ x) → {r : List ℕ} {j : ℕ} → m ≤ j → Tallied at-level (on post d) ls 11 j r → Borne post ls d r
-  borne post kept h t =
+  verticals-on :
+      (post : Lashing → ℕ → ℕ) →
+      ((g : Lashing) (x : ℕ) → post g x ≤ x) →
+      {r : List ℕ} {j : ℕ} →
+      m ≤ j →
+      Tallied at-level (on post d) ls 11 j r →
+      Borne post ls d r
+  verticals-on post kept h t =
       let x = tallied-all t (omega (arith, g .counted)) in
       record {
         each = λ i. x i ∙ sym (tally-upwards post (at-level i) d ls);
@@ -199,18 +252,18 @@ module _ {m : ℕ} {ls : List Lash} {d : List ℕ} (g : Listed m ls) (small : (i
         long = t .long;
       }
 
-  pub strained-all :
+  pub figured-all :
       {pull athwart vertical lee windward : List ℕ} {j : ℕ} →
       m ≤ j →
-      Strained m ls d pull athwart vertical lee windward j →
+      FiguredTo m ls d pull athwart vertical lee windward j →
       Pulled m ls d pull athwart vertical × Borne leePart ls d lee × Borne windwardPart ls d windward
-  strained-all {j = j} h s =
+  figured-all {j = j} h s =
       let e : j ≡ m = omega (arith, s .within) in (
         record {
-          pull-is = filled (rw e at (s .pulls));
+          pull-is = filled (rw e at (s .tensions));
           athwart-is = filled (rw e at (s .athwarts));
           vertical-is = filled (rw e at (s .verticals));
         },
-        borne leePart lee-kept h (s .lees),
-        borne windwardPart windward-kept h (s .windwards),
+        verticals-on leePart lee-kept h (s .lees),
+        verticals-on windwardPart windward-kept h (s .windwards),
       )

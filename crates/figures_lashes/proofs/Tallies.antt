@@ -24,7 +24,9 @@ unfolding levelStiffness tally
 tally-stiffness i [] = refl
 tally-stiffness i (l ∷ ls) = ap (λ (n : ℕ). cond (eqb i (levelOf l)) (stiffnessOf l) 0 + n) (tally-stiffness i ls)
 
-pub tally-upwards : (post : Lashing → ℕ → ℕ) (counts : Lash → Bool) (d : List ℕ) (ls : List Lash) → upwards post counts d ls ≡ tally counts (λ l. post (lashingOf l) (upward d l)) ls
+pub tally-upwards :
+    (post : Lashing → ℕ → ℕ) (counts : Lash → Bool) (d : List ℕ) (ls : List Lash) →
+    upwards post counts d ls ≡ tally counts (λ l. post (lashingOf l) (upward d l)) ls
 unfolding upwards tally
 tally-upwards post counts d [] = refl
 tally-upwards post counts d (l ∷ ls) =
@@ -34,7 +36,10 @@ cond-le : {B : ℕ} (t : Bool) (x : ℕ) → x ≤ B → cond t x 0 ≤ B
 cond-le true x h = h
 cond-le false x h = omega arith
 
-pub tally-le : (B : ℕ) (test : Lash → Bool) (v : Lash → ℕ) (ls : List Lash) → ((j : ℕ) → j < length ls → v (getD ls j blankLash) ≤ B) → tally test v ls ≤ length ls * B
+pub tally-le :
+    (B : ℕ) (test : Lash → Bool) (v : Lash → ℕ) (ls : List Lash) →
+    ((j : ℕ) → j < length ls → v (getD ls j blankLash) ≤ B) →
+    tally test v ls ≤ length ls * B
 unfolding tally
 tally-le B test v [] h = omega arith
 tally-le B test v (l ∷ ls) h =

@@ -1,4 +1,4 @@
-// Lashes: their lengths and stiffnesses, and their forces at the shifts of the levels. Scales are those of statics/specs/Fixed.
+// Lashes: their lengths and stiffnesses, and their forces at the shifts of the levels. Scales: see statics/specs/inner/WholeNumbers.
 
 ghost use mathlib.Core.Path.{_≡_};
 ghost use Prim.Native.Nat.{ℕ, _+_, _*_, _/_, _<_, _≤_, _^_};
@@ -9,7 +9,7 @@ ghost use Rattle.sheet.specs.Layout.{blankLash};
 ghost use Rattle.statics.specs.inner.Limits.{LashFacts};
 ghost use Rattle.statics.specs.Lashes.{lashLength};
 ghost use Rattle.statics.specs.inner.WholeNumbers.{lashPad, stiffnessOf, leePart, windwardPart};
-ghost use Rattle.figures_lashes.specs.inner.Lashes.{Geared, Held, Pulled, Borne};
+ghost use Rattle.figures_lashes.specs.inner.Lashes.{carriedLash, verticalFrom, Geared, Held, Pulled, Borne};
 use arith::roots::length;
 use arith::rounding::ceil_div;
 use arith::rounding::scaled;
@@ -51,14 +51,14 @@ fn over_cube(force: u64, cube: u64) -> u64
 }
 
 // The athwart stiffness of a lash of this length.
-fn stiffness_of(l: Lash, length: u64) -> u64
-    requires { ⌜ LashFacts 10 l × (length ≡ lashLength l) ⌝ }
+fn stiffness_of(l: Lash, long: u64) -> u64
+    requires { ⌜ LashFacts 10 l × (long ≡ lashLength l) ⌝ }
     ensures { λ r. ⌜ r ≡ stiffnessOf l ⌝ }
 {
     let ly = l.ly as u64;
     over_cube(
         (l.modulus as u64) * (l.area as u64) * (ly * ly),
-        length * length * length,
+        long * long * long,
     )
 }
 
@@ -72,7 +72,8 @@ pub fn gear_of(
 )
     requires { ⌜ (m ≤ 8) × ((j : ℕ) → j < m → LashFacts 10 (getD (take m lashes) j blankLash)) ⌝ }
     requires { ⌜ (now lengths ≡ replicate 8 0) × (now stiffnesses ≡ replicate 8 0) × (now levels ≡ replicate 10 0) ⌝ }
-    ensures { λ _. ⌜ Geared m (take m lashes) (now (lengths .exit)) (now (stiffnesses .exit)) × Held (take m lashes) (now (levels .exit)) ⌝ }
+    ensures { λ _. ⌜ Geared m (take m lashes) (now (lengths .exit)) (now (stiffnesses .exit)) ⌝ }
+    ensures { λ _. ⌜ Held (take m lashes) (now (levels .exit)) ⌝ }
 {
     let mut j = 0;
     while j < m {
@@ -88,7 +89,7 @@ pub fn gear_of(
 }
 
 // The athwart part of a lash at a shift of its hook.
-fn part_of(stiffness: u64, shift: u64) -> u64
+fn athwart_part(stiffness: u64, shift: u64) -> u64
     requires { ⌜ (stiffness ≤ 155000 * 2 ^ 22) × (shift ≤ 2 ^ 40) ⌝ }
     ensures { λ r. ⌜ (r ≡ stiffness * shift / 2 ^ 32) × (r ≤ 2 ^ 48) ⌝ }
 {
@@ -103,53 +104,51 @@ fn figure_along(padded: u64, side: u64, ly: u64) -> u64
     ceil_div(ceil_div(padded * side, ly), NEWTON)
 }
 
-// The vertical part, from the athwart part.
-fn upward_of(part: u64, ly: u64, lz: u64) -> u64
-    requires { ⌜ (part ≤ 2 ^ 48) × (500 ≤ ly) × (lz ≤ 20000) ⌝ }
-    ensures { λ r. ⌜ (r ≡ part * lz / ly) × (r ≤ 2 ^ 54) ⌝ }
-{
-    part * lz / ly
-}
-
-// The figures of one lash, and its vertical part.
-struct Pull {
-    pull: u64,
+// The figures of one lash.
+struct LashForces {
+    tension: u64,
     athwart: u64,
     vertical: u64,
-    upward: u64,
 }
 
-fn pull_of(l: Lash, length: u64, stiffness: u64, shift: u64) -> Pull
-    requires { ⌜ LashFacts 10 l × (length ≡ lashLength l) × (stiffness ≡ stiffnessOf l) × (shift ≤ 2 ^ 40) ⌝ }
-    ensures { λ r. ⌜ r .pull ≡ roundedUp (roundedUp ((stiffnessOf l * shift / 2 ^ 32 + lashPad) * lashLength l) (l .ly)) (2 ^ 18) ⌝ }
-    ensures { λ r. ⌜ r .athwart ≡ roundedUp (stiffnessOf l * shift / 2 ^ 32 + lashPad) (2 ^ 18) ⌝ }
-    ensures { λ r. ⌜ r .vertical ≡ roundedUp (roundedUp ((stiffnessOf l * shift / 2 ^ 32 + lashPad) * l .lz) (l .ly)) (2 ^ 18) ⌝ }
-    ensures { λ r. ⌜ (r .upward ≡ stiffnessOf l * shift / 2 ^ 32 * l .lz / l .ly) × (r .upward ≤ 2 ^ 54) ⌝ }
+// The figures of a lash of this length, from its athwart part.
+fn forces_of(l: Lash, long: u64, part: u64) -> LashForces
+    requires { ⌜ LashFacts 10 l × (long ≡ lashLength l) × (part ≤ 2 ^ 48) ⌝ }
+    ensures { λ r. ⌜ r .tension ≡ roundedUp (roundedUp ((part + lashPad) * lashLength l) (l .ly)) (2 ^ 18) ⌝ }
+    ensures { λ r. ⌜ r .athwart ≡ roundedUp (part + lashPad) (2 ^ 18) ⌝ }
+    ensures { λ r. ⌜ r .vertical ≡ roundedUp (roundedUp ((part + lashPad) * l .lz) (l .ly)) (2 ^ 18) ⌝ }
 {
     let ly = l.ly as u64;
-    let lz = l.lz as u64;
-    let part = part_of(stiffness, shift);
     let padded = part + LASH_PAD;
-    Pull {
-        pull: figure_along(padded, length, ly),
+    LashForces {
+        tension: figure_along(padded, long, ly),
         athwart: ceil_div(padded, NEWTON),
-        vertical: figure_along(padded, lz, ly),
-        upward: upward_of(part, ly, lz),
+        vertical: figure_along(padded, l.lz as u64, ly),
     }
 }
 
-// The vertical part of a lash on its post: of a cross lash on the lee post, of a side lash on the windward post.
-fn on_posts(l: Lashing, upward: u64) -> PostParts
-    ensures { λ r. ⌜ (r .lee ≡ leePart l upward) × (r .windward ≡ windwardPart l upward) ⌝ }
+// The vertical part of a lash, from its athwart part.
+fn vertical_part(l: Lash, part: u64) -> u64
+    requires { ⌜ LashFacts 10 l × (part ≤ 2 ^ 48) ⌝ }
+    ensures { λ r. ⌜ (r ≡ verticalFrom part l) × (r ≤ 2 ^ 54) ⌝ }
 {
-    match l {
-        Lashing::Cross(_) => PostParts {
-            lee: upward,
+    part * (l.lz as u64) / (l.ly as u64)
+}
+
+// The vertical part of a lash on its post: of a cross lash on the lee post, of a side lash on the windward post.
+fn on_posts(g: Lashing, part: u64) -> PostParts
+    requires { ⌜ LashFacts 10 (carriedLash g) × (part ≤ 2 ^ 48) ⌝ }
+    ensures { λ r. ⌜ r .lee ≡ leePart g (verticalFrom part (carriedLash g)) ⌝ }
+    ensures { λ r. ⌜ r .windward ≡ windwardPart g (verticalFrom part (carriedLash g)) ⌝ }
+{
+    match g {
+        Lashing::Cross(l) => PostParts {
+            lee: vertical_part(l, part),
             windward: 0,
         },
-        Lashing::Side(_) => PostParts {
+        Lashing::Side(l) => PostParts {
             lee: 0,
-            windward: upward,
+            windward: vertical_part(l, part),
         },
     }
 }
@@ -175,7 +174,8 @@ pub fn lash_figures(
     requires { ⌜ Geared m (take m lashes) (now lengths) (now stiffnesses) × ((i : ℕ) → getD (now d) i 0 ≤ 2 ^ 40) ⌝ }
     requires { ⌜ (length (now lengths) ≡ 8) × (length (now stiffnesses) ≡ 8) × (length (now d) ≡ 11) ⌝ }
     ensures { λ r. ⌜ Pulled m (take m lashes) (now (d .entry)) (r .pull) (r .athwart) (r .vertical) ⌝ }
-    ensures { λ r. ⌜ Borne leePart (take m lashes) (now (d .entry)) (r .lee) × Borne windwardPart (take m lashes) (now (d .entry)) (r .windward) ⌝ }
+    ensures { λ r. ⌜ Borne leePart (take m lashes) (now (d .entry)) (r .lee) ⌝ }
+    ensures { λ r. ⌜ Borne windwardPart (take m lashes) (now (d .entry)) (r .windward) ⌝ }
 {
     let mut pull = [0u64; 8];
     let mut athwart = [0u64; 8];
@@ -186,11 +186,12 @@ pub fn lash_figures(
     while j < m {
         let l = lashes[j];
         let at = hook_level(l);
-        let p = pull_of(l, lengths[j], stiffnesses[j], d[at]);
-        let u = on_posts(lashing_of(l), p.upward);
-        pull[j] = p.pull;
-        athwart[j] = p.athwart;
-        vertical[j] = p.vertical;
+        let part = athwart_part(stiffnesses[j], d[at]);
+        let f = forces_of(l, lengths[j], part);
+        let u = on_posts(lashing_of(l), part);
+        pull[j] = f.tension;
+        athwart[j] = f.athwart;
+        vertical[j] = f.vertical;
         lee[at] = lee[at] + u.lee;
         windward[at] = windward[at] + u.windward;
         j += 1;

@@ -1,20 +1,21 @@
-// Rackings of the tiers and forces on the posts, from the top level down. Scales are those of statics/specs/Fixed.
+// Rackings of the tiers and forces on the posts, from the top level down. Scales are those of statics/specs/inner/WholeNumbers.
 
 ghost use mathlib.Core.Path.{_≡_};
-ghost use Prim.Native.Nat.{_+_, _*_, _≤_, _^_, max};
+ghost use Prim.Native.Nat.{_+_, _*_, _≤_, _^_};
 ghost use lib.IntN.{pos, natAbs, negℤ, _+ℤ_, _-ℤ_, _*ℤ_};
 ghost use lib.ListN.{length, take};
 ghost use lib.Signed.{quotZ};
 ghost use Rattle.arith.specs.Sizes.{Small};
+ghost use Rattle.statics.specs.Posts.{postSpacing};
 ghost use Rattle.statics.specs.inner.WholeNumbers.{rackingFigure, postFigure, notBelow};
-ghost use Rattle.figures_levels.specs.inner.Levels.{compressed, tensed, Measured, Levelled};
-use arith::rounding::ceil_div;
+ghost use Rattle.figures_levels.specs.inner.Levels.{greaterOf, compressed, tensed, Measured, Levelled};
+use arith::rounding::ceil_signed;
 use sheet::Tier;
 use statics::NEWTON;
 use statics::PostParts;
 
 // What a racking and a post sum may lack: 0.06 N and 3.09 N.
-const RACKING_PAD: u64 = 15729;
+const RACKING_PAD: i64 = 15729;
 
 const POST_PAD: i64 = 810025;
 
@@ -36,14 +37,15 @@ fn negative(x: i64) -> i64
     -x
 }
 
-fn size(x: i64) -> u64
+// The size of a signed number: its value without the sign.
+fn size(x: i64) -> i64
     requires { ⌜ Small (3 * 2 ^ 61) x ⌝ }
-    ensures { λ r. ⌜ r ≡ natAbs x ⌝ }
+    ensures { λ r. ⌜ r ≡ pos (natAbs x) ⌝ }
 {
     if x < 0 {
-        return negative(x) as u64;
+        return negative(x);
     }
-    x as u64
+    x
 }
 
 // The figure of a racking: its padded size, in N upwards, with the sign kept.
@@ -51,13 +53,14 @@ fn racking_figure(part: i64) -> i32
     requires { ⌜ Small (2 ^ 45) part ⌝ }
     ensures { λ r. ⌜ r ≡ rackingFigure part ⌝ }
 {
-    let newtons = ceil_div(size(part) + RACKING_PAD, NEWTON) as i32;
+    let newtons = ceil_signed(size(part) + RACKING_PAD, NEWTON) as i32;
     if part < 0 {
         return -newtons;
     }
     newtons
 }
 
+// A signed number, cut off at 0.
 fn not_below(x: i64) -> u64
     ensures { λ r. ⌜ r ≡ notBelow x ⌝ }
 {
@@ -67,8 +70,8 @@ fn not_below(x: i64) -> u64
     x as u64
 }
 
-fn greater(x: u64, y: u64) -> u64
-    ensures { λ r. ⌜ r ≡ max x y ⌝ }
+fn greater(x: i64, y: i64) -> i64
+    ensures { λ r. ⌜ r ≡ greaterOf x y ⌝ }
 {
     if x < y {
         return y;
@@ -76,15 +79,12 @@ fn greater(x: u64, y: u64) -> u64
     x
 }
 
-// The figure of a post: the greater of two padded sums, not below 0, in N upwards.
+// The figure of a post: the greater of two sums, padded, in N upwards, cut off at 0.
 fn post_figure(x: i64, y: i64) -> u64
     requires { ⌜ Small (3 * 2 ^ 61) x × Small (3 * 2 ^ 61) y ⌝ }
     ensures { λ r. ⌜ r ≡ postFigure x y ⌝ }
 {
-    ceil_div(
-        greater(not_below(x + POST_PAD), not_below(y + POST_PAD)),
-        NEWTON,
-    )
+    not_below(ceil_signed(greater(x, y) + POST_PAD, NEWTON))
 }
 
 // The sum of a post: half the weight above, what the moment adds, and the vertical parts.
@@ -128,7 +128,7 @@ fn moment_under(above: i64, part: i64, height: u16) -> i64
 // A moment over the post spacing.
 fn couple_of(moment: i64) -> i64
     requires { ⌜ Small (2 ^ 61) moment ⌝ }
-    ensures { λ r. ⌜ (r ≡ quotZ moment (pos 2259)) × Small (2 ^ 50) r ⌝ }
+    ensures { λ r. ⌜ (r ≡ quotZ moment (pos postSpacing)) × Small (2 ^ 50) r ⌝ }
 {
     moment / POST_SPACING
 }

@@ -1,3 +1,4 @@
+-- `figures_lashes::figure_along`: the product is in range, and each division rounds up.
 use native.Mathlib.Nat.{mul-le-mul}
 use native.Mathlib.Omega.{arith}
 use borrow.Author.Needs.{needs}

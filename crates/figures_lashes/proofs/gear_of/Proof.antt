@@ -1,8 +1,9 @@
+-- `figures_lashes::gear_of`: one turn finds the length and the stiffness of a lash and adds the stiffness at its level (LashLoops).
 use mathlib.Core.Path.{_≡_}
 use lib.ListN.{getD, take}
 use lib.Seq.{getD-take}
 use Rattle.sheet.specs.Layout.{blankLash}
-use Rattle.figures_lashes.proofs.LashLoops.{Listed, listed, Hung, hung-none, held-fits, hung-more, hung-all}
+use Rattle.figures_lashes.proofs.LashLoops.{Listed, listed, MeasuredTo, measured-none, level-fits, measured-more, measured-all}
 use Prim.Native.Nat.{_-_}
 use native.Mathlib.Numerals.{add-one}
 use native.Mathlib.Omega.{arith}
@@ -12,7 +13,7 @@ use Rattle.figures_lashes.proofs.gear_of.Statement.{statement}
 use Rattle.figures_lashes.proofs.gear_of.Tie as tie
 
 abbrev Inv-loop : tie.InvT-loop
-Inv-loop m lengths₀ stiffnesses₀ levels₀ lashes j₀ lengths stiffnesses levels j = Hung m (take m lashes) lengths stiffnesses levels j
+Inv-loop m lengths₀ stiffnesses₀ levels₀ lashes j₀ lengths stiffnesses levels j = MeasuredTo m (take m lashes) lengths stiffnesses levels j
 
 abbrev μ-loop : tie.MeasureT-loop
 μ-loop m lengths₀ stiffnesses₀ levels₀ lashes j₀ lengths stiffnesses levels j = m - j
@@ -24,8 +25,18 @@ start c = c .before .before .before .before
 lashes-of : (c : tie.Start Inv-loop μ-loop) → Listed (c .args .m) (take (c .args .m) (c .args .t1))
 lashes-of c = listed (c .args .t1) (c .good .0 .1 .0 .1) (c .pre .0)
 
-own : (c : tie.In-loop Inv-loop μ-loop) → getD (take (start (c .before) .args .m) (start (c .before) .args .t1)) (c .before .loop .j) blankLash ≡ getD (start (c .before) .args .t1) (c .before .loop .j) blankLash
-own c = getD-take (start (c .before) .args .m) (start (c .before) .args .t1) (c .before .loop .j) blankLash (c .loop-test .taken)
+-- from the level of a turn's hook to the turn
+abbrev turn : tie.After-hook-level Inv-loop μ-loop → tie.In-loop Inv-loop μ-loop
+turn c = c .before .before .before .before
+
+-- the lash of a turn
+own :
+    (c : tie.In-loop Inv-loop μ-loop) →
+    let a = start (c .before) .args in
+    getD (take (a .m) (a .t1)) (c .before .loop .j) blankLash ≡ getD (a .t1) (c .before .loop .j) blankLash
+own c =
+    let a = start (c .before) .args in
+    getD-take (a .m) (a .t1) (c .before .loop .j) blankLash (c .loop-test .taken)
 
 lash-facts : (c : tie.In-loop Inv-loop μ-loop) → LashFacts 10 (getD (start (c .before) .args .t1) (c .before .loop .j) blankLash)
 lash-facts c = rw (own c) at (start (c .before) .pre .0 .1 (c .before .loop .j) (c .loop-test .taken))
@@ -33,7 +44,7 @@ lash-facts c = rw (own c) at (start (c .before) .pre .0 .1 (c .before .loop .j) 
 loop-holds : tie.Need-loop-holds Inv-loop μ-loop
 loop-holds c =
     let p = c .before .before .before .pre .1 in
-    rw (p .0, p .1, p .2) hung-none
+    rw (p .0, p .1, p .2) measured-none
 
 mul-l : tie.Need-mul-l Inv-loop μ-loop
 mul-l c = search needs
@@ -73,10 +84,12 @@ slice-read-levels c = search needs
 
 add-levels : tie.Need-add-levels Inv-loop μ-loop
 add-levels c =
-    let t = c .before .before .before .before .before in
-    let l = t .before .loop in
-    let h = c .before .hook-level .ensures in
-    record { fits = held-fits (lashes-of (start (t .before))) (l .inv) (t .loop-test .taken) (own t) (c .before .before .stiffness-of .ensures) (omega (arith, h .0, h .1)) }
+    let k = c .before in
+    let t = turn k in
+    let h = k .hook-level .ensures in
+    let g = lashes-of (start (t .before)) in
+    let stiff = k .before .stiffness-of .ensures in
+    record { fits = level-fits g (t .before .loop .inv) (t .loop-test .taken) (own t) stiff (omega (arith, h .0, h .1)) }
 
 mul-levels-2 : tie.Need-mul-levels-2 Inv-loop μ-loop
 mul-levels-2 c = search needs
@@ -92,10 +105,15 @@ loop-less c = search needs
 
 loop-again : tie.Need-loop-again Inv-loop μ-loop
 loop-again c =
-    let t = c .before .before .before .before .before in
+    let k = c .before in
+    let t = turn k in
     let l = t .before .loop in
-    let h = c .before .hook-level .ensures in
-    rw (add-one (l .j)) (hung-more (lashes-of (start (t .before))) (l .inv) (t .loop-test .taken) (own t) (c .before .before .stiffness-of .ensures) (omega (arith, h .0, h .1)) (c .before .before .before .length-of .ensures) (omega (arith, h .1, h .2)))
+    let h = k .hook-level .ensures in
+    let g = lashes-of (start (t .before)) in
+    let stiff = k .before .stiffness-of .ensures in
+    let long = k .before .before .length-of .ensures in
+    rw (add-one (l .j))
+    (measured-more g (l .inv) (t .loop-test .taken) (own t) stiff (omega (arith, h .0, h .1)) long (omega (arith, h .1, h .2)))
 
 same-length : tie.Need-same-length Inv-loop μ-loop
 same-length c = search needs
@@ -107,7 +125,7 @@ same-length-3 : tie.Need-same-length-3 Inv-loop μ-loop
 same-length-3 c = search needs
 
 returns : tie.Need-returns Inv-loop μ-loop
-returns c = hung-all (lashes-of (start (c .before))) (c .loop-test .left) (c .before .loop .inv)
+returns c = measured-all (lashes-of (start (c .before))) (c .loop-test .left) (c .before .loop .inv)
 
 pub gear-of-spec : {M : Type 1} → statement M
 gear-of-spec =

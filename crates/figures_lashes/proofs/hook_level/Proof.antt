@@ -1,3 +1,4 @@
+-- `figures_lashes::hook_level`: the tier less the hook, which a lash in its limits has above 0.
 use native.Mathlib.Omega.{arith}
 use mathlib.Core.Path.{refl}
 use borrow.Author.Needs.{needs}

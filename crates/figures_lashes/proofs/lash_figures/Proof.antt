@@ -1,20 +1,23 @@
+-- `figures_lashes::lash_figures`: one turn finds the figures of a lash and adds its vertical part to its post (LashLoops).
 use borrow.Author.Needs.{needs}
-use Prim.Native.Nat.{_-_}
+use Prim.Native.Nat.{_*_, _/_, _^_, _-_}
 use mathlib.Core.Path.{_≡_}
 use native.Mathlib.Numerals.{add-one}
 use native.Mathlib.Omega.{arith}
 use lib.ListN.{getD, take}
 use lib.Seq.{getD-take}
 use Rattle.statics.specs.inner.Limits.{LashFacts}
-use Rattle.statics.specs.inner.WholeNumbers.{leePart, windwardPart}
+use Rattle.statics.specs.inner.WholeNumbers.{stiffnessOf, leePart, windwardPart}
+use Rattle.statics.proofs.LashStiffness.{stiffness-most}
 use Rattle.sheet.specs.Layout.{blankLash}
-use Rattle.figures_lashes.proofs.LashLoops.{Listed, listed, Strained, strained-none, post-fits, strained-more, strained-all, lee-kept, windward-kept}
+use Rattle.figures_lashes.proofs.LashLoops.{Listed, listed, carried, lee-kept, windward-kept}
+use Rattle.figures_lashes.proofs.LashLoops.{FiguredTo, figured-none, post-fits, figured-more, figured-all}
 use Rattle.figures_lashes.proofs.lash_figures.Statement.{statement}
 use Rattle.figures_lashes.proofs.lash_figures.Tie as tie
 
 abbrev Inv-loop : tie.InvT-loop
 Inv-loop m lengths stiffnesses d lashes pull₀ athwart₀ vertical₀ lee₀ windward₀ j₀ pull athwart vertical lee windward j =
-    Strained m (take m lashes) d pull athwart vertical lee windward j
+    FiguredTo m (take m lashes) d pull athwart vertical lee windward j
 
 abbrev μ-loop : tie.MeasureT-loop
 μ-loop m lengths stiffnesses d lashes pull₀ athwart₀ vertical₀ lee₀ windward₀ j₀ pull athwart vertical lee windward j =
@@ -27,6 +30,20 @@ lashes-of c = listed (c .args .t1) (c .good .0 .1 .0 .1) (c .pre .0)
 abbrev start : tie.At-loop Inv-loop μ-loop → tie.Start Inv-loop μ-loop
 start c = c .before .before .before .before
 
+-- from each step of a turn to the one before it
+abbrev turn : tie.After-hook-level Inv-loop μ-loop → tie.In-loop Inv-loop μ-loop
+turn c = c .before .before
+
+abbrev hooked : tie.After-athwart-part Inv-loop μ-loop → tie.After-hook-level Inv-loop μ-loop
+hooked c = c .before .before .before
+
+abbrev parted : tie.After-forces-of Inv-loop μ-loop → tie.After-athwart-part Inv-loop μ-loop
+parted c = c .before .before
+
+abbrev figured : tie.After-on-posts Inv-loop μ-loop → tie.After-forces-of Inv-loop μ-loop
+figured c = c .before .before
+
+-- the lash of a turn, its stiffness and its athwart part
 own :
     (c : tie.In-loop Inv-loop μ-loop) →
     let a = start (c .before) .args in
@@ -38,8 +55,23 @@ own c =
 lash-facts : (c : tie.In-loop Inv-loop μ-loop) → LashFacts 10 (getD (start (c .before) .args .t1) (c .before .loop .j) blankLash)
 lash-facts c = rw (own c) at (start (c .before) .pre .0 .1 (c .before .loop .j) (c .loop-test .taken))
 
+stiffness :
+    (c : tie.In-loop Inv-loop μ-loop) →
+    let a = start (c .before) .args in
+    getD (a .stiffnesses .now) (c .before .loop .j) 0 ≡ stiffnessOf (getD (a .t1) (c .before .loop .j) blankLash)
+stiffness c = rw (own c) at (start (c .before) .pre .1 .0 .0 .stiff .each (c .before .loop .j) (c .loop-test .taken))
+
+athwart :
+    (c : tie.After-athwart-part Inv-loop μ-loop) →
+    let k = hooked c in
+    let t = turn k in
+    let a = start (t .before) .args in
+    c .athwart-part .result
+    ≡ stiffnessOf (getD (a .t1) (t .before .loop .j) blankLash) * getD (a .d .now) (k .hook-level .result) 0 / 2 ^ 32
+athwart c = rw (stiffness (turn (hooked c))) at (c .athwart-part .ensures .0)
+
 loop-holds : tie.Need-loop-holds Inv-loop μ-loop
-loop-holds c = strained-none
+loop-holds c = figured-none
 
 mul-l : tie.Need-mul-l Inv-loop μ-loop
 mul-l c = search needs
@@ -50,42 +82,44 @@ array-copy-out-l c = search needs
 hook-level-requires : tie.Need-hook-level-requires Inv-loop μ-loop
 hook-level-requires c κs = lash-facts (c .before)
 
-mul-pull-of : tie.Need-mul-pull-of Inv-loop μ-loop
-mul-pull-of c = search needs
+mul-athwart-part : tie.Need-mul-athwart-part Inv-loop μ-loop
+mul-athwart-part c = search needs
 
-shared-slice-read-pull-of : tie.Need-shared-slice-read-pull-of Inv-loop μ-loop
-shared-slice-read-pull-of c = search needs
+shared-slice-read-athwart-part : tie.Need-shared-slice-read-athwart-part Inv-loop μ-loop
+shared-slice-read-athwart-part c = search needs
 
-mul-pull-of-2 : tie.Need-mul-pull-of-2 Inv-loop μ-loop
-mul-pull-of-2 c = search needs
+mul-athwart-part-2 : tie.Need-mul-athwart-part-2 Inv-loop μ-loop
+mul-athwart-part-2 c = search needs
 
-shared-slice-read-pull-of-2 : tie.Need-shared-slice-read-pull-of-2 Inv-loop μ-loop
-shared-slice-read-pull-of-2 c = search needs
+shared-slice-read-athwart-part-2 : tie.Need-shared-slice-read-athwart-part-2 Inv-loop μ-loop
+shared-slice-read-athwart-part-2 c = search needs
 
-mul-pull-of-3 : tie.Need-mul-pull-of-3 Inv-loop μ-loop
-mul-pull-of-3 c = search needs
-
-shared-slice-read-pull-of-3 : tie.Need-shared-slice-read-pull-of-3 Inv-loop μ-loop
-shared-slice-read-pull-of-3 c = search needs
-
-pull-of-requires : tie.Need-pull-of-requires Inv-loop μ-loop
-pull-of-requires c κs =
-    let k = c .before .before .before in
-    let t = k .before .before in
+athwart-part-requires : tie.Need-athwart-part-requires Inv-loop μ-loop
+athwart-part-requires c κs =
+    let k = c .before .before in
+    let t = turn k in
     let b = start (t .before) in
-    let j = t .before .loop .j in
-    let g = b .pre .1 .0 .0 in (
-      lash-facts t,
-      rw (own t) at (g .long j (t .loop-test .taken)),
-      rw (own t) at (g .stiff j (t .loop-test .taken)),
-      b .pre .1 .0 .1 (k .hook-level .result),
-    )
+    (rw (stiffness t) (stiffness-most _ (lash-facts t)), b .pre .1 .0 .1 (k .hook-level .result))
+
+mul-forces-of : tie.Need-mul-forces-of Inv-loop μ-loop
+mul-forces-of c = search needs
+
+shared-slice-read-forces-of : tie.Need-shared-slice-read-forces-of Inv-loop μ-loop
+shared-slice-read-forces-of c = search needs
+
+forces-of-requires : tie.Need-forces-of-requires Inv-loop μ-loop
+forces-of-requires c κs =
+    let t = turn (hooked (c .before)) in
+    let g = start (t .before) .pre .1 .0 .0 in
+    (lash-facts t, rw (own t) at (g .long .each (t .before .loop .j) (t .loop-test .taken)), c .before .athwart-part .ensures .1)
 
 lashing-of-requires : tie.Need-lashing-of-requires Inv-loop μ-loop
 lashing-of-requires c κs = search needs
 
 on-posts-requires : tie.Need-on-posts-requires Inv-loop μ-loop
-on-posts-requires c κs = search needs
+on-posts-requires c κs =
+    let x = parted (c .before) in
+    (rw (c .lashing-of .ensures, carried _) (lash-facts (turn (hooked x))), x .athwart-part .ensures .1)
 
 mul-pull : tie.Need-mul-pull Inv-loop μ-loop
 mul-pull c = search needs
@@ -114,15 +148,17 @@ array-read-lee c = search needs
 add-lee : tie.Need-add-lee Inv-loop μ-loop
 add-lee c =
     let o = c .before in
-    let q = o .before .before in
-    let k = q .before .before .before .before in
-    let t = k .before .before in
+    let x = parted (figured o) in
+    let k = hooked x in
+    let t = turn k in
     let l = t .before .loop in
     let b = start (t .before) in
-    let e = o .on-posts .ensures in
-    let g = o .before .lashing-of .ensures in
-    rw (e .0, g)
-    (record { fits = post-fits (lashes-of b) (b .pre .1 .0 .1) (l .inv) (t .loop-test .taken) (own t) (k .hook-level .ensures .0) (q .pull-of .ensures .1 .1 .1 .0) leePart lee-kept (l .inv .lees) })
+    rw (o .on-posts .ensures .0, o .before .lashing-of .ensures)
+    (record {
+      fits =
+          post-fits (lashes-of b) (b .pre .1 .0 .1) (l .inv) (t .loop-test .taken) (own t) (k .hook-level .ensures .0) (athwart x)
+          leePart lee-kept (l .inv .lees);
+    })
 
 mul-lee-2 : tie.Need-mul-lee-2 Inv-loop μ-loop
 mul-lee-2 c = search needs
@@ -139,15 +175,17 @@ array-read-windward c = search needs
 add-windward : tie.Need-add-windward Inv-loop μ-loop
 add-windward c =
     let o = c .before .before in
-    let q = o .before .before in
-    let k = q .before .before .before .before in
-    let t = k .before .before in
+    let x = parted (figured o) in
+    let k = hooked x in
+    let t = turn k in
     let l = t .before .loop in
     let b = start (t .before) in
-    let e = o .on-posts .ensures in
-    let g = o .before .lashing-of .ensures in
-    rw (e .1, g)
-    (record { fits = post-fits (lashes-of b) (b .pre .1 .0 .1) (l .inv) (t .loop-test .taken) (own t) (k .hook-level .ensures .0) (q .pull-of .ensures .1 .1 .1 .0) windwardPart windward-kept (l .inv .windwards) })
+    rw (o .on-posts .ensures .1, o .before .lashing-of .ensures)
+    (record {
+      fits =
+          post-fits (lashes-of b) (b .pre .1 .0 .1) (l .inv) (t .loop-test .taken) (own t) (k .hook-level .ensures .0) (athwart x)
+          windwardPart windward-kept (l .inv .windwards);
+    })
 
 mul-windward-2 : tie.Need-mul-windward-2 Inv-loop μ-loop
 mul-windward-2 c = search needs
@@ -164,21 +202,22 @@ loop-less c = search needs
 loop-again : tie.Need-loop-again Inv-loop μ-loop
 loop-again c =
     let o = c .before .before in
-    let q = o .before .before in
-    let k = q .before .before .before .before in
-    let t = k .before .before in
+    let f = figured o in
+    let x = parted f in
+    let k = hooked x in
+    let t = turn k in
     let l = t .before .loop in
     let b = start (t .before) in
     let e = o .on-posts .ensures in
-    let g = o .before .lashing-of .ensures in
-    let r = q .pull-of .ensures in
-    rw (add-one (l .j), e .0, e .1, g)
-    (strained-more (lashes-of b) (b .pre .1 .0 .1) (l .inv) (t .loop-test .taken) (own t) (k .hook-level .ensures .0) (q .pull-of .ensures .1 .1 .1 .0) (omega (arith, k .hook-level .ensures .2)) (r .0) (r .1 .0) (r .1 .1 .0))
+    let r = f .forces-of .ensures in
+    rw (e .0, e .1, o .before .lashing-of .ensures, add-one (l .j))
+    (figured-more (lashes-of b) (b .pre .1 .0 .1) (l .inv) (t .loop-test .taken) (own t) (k .hook-level .ensures .0) (athwart x)
+    (omega (arith, k .hook-level .ensures .2)) (r .0) (r .1 .0) (r .1 .1))
 
 returns : tie.Need-returns Inv-loop μ-loop
 returns c =
     let b = start (c .before) in
-    let s = strained-all (lashes-of b) (b .pre .1 .0 .1) (c .loop-test .left) (c .before .loop .inv) in
+    let s = figured-all (lashes-of b) (b .pre .1 .0 .1) (c .loop-test .left) (c .before .loop .inv) in
     (s .0, (s .1, s .2))
 
 pub lash-figures-spec : {M : Type 1} → statement M
@@ -191,13 +230,14 @@ lash-figures-spec =
     mul-l
     array-copy-out-l
     hook-level-requires
-    mul-pull-of
-    shared-slice-read-pull-of
-    mul-pull-of-2
-    shared-slice-read-pull-of-2
-    mul-pull-of-3
-    shared-slice-read-pull-of-3
-    pull-of-requires
+    mul-athwart-part
+    shared-slice-read-athwart-part
+    mul-athwart-part-2
+    shared-slice-read-athwart-part-2
+    athwart-part-requires
+    mul-forces-of
+    shared-slice-read-forces-of
+    forces-of-requires
     lashing-of-requires
     on-posts-requires
     mul-pull

@@ -1,3 +1,4 @@
+-- `figures_lashes::length_of`: the least root is the length by its definition.
 use Rattle.statics.proofs.LashLength.{length-is}
 use borrow.Author.Needs.{needs}
 use Rattle.figures_lashes.proofs.length_of.Statement.{statement}
@@ -16,7 +17,9 @@ length-requires : tie.Need-length-requires
 length-requires c κs = search needs
 
 returns : tie.Need-returns
-returns c = length-is (c .before .before .before .before .args .l) _ (c .length .ensures .0)
+returns c =
+    let entry = c .before .before .before .before in
+    length-is (entry .args .l) _ (c .length .ensures .0)
 
 pub length-of-spec : {M : Type 1} → statement M
 length-of-spec = tie.close (tie.spec cast-length cast-length-2 cast-length-3 length-requires returns)

@@ -1,3 +1,4 @@
+-- `figures_lashes::over_cube`: both ways of scaling give the same quotient.
 use native.Mathlib.Omega.{arith}
 use lib.Dec.{lit<}
 use Rattle.figures_lashes.proofs.over_cube.Statement.{statement}

@@ -1,3 +1,4 @@
+-- `figures_lashes::stiffness_of`: the steps to the quotient stay within 64 bits (LashLaws).
 use native.Mathlib.Nat.{lt-of-le-of-lt}
 use native.Mathlib.Omega.{arith}
 use lib.Dec.{lit<}
@@ -49,8 +50,8 @@ over-cube-requires c κs =
 returns : tie.Need-returns
 unfolding stiffnessOf
 returns c =
-    let b = c .before .before .before .before in
-    rw (← b .pre .1) (c .over-cube .ensures)
+    let entry = c .before .before .before .before in
+    rw (← entry .pre .1) (c .over-cube .ensures)
 
 pub stiffness-of-spec : {M : Type 1} → statement M
 stiffness-of-spec =

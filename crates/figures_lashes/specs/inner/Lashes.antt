@@ -1,20 +1,29 @@
 -- Contracts of inner functions: what is found of an end's lashes before and after the springs are solved. Nothing here need be believed.
 use mathlib.Core.Path.{_≡_}
 use mathlib.Core.List.{List}
-use Prim.Native.Nat.{ℕ, suc, _^_, _<_, _≤_}
+use Prim.Native.Nat.{ℕ, suc, _*_, _/_, _^_, _≤_}
 use lib.Dec.{eqb}
 use lib.ListN.{getD, length}
 use Rattle.sheet.specs.declared.Lash.{Lash}
 use Rattle.sheet.specs.declared.Lashing.{Lashing}
+use Rattle.sheet.specs.declared.Lashing.the-variants.{Cross, Side}
 use Rattle.sheet.specs.Layout.{blankLash}
 use Rattle.sheet.specs.Lashings.{levelOf}
 use Rattle.statics.specs.Lashes.{lashLength}
 use Rattle.statics.specs.inner.WholeNumbers.{Filled, stiffnessOf, levelStiffness, pullFigure, athwartFigure, verticalFigure, upwards}
 
+-- the lash that a cross or a side lash carries, and the vertical part of a lash from its athwart part
+abbrev pub carriedLash : Lashing → Lash
+carriedLash (Cross l) = l
+carriedLash (Side l) = l
+
+abbrev pub verticalFrom : ℕ → Lash → ℕ
+verticalFrom part l = part * l .lz / l .ly
+
 -- lengths and stiffnesses of m lashes
 pub record Geared (m : ℕ) (ls : List Lash) (lengths stiffnesses : List ℕ) : Type 0 where
-  pub long : (j : ℕ) → j < m → getD lengths j 0 ≡ lashLength (getD ls j blankLash)
-  pub stiff : (j : ℕ) → j < m → getD stiffnesses j 0 ≡ stiffnessOf (getD ls j blankLash)
+  pub long : Filled 0 m (λ j. lashLength (getD ls j blankLash)) lengths
+  pub stiff : Filled 0 m (λ j. stiffnessOf (getD ls j blankLash)) stiffnesses
 
 -- the stiffness of all lashes at each level over the deck
 abbrev pub Held : List Lash → List ℕ → Type 0

@@ -1,9 +1,11 @@
 -- Contracts of inner functions: the figures of tiers and levels, from shifts, weights and vertical parts. Nothing here need be believed.
 use mathlib.Core.Path.{_≡_}
+use mathlib.Core.Bool.{cond}
 use mathlib.Core.List.{List, [], _∷_}
 use Prim.Native.Nat.{ℕ, suc, _+_, _^_, _<_, _≤_}
 use lib.ListN.{drop, take, getD, length}
 use lib.IntN.{ℤ, pos, negℤ, _+ℤ_, _*ℤ_}
+use lib.Signed.{ltZ}
 use Rattle.sheet.specs.declared.Tier.{Tier}
 use Rattle.sheet.specs.Layout.{blankTier}
 use Rattle.statics.specs.inner.WholeNumbers.{Filled, rackingPart, rackingFigure, leeFound, windwardFound, postFigure}
@@ -16,6 +18,10 @@ total (x ∷ xs) = x + total xs
 unfoldable pub momentOf : List ℕ → List ℕ → List Tier → ℕ → ℤ
 momentOf k d [] i = pos 0
 momentOf k d (t ∷ ts) i = pos (t .height) *ℤ rackingPart (getD k i 0) d i +ℤ momentOf k d ts (suc i)
+
+-- the greater of two signed numbers
+abbrev pub greaterOf : ℤ → ℤ → ℤ
+greaterOf x y = cond (ltZ x y) y x
 
 -- compression and tension at a level, from half the weight above it, the moment, and the vertical parts on the two posts
 abbrev pub compressed : ℕ → ℤ → ℕ → ℕ → ℕ
