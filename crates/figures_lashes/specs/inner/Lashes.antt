@@ -22,8 +22,8 @@ verticalFrom part l = part * l .lz / l .ly
 
 -- lengths and stiffnesses of m lashes
 pub record Geared (m : ℕ) (ls : List Lash) (lengths stiffnesses : List ℕ) : Type 0 where
-  pub long : Filled 0 m (λ j. lashLength (getD ls j blankLash)) lengths
-  pub stiff : Filled 0 m (λ j. stiffnessOf (getD ls j blankLash)) stiffnesses
+  pub long : Filled 8 0 m (λ j. lashLength (getD ls j blankLash)) lengths
+  pub stiff : Filled 8 0 m (λ j. stiffnessOf (getD ls j blankLash)) stiffnesses
 
 -- the stiffness of all lashes at each level over the deck
 abbrev pub Held : List Lash → List ℕ → Type 0
