@@ -9,11 +9,11 @@ use lib.IntN.{pos, natAbs}
 use lib.ListN.{getD, length, drop}
 use Rattle.arith.specs.Fractions.{Frac}
 use Rattle.sheet.specs.declared.Reading.{Reading}
-use Rattle.sheet.specs.declared.Reading.the-variants.{Taken, Refused}
+use Rattle.sheet.specs.declared.Reading.the-variants.{Taken}
 use Rattle.sheet.specs.declared.Sheet.{Sheet}
 use Rattle.sheet.specs.Layout.{sheetOf}
-use Rattle.sheet.specs.Refusals.{first, sheetRows, row13, refusal}
-use Rattle.sheet.proofs.Rows.{orElse, first-append}
+use Rattle.sheet.specs.Refusals.{refusal}
+use Rattle.sheet.proofs.Refusal.{sheet-taken}
 use Rattle.sheet.proofs.Taken.{taken-fits}
 use Rattle.statics.specs.declared.EndFigures.{EndFigures}
 use Rattle.statics.specs.declared.Figures.{Figures}
@@ -197,18 +197,6 @@ module _ {margin : ℕ} (few : margin ≤ 100) {t : Sheet} (facts : Facts t) {be
             let g : k < length (findings t f) = rw (read-back .count) at h in
             subst (λ (x : Finding). Justified margin t x) (sym (read-back .finding k g)) (A.found t f (a .told) (getD (findings t f) k noFinding) (member (findings t f) k g));
       }
-
--- where a check is not refused, its sheet is not
-pub sheet-taken : (s : List ℕ) (room : ℕ) → refusal s room ≡ Taken → first (sheetRows s) ≡ Taken
-unfolding refusal
-sheet-taken s room e = go (first (sheetRows s)) (sym (first-append (sheetRows s) (row13 room ∷ [])) ∙ e)
-  where
-    go : (q : Reading) → orElse q (first (row13 room ∷ [])) ≡ Taken → q ≡ Taken
-    go Taken h = refl
-    go (Refused n p) h = absurd (never h)
-      where
-        never : Refused n p ≡ Taken → ⊥
-        never h = let z : _≡_ {A = ℕ} 0 1 = cc in omega arith
 
 -- what `check` says of a taken sheet is enough
 pub told : {margin : ℕ} {s before after : List ℕ} {r : Outcome} → margin ≤ 100 → refusal s (length before) ≡ Taken → Checked margin s before after r → AnswerSays margin (sheetOf s) after

@@ -11,7 +11,7 @@ use lib.ListN.{length}
 use Rattle.io.specs.Digits.{digits, Fewest}
 use Rattle.sheet.specs.declared.Reading.{Reading}
 use Rattle.sheet.specs.declared.Reading.the-variants as R
-use Rattle.sheet.specs.Refusals.{first, refusal}
+use Rattle.sheet.specs.Refusals.{first, refusalOf, refusal}
 use Rattle.sheet.specs.Layout.{sheetOf}
 use Rattle.answer.specs.declared.Outcome.{Outcome}
 use Rattle.answer.specs.declared.Outcome.the-variants.{Taken, Refused}
@@ -38,7 +38,7 @@ line : {text : List ℕ} → Line 1 0 text → text ≡ 49 ∷ 32 ∷ 48 ∷ 10 
 line l = l .whole ∙ rw (decimal 1 (omega arith) (l .left-in), decimal 0 (omega arith) (l .right-in))
 
 short : (room : ℕ) → refusal [] room ≡ R.Refused 1 0
-unfolding refusal first
+unfolding refusal refusalOf first
 short room = refl
 
 module _ {margin : ℕ} {before bytes : List ℕ} (r : Reply margin [] before bytes) where

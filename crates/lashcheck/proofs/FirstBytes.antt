@@ -9,10 +9,9 @@ use Rattle.sheet.specs.declared.Sheet.{Sheet}
 use Rattle.sheet.specs.Layout.{sheetOf}
 use Rattle.sheet.specs.Refusals.{decoded, refusal}
 use Rattle.sheet.proofs.FirstBytes.{first-452, refusal-452}
-use Rattle.sheet.proofs.Refusal.{decoded-reading, decoded-sheet}
+use Rattle.sheet.proofs.Refusal.{decoded-reading, decoded-sheet, sheet-taken}
 use Rattle.answer.specs.declared.Outcome.{Outcome}
 use Rattle.answer.specs.Checked.{Answered, CheckedAs, Checked}
-use Rattle.answer.proofs.Consequences.{sheet-taken}
 use Rattle.lashcheck.specs.Replies.{Reply}
 
 module _ (s : List ℕ) where
