@@ -17,11 +17,12 @@ use Rattle.sheet.proofs.Refusal.{sheet-taken}
 use Rattle.sheet.proofs.Taken.{taken-fits}
 use Rattle.statics.specs.declared.EndFigures.{EndFigures}
 use Rattle.statics.specs.declared.Figures.{Figures}
-use Rattle.statics.specs.Ends.{End, door, closed, lashesOf, EndSolved}
+use Rattle.statics.specs.Ends.{EndSolved}
+use Rattle.sheet.specs.Ends.{End, door, closed, lashesOf}
 use Rattle.statics.specs.Reported.{EndReported}
-use Rattle.statics.specs.inner.Limits.{Facts}
+use Rattle.sheet.specs.inner.Limits.{SheetLimits}
 use Rattle.statics.proofs.Bounds.{racking-within}
-use Rattle.statics.proofs.Taken.{facts}
+use Rattle.sheet.proofs.SheetLimits.{sheet-limits}
 use Rattle.statics.proofs.Within.{reported-below}
 use Rattle.answer.specs.declared.Outcome.{Outcome}
 use Rattle.answer.specs.Findings.{Kind, racking, compression, cornerTension, lockTension, lashTension, lashVertical, lashAthwart, kinds, Finding, endCode, kindCode, figuresOf, firstIndex, indexCount, reportedSize, limitAt, findingsFrom, endFindings, findings, verdict}
@@ -48,9 +49,9 @@ made : {A : Type 0} (g : ℕ → A) (d : A) (n i : ℕ) → i < n → getD (map 
 made g d n i h = made-at g d 0 n i h ∙ ap g (omega arith)
 
 -- the rackings of a taken sheet fit 32 bits
-module _ {margin : ℕ} (few : margin ≤ 100) {t : Sheet} (facts : Facts t) (e : End) {f : EndFigures} where
+module _ {margin : ℕ} (few : margin ≤ 100) {t : Sheet} (limits : SheetLimits t) (e : End) {f : EndFigures} where
   signed : (Ds : List Frac) → EndSolved e t Ds → EndReported margin e t Ds f → Signed t f
-  signed Ds s r = record { racking = λ i h. small (reported-below (racking-within e facts s i h) (r .rackings i h .size)) }
+  signed Ds s r = record { racking = λ i h. small (reported-below (racking-within e limits s i h) (r .rackings i h .size)) }
     where
       small : {n : ℕ} → n < 2440000 + margin → n < 2 ^ 31
       small h = omega arith
@@ -173,13 +174,13 @@ module _ (t : Sheet) (f : Figures) (s : List ℕ) (b : ReadBack t f s) where
       ends closed = end-ruled closed
 
 -- what the bytes say of a taken sheet
-module _ {margin : ℕ} (few : margin ≤ 100) {t : Sheet} (facts : Facts t) {before after : List ℕ} {r : Outcome} (a : Answered margin t before after r) where
+module _ {margin : ℕ} (few : margin ≤ 100) {t : Sheet} (limits : SheetLimits t) {before after : List ℕ} {r : Outcome} (a : Answered margin t before after r) where
   abbrev f : Figures
   f = a .figures
 
   all-signed : (e : End) → Signed t (figuresOf e f)
   all-signed e =
-      signed few facts e (a .one e .shifts) (a .one e .exists) (a .told e .told (a .one e .shifts) (a .one e .exists))
+      signed few limits e (a .one e .shifts) (a .one e .exists) (a .told e .told (a .one e .shifts) (a .one e .exists))
 
   pub read-back : ReadBack t f after
   read-back =
@@ -201,5 +202,5 @@ module _ {margin : ℕ} (few : margin ≤ 100) {t : Sheet} (facts : Facts t) {be
 -- what `check` says of a taken sheet is enough
 pub told : {margin : ℕ} {s before after : List ℕ} {r : Outcome} → margin ≤ 100 → refusal s (length before) ≡ Taken → Checked margin s before after r → AnswerSays margin (sheetOf s) after
 told {margin} {s} {before} {after} {r} few e c =
-    answer-told few (facts (taken-fits s (sheet-taken s (length before) e)))
+    answer-told few (sheet-limits (taken-fits s (sheet-taken s (length before) e)))
     (subst (λ (q : Reading). CheckedAs q margin (sheetOf s) before after r) e (c .holds))

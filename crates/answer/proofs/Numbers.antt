@@ -13,7 +13,7 @@ use Rattle.sheet.specs.Fits.{Fits}
 use Rattle.sheet.proofs.Numbers.{check-numbers}
 use Rattle.sheet.proofs.Refusal.{sheet-taken}
 use Rattle.sheet.proofs.Taken.{taken-fits}
-use Rattle.statics.specs.Ends.{End, door, closed, lashesOf}
+use Rattle.sheet.specs.Ends.{End, door, closed, lashesOf}
 use Rattle.answer.specs.declared.Outcome.{Outcome}
 use Rattle.answer.specs.Checked.{number, second, CheckedAs, Checked}
 use Rattle.answer.proofs.Longest.{answer-most}

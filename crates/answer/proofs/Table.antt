@@ -16,7 +16,8 @@ use Rattle.statics.specs.Lashes.{lashLength, pull, athwartPart}
 use Rattle.springs.specs.Equations as S
 use Rattle.springs.specs.Equations.{shift}
 use Rattle.springs.proofs.OneSolution.{handedStiffness, handedLoad, shiftOf, solution, exists, unique, same-racking}
-use Rattle.statics.specs.Ends.{door, tiersOf, lashesOf, chainTiers, chainLash, chainLashes, routeFactor, EndSolved}
+use Rattle.statics.specs.Ends.{chainTiers, chainLash, chainLashes, routeFactor, EndSolved}
+use Rattle.sheet.specs.Ends.{door, tiersOf, lashesOf}
 use Rattle.statics.specs.Posts.{levelHeight, turning, moment, atMost, tension}
 use Rattle.statics.proofs.LashLength.{length-is}
 use Rattle.answer.specs.Limits.{safeLoad}

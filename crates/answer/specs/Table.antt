@@ -12,7 +12,8 @@ use Rattle.sheet.specs.Layout.{blankTier, blankLash}
 use Rattle.arith.specs.Lists.{padded}
 use Rattle.statics.specs.Loads.{transverse, wind, classShare}
 use Rattle.statics.specs.Lashes.{lashLength, athwartPart}
-use Rattle.statics.specs.Ends.{door, tiersOf, lashesOf, chainTiers, routeFactor, EndSolved}
+use Rattle.statics.specs.Ends.{chainTiers, routeFactor, EndSolved}
+use Rattle.sheet.specs.Ends.{door, tiersOf, lashesOf}
 use Rattle.statics.specs.Posts.{moment, tension}
 use Rattle.answer.specs.Limits.{safeLoad}
 use Rattle.answer.specs.Checked.{OneSolution}

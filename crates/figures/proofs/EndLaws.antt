@@ -10,6 +10,7 @@ use lib.Dec.{leb, eqb}
 use lib.IntN.{ℤ, pos, _+ℤ_, _*ℤ_}
 use lib.ListN.{length, getD, take, drop, replicate, length-drop, getD-replicate}
 use Rattle.sheet.specs.Layout.{blankLash}
+use Rattle.sheet.proofs.Limits.{lash-wider}
 use Rattle.springs.specs.Promise.{Solvable, Promised}
 use Rattle.sheet.specs.declared.Tier.{Tier}
 use Rattle.sheet.specs.declared.Lash.{Lash}
@@ -18,8 +19,9 @@ use Rattle.sheet.specs.declared.Sheet.{Sheet}
 use Rattle.sheet.specs.Lashings.{lashingOf, levelOf}
 use Rattle.sheet.specs.Routes.{routePercent}
 use Rattle.statics.specs.declared.EndFigures.{EndFigures}
-use Rattle.statics.specs.inner.Limits.{LashFacts, Facts}
-use Rattle.statics.specs.Ends.{End, springOf, tiersOf, lashesOf}
+use Rattle.sheet.specs.inner.Limits.{LashLimits, SheetLimits}
+use Rattle.statics.specs.Ends.{springOf}
+use Rattle.sheet.specs.Ends.{End, tiersOf, lashesOf}
 use Rattle.statics.specs.Reported.{EndFigured}
 use Rattle.statics.specs.inner.WholeNumbers.{upward, upwards, leePart, windwardPart, rackingPart, rackingFigure, momentPart, compressionFigure, tensionFigure, Computed}
 use Rattle.statics.specs.inner.WholeNumbers.{Filled}
@@ -82,26 +84,10 @@ module _ (post : Lashing → ℕ → ℕ) (n : ℕ) (d : List ℕ) (ls : List La
 refilled : {A : Type 0} {blank : A} {n : ℕ} {P Q : ℕ → A} {r : List A} → ((i : ℕ) → i < n → P i ≡ Q i) → Filled blank n P r → Filled blank n Q r
 refilled e f = record { each = λ i h. f .each i h ∙ e i h; rest = f .rest }
 
-facts-ten : {n : ℕ} {l : Lash} → n ≤ 10 → LashFacts n l → LashFacts 10 l
-facts-ten h f =
-    record {
-      lx = f .lx;
-      ly = f .ly;
-      ly-most = f .ly-most;
-      lz = f .lz;
-      lz-most = f .lz-most;
-      area = f .area;
-      area-most = f .area-most;
-      modulus = f .modulus;
-      modulus-most = f .modulus-most;
-      raised = f .raised;
-      inside = omega (arith, f .inside);
-    }
-
 module _ {n : ℕ} {k : List ℕ} {ts : List Tier} {m : ℕ} {ls : List Lash} {ω most least : List ℕ}
     (h : Workable n k ts m ls ω most least) (counted : length ls ≡ m) where
-  pub each-ten : (j : ℕ) → j < m → LashFacts 10 (getD ls j blankLash)
-  each-ten j q = facts-ten (h .few) (h .each j (omega arith))
+  pub each-ten : (j : ℕ) → j < m → LashLimits 10 (getD ls j blankLash)
+  each-ten j q = lash-wider (h .few) (h .each j (omega arith))
 
   pub end-solvable : {κ : List ℕ} → Held ls κ → Solvable n k κ ω
   end-solvable s =
@@ -181,7 +167,7 @@ module _ {n : ℕ} {k : List ℕ} {ts : List Tier} {m : ℕ} {ls : List Lash} {�
 abbrev pub springs : End → List ℕ
 springs e = replicate 10 (springOf e)
 
-module _ {t : Sheet} (f : Facts t) (e : End) where
+module _ {t : Sheet} (f : SheetLimits t) (e : End) where
   pub spring-at : (i : ℕ) → i < t .ntiers → getD (springs e) i 0 ≡ springOf e
   spring-at i h = getD-replicate 10 i (springOf e) 0 (omega (arith, f .few))
 
@@ -252,6 +238,6 @@ module _ {share factor : ℕ} (e : End) (t : Sheet) {k ω : List ℕ} {f : EndFi
       }
 
 -- by the class rule and the route, they report the end's forces
-pub reports : {e : End} {t : Sheet} {f : EndFigures} → Facts t → Worked 9 (10 * routePercent (t .head .route)) e t f → EndFigured 9 e t f
+pub reports : {e : End} {t : Sheet} {f : EndFigures} → SheetLimits t → Worked 9 (10 * routePercent (t .head .route)) e t f → EndFigured 9 e t f
 reports h w =
     end-figured h (w .inputs) (w .promised) (w .computed) (w .blank)

@@ -4,7 +4,7 @@ ghost use Prim.Native.Nat.{_≤_};
 ghost use mathlib.Core.Path.{_≡_};
 ghost use lib.ListN.{length, take};
 ghost use Rattle.sheet.specs.Fits.{Fits};
-ghost use Rattle.statics.specs.Ends.{door, closed};
+ghost use Rattle.sheet.specs.Ends.{door, closed};
 ghost use Rattle.statics.specs.Reported.{EndFigured};
 ghost use Rattle.figures.specs.inner.Ends.{Workable, EndWorked, Worked};
 use sheet::Lash;

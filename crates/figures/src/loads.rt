@@ -4,7 +4,7 @@ ghost use mathlib.Core.Path.{_≡_};
 ghost use Prim.Native.Nat.{ℕ, _+_, _*_, _-_, _/_, _<_, _≤_, _^_};
 ghost use lib.ListN.{take, getD, replicate};
 ghost use Rattle.sheet.specs.Layout.{blankTier};
-ghost use Rattle.statics.specs.inner.Limits.{TierFacts};
+ghost use Rattle.sheet.specs.inner.Limits.{TierLimits};
 ghost use Rattle.statics.specs.inner.WholeNumbers.{push, gust};
 ghost use Rattle.statics.specs.Loads.{boxLength};
 ghost use Rattle.figures.specs.inner.Ends.{Loaded, Weighed};
@@ -31,7 +31,7 @@ fn box_length(t: Tier) -> u64
 
 // The wind on a tier: 27 × length × height where it is exposed.
 fn gust_of(t: Tier) -> u64
-    requires { ⌜ TierFacts t ⌝ }
+    requires { ⌜ TierLimits t ⌝ }
     ensures { λ r. ⌜ (r ≡ gust t) × (r ≤ 27 * 12192 * 2896) ⌝ }
 {
     if t.wind == 1 {
@@ -47,7 +47,7 @@ struct Thrust {
 }
 
 fn thrust_of(t: Tier) -> Thrust
-    requires { ⌜ TierFacts t ⌝ }
+    requires { ⌜ TierLimits t ⌝ }
     ensures { λ r. ⌜ (r .push ≡ push t) × (r .push ≤ 30480 * 1500) × (r .gust ≡ gust t) × (r .gust ≤ 27 * 12192 * 2896) ⌝ }
 {
     Thrust {
@@ -98,7 +98,7 @@ pub fn loads_of(
     least: &mut [u64],
 )
     requires { ⌜ (n ≤ 10) × (share ≤ 20) × (factor ≤ 1000) ⌝ }
-    requires { ⌜ ((i : ℕ) → i < n → TierFacts (getD (take n tiers) i blankTier)) ⌝ }
+    requires { ⌜ ((i : ℕ) → i < n → TierLimits (getD (take n tiers) i blankTier)) ⌝ }
     requires { ⌜ (now loads ≡ replicate 10 0) × (now most ≡ replicate 11 0) × (now least ≡ replicate 11 0) ⌝ }
     ensures { λ _. ⌜ Loaded share factor n (take n tiers) (now (loads .exit)) × Weighed (take n tiers) (now (most .exit)) (now (least .exit)) ⌝ }
 {

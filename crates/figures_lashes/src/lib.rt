@@ -6,7 +6,7 @@ ghost use lib.ListN.{take, getD, length, replicate};
 ghost use Rattle.arith.specs.Rounding.{roundedUp};
 ghost use Rattle.sheet.specs.Lashings.{levelOf};
 ghost use Rattle.sheet.specs.Layout.{blankLash};
-ghost use Rattle.statics.specs.inner.Limits.{LashFacts};
+ghost use Rattle.sheet.specs.inner.Limits.{LashLimits};
 ghost use Rattle.statics.specs.Lashes.{lashLength};
 ghost use Rattle.statics.specs.inner.WholeNumbers.{lashPad, stiffnessOf, leePart, windwardPart};
 ghost use Rattle.figures_lashes.specs.inner.Lashes.{Geared, Held, Pulled, Borne};
@@ -26,14 +26,14 @@ const LASH_PAD: u64 = 13365;
 
 // The level that a lash is hooked at.
 fn hook_level(l: Lash) -> usize
-    requires { ⌜ LashFacts 10 l ⌝ }
+    requires { ⌜ LashLimits 10 l ⌝ }
     ensures { λ r. ⌜ (r ≡ levelOf l) × (1 ≤ r) × (r ≤ 10) ⌝ }
 {
     (l.tier - l.hook) as usize
 }
 
 fn length_of(l: Lash) -> u64
-    requires { ⌜ LashFacts 10 l ⌝ }
+    requires { ⌜ LashLimits 10 l ⌝ }
     ensures { λ r. ⌜ r ≡ lashLength l ⌝ }
 {
     length(l.lx as u64, l.ly as u64, l.lz as u64)
@@ -52,7 +52,7 @@ fn over_cube(force: u64, cube: u64) -> u64
 
 // The athwart stiffness of a lash of this length.
 fn stiffness_of(l: Lash, length: u64) -> u64
-    requires { ⌜ LashFacts 10 l × (length ≡ lashLength l) ⌝ }
+    requires { ⌜ LashLimits 10 l × (length ≡ lashLength l) ⌝ }
     ensures { λ r. ⌜ r ≡ stiffnessOf l ⌝ }
 {
     let ly = l.ly as u64;
@@ -70,7 +70,7 @@ pub fn gear_of(
     stiffnesses: &mut [u64],
     levels: &mut [u64],
 )
-    requires { ⌜ (m ≤ 8) × ((j : ℕ) → j < m → LashFacts 10 (getD (take m lashes) j blankLash)) ⌝ }
+    requires { ⌜ (m ≤ 8) × ((j : ℕ) → j < m → LashLimits 10 (getD (take m lashes) j blankLash)) ⌝ }
     requires { ⌜ (now lengths ≡ replicate 8 0) × (now stiffnesses ≡ replicate 8 0) × (now levels ≡ replicate 10 0) ⌝ }
     ensures { λ _. ⌜ Geared m (take m lashes) (now (lengths .exit)) (now (stiffnesses .exit)) × Held (take m lashes) (now (levels .exit)) ⌝ }
 {
@@ -120,7 +120,7 @@ struct Pull {
 }
 
 fn pull_of(l: Lash, length: u64, stiffness: u64, shift: u64) -> Pull
-    requires { ⌜ LashFacts 10 l × (length ≡ lashLength l) × (stiffness ≡ stiffnessOf l) × (shift ≤ 2 ^ 40) ⌝ }
+    requires { ⌜ LashLimits 10 l × (length ≡ lashLength l) × (stiffness ≡ stiffnessOf l) × (shift ≤ 2 ^ 40) ⌝ }
     ensures { λ r. ⌜ r .pull ≡ roundedUp (roundedUp ((stiffnessOf l * shift / 2 ^ 32 + lashPad) * lashLength l) (l .ly)) (2 ^ 18) ⌝ }
     ensures { λ r. ⌜ r .athwart ≡ roundedUp (stiffnessOf l * shift / 2 ^ 32 + lashPad) (2 ^ 18) ⌝ }
     ensures { λ r. ⌜ r .vertical ≡ roundedUp (roundedUp ((stiffnessOf l * shift / 2 ^ 32 + lashPad) * l .lz) (l .ly)) (2 ^ 18) ⌝ }
@@ -171,7 +171,7 @@ pub fn lash_figures(
     stiffnesses: &[u64],
     d: &[u64],
 ) -> Pulls
-    requires { ⌜ (m ≤ 8) × ((j : ℕ) → j < m → LashFacts 10 (getD (take m lashes) j blankLash)) ⌝ }
+    requires { ⌜ (m ≤ 8) × ((j : ℕ) → j < m → LashLimits 10 (getD (take m lashes) j blankLash)) ⌝ }
     requires { ⌜ Geared m (take m lashes) (now lengths) (now stiffnesses) × ((i : ℕ) → getD (now d) i 0 ≤ 2 ^ 40) ⌝ }
     requires { ⌜ (length (now lengths) ≡ 8) × (length (now stiffnesses) ≡ 8) × (length (now d) ≡ 11) ⌝ }
     ensures { λ r. ⌜ Pulled m (take m lashes) (now (d .entry)) (r .pull) (r .athwart) (r .vertical) ⌝ }

@@ -24,18 +24,19 @@ use Rattle.sheet.specs.Routes.{routePercent}
 use Rattle.statics.specs.declared.EndFigures.{EndFigures}
 use Rattle.statics.specs.Loads.{classShare}
 use Rattle.statics.specs.Lashes.{pull, athwartPart, verticalPart}
-use Rattle.statics.specs.Ends.{End, EndSolved, tiersOf, lashesOf, routeFactor}
+use Rattle.statics.specs.Ends.{EndSolved, routeFactor}
+use Rattle.sheet.specs.Ends.{End, tiersOf, lashesOf}
 use Rattle.statics.specs.Posts.{athwartOf, moment, weightAbove, verticals, inCompression, inTension, onLee, onWindward, lee, windward, compression, tension, greater, lower, atMost}
 use Rattle.statics.specs.inner.WholeNumbers.{Blank}
 use Rattle.statics.specs.Reported.{forceOf, EndReported, Fitting, EndFigured}
-use Rattle.statics.specs.inner.Limits.{TierFacts, Facts}
-use Rattle.statics.proofs.EndChain.{percent-most, tier-facts, end-each, endTiers, endLashes, end-length, end-stiff, share-is, factor-is}
+use Rattle.sheet.specs.inner.Limits.{TierLimits, SheetLimits}
+use Rattle.statics.proofs.EndChain.{percent-most, tier-limits, end-each, endTiers, endLashes, end-length, end-stiff, share-is, factor-is}
 use Rattle.statics.proofs.OneSolution.{solutionOf, exists, leeward}
 use Rattle.statics.proofs.Within.{UpTo, Within, up-none, up-more, within-up, within-less, within-neg, within-sum, within-more, within-same, within-over, within-choice, reported-below}
 use Rattle.statics.proofs.LoadBounds.{each-drop, weight-up, tier-up, turning-up}
 use Rattle.statics.proofs.LashBounds.{part-up, all-least, one-part, from-part, all-from, pull-part, vertical-part, verticals-part, arms-part, keeps-lee, keeps-windward}
 
-module _ (e : End) {t : Sheet} (f : Facts t) where
+module _ (e : End) {t : Sheet} (f : SheetLimits t) where
   few : length (tiersOf t) ≤ 10
   few = omega (arith, f .tiers, f .few)
 
@@ -45,7 +46,7 @@ module _ (e : End) {t : Sheet} (f : Facts t) where
   load-up : (i : ℕ) → UpTo 2440000 (S.tierAt (endTiers e t) i .Q)
   load-up i =
       up-more (omega (arith, few))
-      (tier-up classShare (routeFactor t) 9 (10 * routePercent (t .head .route)) (omega arith) factor-small share-is (factor-is t) e (tiersOf t) (tier-facts f) i)
+      (tier-up classShare (routeFactor t) 9 (10 * routePercent (t .head .route)) (omega arith) factor-small share-is (factor-is t) e (tiersOf t) (tier-limits f) i)
 
   module _ {Ds : List Frac} (s : EndSolved e t Ds) where
     lee-q : (i : ℕ) → natℚ 0 ≤ℚ mk (S.shift Ds i)
@@ -93,13 +94,13 @@ module _ (e : End) {t : Sheet} (f : Facts t) where
     unfolding moment
     moment-within i =
         within-less
-        (turning-up classShare (routeFactor t) 9 (10 * routePercent (t .head .route)) (omega arith) factor-small share-is (factor-is t) (drop i (tiersOf t)) (each-drop (tiersOf t) (tier-facts f) i) (omega (arith, few, length-drop i (tiersOf t))))
-        (part-up parts-up (arms-part (t .ntiers) Ds lee-q (tiersOf t) (tier-facts f) few i (lashesOf e t) (end-each e f)))
+        (turning-up classShare (routeFactor t) 9 (10 * routePercent (t .head .route)) (omega arith) factor-small share-is (factor-is t) (drop i (tiersOf t)) (each-drop (tiersOf t) (tier-limits f) i) (omega (arith, few, length-drop i (tiersOf t))))
+        (part-up parts-up (arms-part (t .ntiers) Ds lee-q (tiersOf t) (tier-limits f) few i (lashesOf e t) (end-each e f)))
 
     -- the two sums at a level, and the greater or lower of them
-    module _ (acceleration : Tier → ℕ) (limit : (u : Tier) → TierFacts u → acceleration u ≤ 3000) (counts : ℕ → Lash → Bool) (i : ℕ) where
+    module _ (acceleration : Tier → ℕ) (limit : (u : Tier) → TierLimits u → acceleration u ≤ 3000) (counts : ℕ → Lash → Bool) (i : ℕ) where
       weight-within : Within 2300000 (weightAbove acceleration (tiersOf t) i /q nat 2)
-      weight-within = within-over 2 (omega arith) (within-up (weight-up acceleration limit (tiersOf t) (tier-facts f) few i))
+      weight-within = within-over 2 (omega arith) (within-up (weight-up acceleration limit (tiersOf t) (tier-limits f) few i))
 
       turned-within : Within 31300000 (moment classShare (routeFactor t) (tiersOf t) (lashesOf e t) Ds i /q nat 2259)
       turned-within = within-over 2259 (omega arith) (within-more (omega arith) (moment-within i))
@@ -159,7 +160,7 @@ module _ (e : End) {t : Sheet} (f : Facts t) where
             at (no h) = omega (arith, behind (omega arith))
 
 -- the figures of an end, from what they report at every solution: there is one
-pub figured : (e : End) {t : Sheet} (f : Facts t) {m : ℕ} {g : EndFigures} →
+pub figured : (e : End) {t : Sheet} (f : SheetLimits t) {m : ℕ} {g : EndFigures} →
     m ≤ 100 →
     ((Ds : List Frac) → EndSolved e t Ds → EndReported m e t Ds g) →
     Blank e t g →

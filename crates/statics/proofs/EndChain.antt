@@ -22,27 +22,28 @@ use Rattle.sheet.specs.declared.Sheet.{Sheet}
 use Rattle.sheet.specs.Routes.{routePercent}
 use Rattle.sheet.proofs.Routes.{percent-range}
 use Rattle.statics.specs.Loads.{classShare}
-use Rattle.statics.specs.Ends.{End, door, closed, springOf, tiersOf, lashesOf, chainTiers, chainLash, chainLashes, routeFactor}
+use Rattle.statics.specs.Ends.{springOf, chainTiers, chainLash, chainLashes, routeFactor}
+use Rattle.sheet.specs.Ends.{End, door, closed, tiersOf, lashesOf}
 use Rattle.statics.specs.inner.WholeNumbers.{levelLoad}
-use Rattle.statics.specs.inner.Limits.{TierFacts, Facts}
+use Rattle.sheet.specs.inner.Limits.{TierLimits, SheetLimits}
 use Rattle.statics.proofs.LashStiffness.{stiffness-above}
 use Rattle.statics.proofs.EachLash.{Each, each-first, each-rest}
 use Rattle.statics.proofs.LevelLoads.{load-rounded}
 
 -- the route factor's percent is at most 100
-pub percent-most : {t : Sheet} → Facts t → routePercent (t .head .route) ≤ 100
+pub percent-most : {t : Sheet} → SheetLimits t → routePercent (t .head .route) ≤ 100
 percent-most {t} f = percent-range (t .head .route) (omega (arith, f .route)) .1
 
--- the facts of the tier over a level, also where there is none
-pub tier-facts : {t : Sheet} → Facts t → (i : ℕ) → TierFacts (getD (tiersOf t) i blankTier)
-tier-facts {t} f i = go (decLt i (t .ntiers))
+-- the limits of the tier over a level, also where there is none
+pub tier-limits : {t : Sheet} → SheetLimits t → (i : ℕ) → TierLimits (getD (tiersOf t) i blankTier)
+tier-limits {t} f i = go (decLt i (t .ntiers))
   where
-    none : TierFacts blankTier
+    none : TierLimits blankTier
     none = omega arith
 
-    go : Dec (i < t .ntiers) → TierFacts (getD (tiersOf t) i blankTier)
+    go : Dec (i < t .ntiers) → TierLimits (getD (tiersOf t) i blankTier)
     go (yes h) = f .each i h
-    go (no h) = subst TierFacts (sym (List·getD-eq-default (tiersOf t) blankTier (omega (arith, f .tiers)))) none
+    go (no h) = subst TierLimits (sym (List·getD-eq-default (tiersOf t) blankTier (omega (arith, f .tiers)))) none
 
 -- the chain's tiers and lashes, entry by entry
 module _ (e : End) (share factor : Frac) where
@@ -82,7 +83,7 @@ spring-above : (e : End) → nat 0 ⊏ nat (springOf e)
 spring-above door = record { cross = record { lt = tt } }
 spring-above closed = record { cross = record { lt = tt } }
 
-pub end-each : (e : End) {t : Sheet} → Facts t → Each (t .ntiers) (lashesOf e t)
+pub end-each : (e : End) {t : Sheet} → SheetLimits t → Each (t .ntiers) (lashesOf e t)
 end-each e f = record { at = f .ends e .each }
 
 -- the exact chain of an end
@@ -93,7 +94,7 @@ module _ (e : End) (t : Sheet) where
   abbrev pub endLashes : List S.Lash
   endLashes = chainLashes (lashesOf e t)
 
-  module _ (f : Facts t) where
+  module _ (f : SheetLimits t) where
     pub end-length : length endTiers ≡ t .ntiers
     end-length = chain-length e classShare (routeFactor t) (tiersOf t) ∙ f .tiers
 

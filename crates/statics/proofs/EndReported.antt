@@ -26,11 +26,12 @@ use Rattle.sheet.specs.declared.Sheet.{Sheet}
 use Rattle.statics.specs.declared.EndFigures.{EndFigures}
 use Rattle.statics.specs.Loads.{classShare}
 use Rattle.statics.specs.Lashes.{pull, athwartPart, verticalPart}
-use Rattle.statics.specs.Ends.{End, springOf, tiersOf, lashesOf, routeFactor, EndSolved}
+use Rattle.statics.specs.Ends.{springOf, routeFactor, EndSolved}
+use Rattle.sheet.specs.Ends.{End, tiersOf, lashesOf}
 use Rattle.statics.specs.Posts.{weightAbove, moment, verticals, onLee, onWindward, inCompression, inTension, lee, windward, compression, tension}
 use Rattle.statics.specs.Reported.{Reported, EndReported}
 use Rattle.statics.specs.inner.WholeNumbers.{rackingPart, halfWeight, momentPart, upwards, leePart, windwardPart, leeFound, windwardFound, compressionFigure, tensionFigure, pullFigure, athwartFigure, verticalFigure, Computed}
-use Rattle.statics.specs.inner.Limits.{Facts}
+use Rattle.sheet.specs.inner.Limits.{SheetLimits}
 use Rattle.statics.proofs.Errors.{Off}
 use Rattle.statics.proofs.EndChain.{end-each, endTiers, endLashes, end-spring}
 use Rattle.statics.proofs.Scales.{newtons}
@@ -89,7 +90,7 @@ unfolding _*ℚ_ recipℚ int
 force-bound = refl
 
 module _
-    (e : End) (t : Sheet) (d : List ℕ) (Ds : List Frac) (facts : Facts t) (settled : EndSolved e t Ds) (near : Close e t d Ds) where
+    (e : End) (t : Sheet) (d : List ℕ) (Ds : List Frac) (limits : SheetLimits t) (settled : EndSolved e t Ds) (near : Close e t d Ds) where
   abbrev ts : List Tier
   ts = tiersOf t
 
@@ -106,7 +107,7 @@ module _
   momentFound i = momentPart (springOf e) d (drop i ts) i
 
   each : Each (t .ntiers) ls
-  each = end-each e facts
+  each = end-each e limits
 
   shift-errors-small : shiftErrors d Ds ls ≤ℚ shiftErrorBound
   shift-errors-small =
@@ -116,7 +117,7 @@ module _
   racking-near i h =
       let K = S.tierAt (endTiers e t) i .K in
       let x = found d (suc i) -q found d i in
-      let spring = ap mk (end-spring e t facts i h) ∙ mk-int (pos (springOf e)) in
+      let spring = ap mk (end-spring e t limits i h) ∙ mk-int (pos (springOf e)) in
       let force = mk-mul K x ∙ ap₂ _*ℚ_ spring (mk-sub (found d (suc i)) (found d i)) in
       let error = mk-abs (K *q x -q R i) ∙ ap absℚ (mk-sub (K *q x) (R i) ∙ ap (λ y. y -ℚ mk (R i)) force) in
       racking-off (springOf e) d i (mk (R i))
@@ -125,10 +126,10 @@ module _
   -- level i
   module _ (i : ℕ) (h : i ≤ t .ntiers) where
     inside : (j : ℕ) → j < length (drop i ts) → i + j < t .ntiers
-    inside j l = omega (arith, facts .tiers, rw length-drop at l)
+    inside j l = omega (arith, limits .tiers, rw length-drop at l)
 
     few-above : length (drop i ts) ≤ 10
-    few-above = rw length-drop (omega (arith, facts .tiers, facts .few))
+    few-above = rw length-drop (omega (arith, limits .tiers, limits .few))
 
     turned : Off (natℚ (length (drop i ts)) *ℚ tierError) (newtons (momentFound i)) (mk (M i))
     turned =
@@ -136,7 +137,7 @@ module _
         (moment-off (springOf e) d R (drop i ts) i low (λ j k e l. racking-near k (omega (arith, inside j l))))
       where
         low : (j : ℕ) → j < length (drop i ts) → getD (drop i ts) j blankTier .height ≤ 2896
-        low j l = rw (getD-drop i ts j blankTier) (facts .each (i + j) (inside j l) .height)
+        low j l = rw (getD-drop i ts j blankTier) (limits .each (i + j) (inside j l) .height)
 
     -- its two sums, with either acceleration and the lashes that count
     module _ (acceleration : Tier → ℕ) (counts : ℕ → Lash → Bool) where
@@ -151,7 +152,7 @@ module _
           lee-off (length (drop i ts)) half (upwards leePart (counts i) d ls) (momentFound i)
           (weightAbove acceleration ts i) (M i) (verticals onLee (counts i) ls Ds)
           few-above (weight-off acceleration ts i) turned
-          (verticals-off d Ds (near .far) lee-post (counts i) ls each (facts .ends e .few) shift-errors-small)
+          (verticals-off d Ds (near .far) lee-post (counts i) ls each (limits .ends e .few) shift-errors-small)
 
       windward-near :
           Off postError
@@ -161,7 +162,7 @@ module _
           windward-off (length (drop i ts)) half (upwards windwardPart (counts i) d ls) (momentFound i)
           (weightAbove acceleration ts i) (M i) (verticals onWindward (counts i) ls Ds)
           few-above (weight-off acceleration ts i) turned
-          (verticals-off d Ds (near .far) windward-post (counts i) ls each (facts .ends e .few) shift-errors-small)
+          (verticals-off d Ds (near .far) windward-post (counts i) ls each (limits .ends e .few) shift-errors-small)
 
     compressed : Reported 9 (compression classShare (routeFactor t) ts ls Ds i) (compressionFigure (springOf e) ts ls d i)
     unfolding compression compressionFigure

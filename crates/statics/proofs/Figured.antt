@@ -6,10 +6,10 @@ use Rattle.arith.specs.Fractions.{nat, recip, _/q_, _⊑_}
 use Rattle.springs.specs.Promise.{Promised, lashError, rackingError}
 use Rattle.sheet.specs.declared.Sheet.{Sheet}
 use Rattle.statics.specs.declared.EndFigures.{EndFigures}
-use Rattle.statics.specs.Ends.{End}
+use Rattle.sheet.specs.Ends.{End}
 use Rattle.statics.specs.Reported.{EndFigured}
 use Rattle.statics.specs.inner.WholeNumbers.{Blank, Inputs, Computed}
-use Rattle.statics.specs.inner.Limits.{Facts}
+use Rattle.sheet.specs.inner.Limits.{SheetLimits}
 use Rattle.statics.proofs.Inputs.{near}
 use Rattle.statics.proofs.EndReported.{promised-close, reported}
 use Rattle.statics.proofs.Bounds.{figured}
@@ -24,7 +24,7 @@ racking-error = record { cross = record { le = tt } }
 
 module _ {e : End} {t : Sheet} {k κ ω d : List ℕ} {g : EndFigures} where
   pub end-figured :
-      Facts t →
+      SheetLimits t →
       Inputs e t k κ ω →
       Promised (t .ntiers) k κ ω d →
       Computed e t d g →

@@ -12,12 +12,13 @@ use Rattle.springs.proofs.Inputs.{rounded-more}
 use Rattle.sheet.specs.declared.Sheet.{Sheet}
 use Rattle.sheet.specs.Routes.{routePercent}
 use Rattle.statics.specs.Loads.{classShare}
-use Rattle.statics.specs.Ends.{End, door, closed, springOf, tiersOf, lashesOf, chainTiers, chainLashes, routeFactor}
+use Rattle.statics.specs.Ends.{springOf, chainTiers, chainLashes, routeFactor}
+use Rattle.sheet.specs.Ends.{End, door, closed, tiersOf, lashesOf}
 use Rattle.statics.specs.inner.WholeNumbers.{Inputs}
-use Rattle.statics.specs.inner.Limits.{Facts}
+use Rattle.sheet.specs.inner.Limits.{SheetLimits}
 use Rattle.statics.proofs.LevelStiffness.{level-most, level-rounded}
 use Rattle.statics.proofs.LevelLoads.{load-most}
-use Rattle.statics.proofs.EndChain.{percent-most, tier-facts, end-each, end-length, end-spring, end-stiff, end-loaded}
+use Rattle.statics.proofs.EndChain.{percent-most, tier-limits, end-each, end-length, end-spring, end-stiff, end-loaded}
 
 pub spring-least : (e : End) → 3730 ≤ springOf e
 spring-least door = omega arith
@@ -27,7 +28,7 @@ pub spring-most : (e : End) → springOf e ≤ 15690
 spring-most door = omega arith
 spring-most closed = omega arith
 
-module _ {e : End} {t : Sheet} {k κ ω : List ℕ} (f : Facts t) (h : Inputs e t k κ ω) where
+module _ {e : End} {t : Sheet} {k κ ω : List ℕ} (f : SheetLimits t) (h : Inputs e t k κ ω) where
   held-most : (i : ℕ) → i < t .ntiers → getD κ i 0 ≤ mostHeld
   held-most i l =
       rw (h .held i l)
@@ -36,7 +37,7 @@ module _ {e : End} {t : Sheet} {k κ ω : List ℕ} (f : Facts t) (h : Inputs e 
   loaded-most : (i : ℕ) → i < t .ntiers → getD ω i 0 ≤ mostLoaded
   loaded-most i l =
       rw (h .loaded i l)
-      (load-most 9 (10 * routePercent (t .head .route)) (getD (tiersOf t) i blankTier) (getD (tiersOf t) (suc i) blankTier) (omega arith) (omega (arith, percent-most f)) (tier-facts f i) (tier-facts f (suc i)))
+      (load-most 9 (10 * routePercent (t .head .route)) (getD (tiersOf t) i blankTier) (getD (tiersOf t) (suc i) blankTier) (omega arith) (omega (arith, percent-most f)) (tier-limits f i) (tier-limits f (suc i)))
 
   pub solvable : Solvable (t .ntiers) k κ ω
   solvable =

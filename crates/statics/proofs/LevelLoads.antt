@@ -21,9 +21,10 @@ use Rattle.springs.proofs.Chain.{natℚ}
 use Rattle.springs.proofs.Inputs.{rounded-quotient, rounded-same}
 use Rattle.sheet.specs.declared.Tier.{Tier}
 use Rattle.statics.specs.Loads.{half, thousandths, weight, transverse, boxLength, wind, load}
-use Rattle.statics.specs.Ends.{End, chainTiers}
+use Rattle.statics.specs.Ends.{chainTiers}
+use Rattle.sheet.specs.Ends.{End}
 use Rattle.statics.specs.inner.WholeNumbers.{push, gust, levelLoad}
-use Rattle.statics.specs.inner.Limits.{TierFacts}
+use Rattle.sheet.specs.inner.Limits.{TierLimits}
 use Rattle.statics.proofs.WholeNumbers.{nat-times, nat-plus, times-q, quotient-is}
 
 -- F of a tier is the factor × 981 × mass × A_T / 200,000, and P 27 × length × height / 50,000
@@ -197,11 +198,11 @@ module _ (share factor : Frac) (s f : ℕ) (s20 : s ≤ 20) (share-is : nat 20 *
       rounded-same (2 ^ 28) 1 (levelLoad s f t u) _ Q (quotient-is 4000000000 _ Q (omega arith) (exact ∙ ap natℚ (omega arith))) (rounded-quotient _ (2 ^ 28) 4000000000 (omega arith))
 
 -- pushes and gusts of a tier within its limits
-pub push-most : {t : Tier} → TierFacts t → push t ≤ 45720000
+pub push-most : {t : Tier} → TierLimits t → push t ≤ 45720000
 unfolding push
 push-most tf = mul-le-mul (tf .mass) (tf .aT)
 
-pub gust-most : {t : Tier} → TierFacts t → gust t ≤ 953316864
+pub gust-most : {t : Tier} → TierLimits t → gust t ≤ 953316864
 unfolding gust boxLength
 gust-most {t} tf = exposed (eqb (t .wind) 1) (eqb (t .size) 20) (t .height) (tf .height)
   where
@@ -210,7 +211,7 @@ gust-most {t} tf = exposed (eqb (t .wind) 1) (eqb (t .size) 20) (t .height) (tf 
     exposed true false h l = omega arith
     exposed true true h l = omega arith
 
-pub load-most : (s f : ℕ) (t u : Tier) → s ≤ 20 → f ≤ 1000 → TierFacts t → TierFacts u → levelLoad s f t u ≤ 2 ^ 46
+pub load-most : (s f : ℕ) (t u : Tier) → s ≤ 20 → f ≤ 1000 → TierLimits t → TierLimits u → levelLoad s f t u ≤ 2 ^ 46
 unfolding levelLoad
 load-most s f t u s20 f1 tf uf =
     let shares : s * push t + (20 - s) * push u ≤ 914400000 = omega (arith, mul-le-mul-left s (push-most tf), mul-le-mul-left (20 - s) (push-most uf)) in

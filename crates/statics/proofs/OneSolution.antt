@@ -6,15 +6,16 @@ use Rattle.springs.specs.Equations as S
 use Rattle.springs.proofs.OneSolution as O
 use Rattle.springs.proofs.Growth.{windward}
 use Rattle.sheet.specs.declared.Sheet.{Sheet}
-use Rattle.statics.specs.Ends.{End, EndSolved}
-use Rattle.statics.specs.inner.Limits.{Facts}
+use Rattle.statics.specs.Ends.{EndSolved}
+use Rattle.sheet.specs.Ends.{End}
+use Rattle.sheet.specs.inner.Limits.{SheetLimits}
 use Rattle.statics.proofs.EndChain.{endTiers, endLashes, end-stiff, end-pushed}
 
 -- the shifts of the levels of an end, by elimination
 abbrev pub solutionOf : End → Sheet → List Frac
 solutionOf e t = O.solution (endTiers e t) (endLashes e t)
 
-module _ (e : End) {t : Sheet} (f : Facts t) where
+module _ (e : End) {t : Sheet} (f : SheetLimits t) where
   pub exists : EndSolved e t (solutionOf e t)
   exists = record { solves = O.exists (endTiers e t) (endLashes e t) (end-stiff e t f) }
 

@@ -13,7 +13,8 @@ use Rattle.sheet.specs.Layout.{blankLash}
 use Rattle.statics.specs.declared.EndFigures.{EndFigures}
 use Rattle.statics.specs.Loads.{classShare}
 use Rattle.statics.specs.Lashes.{pull, athwartPart, verticalPart}
-use Rattle.statics.specs.Ends.{End, tiersOf, lashesOf, chainTiers, routeFactor, EndSolved}
+use Rattle.statics.specs.Ends.{chainTiers, routeFactor, EndSolved}
+use Rattle.sheet.specs.Ends.{End, tiersOf, lashesOf}
 use Rattle.statics.specs.Posts.{compression, tension}
 
 -- at least the exact force in size, and less than `margin` N above it

@@ -1,2 +1,1 @@
 pub mod WholeNumbers
-pub mod Limits

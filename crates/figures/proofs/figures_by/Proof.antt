@@ -1,8 +1,8 @@
 -- `figures::figures_by`: the figures of both ends, from loads and weights that they share (EndLaws).
 use borrow.Author.Needs.{needs}
 use mathlib.Core.Path.{refl}
-use Rattle.statics.specs.Ends.{door, closed}
-use Rattle.statics.proofs.Taken.{facts}
+use Rattle.sheet.specs.Ends.{door, closed}
+use Rattle.sheet.proofs.SheetLimits.{sheet-limits}
 use Rattle.figures.proofs.EndLaws.{spring-at, workable, worked}
 use Rattle.figures.proofs.figures_by.Statement.{statement}
 use Rattle.figures.proofs.figures_by.Tie as tie
@@ -26,7 +26,7 @@ slice-aggregate-loads-of-3 c = search needs
 loads-of-requires : tie.Need-loads-of-requires
 loads-of-requires c κs =
     let p = c .before .before .before .before .before .before .pre in
-    ((p .0 .few, p .1, p .2), (facts (p .0) .each, (refl, refl, refl)))
+    ((p .0 .few, p .1, p .2), (sheet-limits (p .0) .each, (refl, refl, refl)))
 
 slice-aggregate-end-figures : tie.Need-slice-aggregate-end-figures
 slice-aggregate-end-figures c = search needs
@@ -46,7 +46,7 @@ end-figures-requires c κs =
     let p = entered l .pre .0 in
     let e = l .loads-of .ensures in
     let long = l .loads-of .kept .1 .1 .1 .1 in
-    (workable (facts p) door _ _ _ _ _ _ (p .door .few) (e .0) (e .1), (refl, long .0, long .1 .0, long .1 .1 .0))
+    (workable (sheet-limits p) door _ _ _ _ _ _ (p .door .few) (e .0) (e .1), (refl, long .0, long .1 .0, long .1 .1 .0))
 
 slice-aggregate-end-figures-5 : tie.Need-slice-aggregate-end-figures-5
 slice-aggregate-end-figures-5 c = search needs
@@ -66,14 +66,14 @@ end-figures-requires-2 c κs =
     let p = entered l .pre .0 in
     let e = l .loads-of .ensures in
     let long = l .loads-of .kept .1 .1 .1 .1 in
-    (workable (facts p) closed _ _ _ _ _ _ (p .closed .few) (e .0) (e .1), (refl, long .0, long .1 .0, long .1 .1 .0))
+    (workable (sheet-limits p) closed _ _ _ _ _ _ (p .closed .few) (e .0) (e .1), (refl, long .0, long .1 .0, long .1 .1 .0))
 
 returns : tie.Need-returns
 returns c =
     let d = c .before .before .before .before .before in
     let l = loaded d in
     let b = entered l in
-    let h = facts (b .pre .0) in
+    let h = sheet-limits (b .pre .0) in
     let e = l .loads-of .ensures .0 in (
       worked door (b .args .s) (h .tiers) (spring-at h door) e (d .end-figures .ensures),
       worked closed (b .args .s) (h .tiers) (spring-at h closed) e (c .end-figures2 .ensures),

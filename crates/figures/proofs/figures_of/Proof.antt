@@ -1,5 +1,5 @@
 use Rattle.figures.proofs.EndLaws.{reports}
-use Rattle.statics.proofs.Taken.{facts}
+use Rattle.sheet.proofs.SheetLimits.{sheet-limits}
 use borrow.Author.Needs.{needs}
 use Rattle.figures.proofs.figures_of.Statement.{statement}
 use Rattle.figures.proofs.figures_of.Tie as tie
@@ -15,7 +15,7 @@ figures-by-requires c κs = search needs
 
 returns : tie.Need-returns
 returns c =
-    let h = facts (c .before .before .pre) in
+    let h = sheet-limits (c .before .before .pre) in
     let w = simp (c .before .route-percent .ensures .0) at (c .figures-by .ensures) in
     (reports h (w .0), reports h (w .1))
 

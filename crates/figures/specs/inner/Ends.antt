@@ -11,9 +11,9 @@ use Rattle.sheet.specs.declared.Lash.{Lash}
 use Rattle.sheet.specs.declared.Sheet.{Sheet}
 use Rattle.springs.specs.Promise.{Promised}
 use Rattle.statics.specs.declared.EndFigures.{EndFigures}
-use Rattle.statics.specs.Ends.{End, lashesOf}
+use Rattle.sheet.specs.Ends.{End, lashesOf}
 use Rattle.statics.specs.Posts.{inCompression, inTension}
-use Rattle.statics.specs.inner.Limits.{LashFacts}
+use Rattle.sheet.specs.inner.Limits.{LashLimits}
 use Rattle.statics.specs.inner.WholeNumbers.{Filled, levelLoad, halfWeight, levelStiffness, pullFigure, athwartFigure, verticalFigure, upwards, leePart, windwardPart, rackingPart, rackingFigure, InputsBy, Computed, Blank}
 use Rattle.figures_levels.specs.inner.Levels.{momentOf, compressed, tensed}
 
@@ -35,7 +35,7 @@ pub record Workable (n : ℕ) (k : List ℕ) (ts : List Tier) (m : ℕ) (ls : Li
   pub springs : (i : ℕ) → i < n → (3730 ≤ getD k i 0) × (getD k i 0 ≤ 15690)
   pub heights : (i : ℕ) → i < n → getD ts i blankTier .height ≤ 2896
   pub few-lashes : m ≤ 8
-  pub each : (j : ℕ) → j < length ls → LashFacts n (getD ls j blankLash)
+  pub each : (j : ℕ) → j < length ls → LashLimits n (getD ls j blankLash)
   pub at-level : (i : ℕ) → atLevel i ls ≤ 4
   pub loaded : (i : ℕ) → i < n → getD ω i 0 ≤ 2 ^ 46
   pub weighed : Weighed ts most least

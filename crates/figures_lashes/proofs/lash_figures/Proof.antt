@@ -5,7 +5,7 @@ use native.Mathlib.Numerals.{add-one}
 use native.Mathlib.Omega.{arith}
 use lib.ListN.{getD, take}
 use lib.Seq.{getD-take}
-use Rattle.statics.specs.inner.Limits.{LashFacts}
+use Rattle.sheet.specs.inner.Limits.{LashLimits}
 use Rattle.statics.specs.inner.WholeNumbers.{leePart, windwardPart}
 use Rattle.sheet.specs.Layout.{blankLash}
 use Rattle.figures_lashes.proofs.LashLoops.{Listed, listed, Strained, strained-none, post-fits, strained-more, strained-all, lee-kept, windward-kept}
@@ -35,8 +35,8 @@ own c =
     let a = start (c .before) .args in
     getD-take (a .m) (a .t1) (c .before .loop .j) blankLash (c .loop-test .taken)
 
-lash-facts : (c : tie.In-loop Inv-loop μ-loop) → LashFacts 10 (getD (start (c .before) .args .t1) (c .before .loop .j) blankLash)
-lash-facts c = rw (own c) at (start (c .before) .pre .0 .1 (c .before .loop .j) (c .loop-test .taken))
+lash-limits : (c : tie.In-loop Inv-loop μ-loop) → LashLimits 10 (getD (start (c .before) .args .t1) (c .before .loop .j) blankLash)
+lash-limits c = rw (own c) at (start (c .before) .pre .0 .1 (c .before .loop .j) (c .loop-test .taken))
 
 loop-holds : tie.Need-loop-holds Inv-loop μ-loop
 loop-holds c = strained-none
@@ -48,7 +48,7 @@ array-copy-out-l : tie.Need-array-copy-out-l Inv-loop μ-loop
 array-copy-out-l c = search needs
 
 hook-level-requires : tie.Need-hook-level-requires Inv-loop μ-loop
-hook-level-requires c κs = lash-facts (c .before)
+hook-level-requires c κs = lash-limits (c .before)
 
 mul-pull-of : tie.Need-mul-pull-of Inv-loop μ-loop
 mul-pull-of c = search needs
@@ -75,7 +75,7 @@ pull-of-requires c κs =
     let b = start (t .before) in
     let j = t .before .loop .j in
     let g = b .pre .1 .0 .0 in (
-      lash-facts t,
+      lash-limits t,
       rw (own t) at (g .long j (t .loop-test .taken)),
       rw (own t) at (g .stiff j (t .loop-test .taken)),
       b .pre .1 .0 .1 (k .hook-level .result),

@@ -20,7 +20,8 @@ use Rattle.sheet.specs.Routes.{routePercent}
 use Rattle.statics.specs.declared.EndFigures.{EndFigures}
 use Rattle.statics.specs.Loads.{boxLength}
 use Rattle.statics.specs.Lashes.{lashLength}
-use Rattle.statics.specs.Ends.{End, springOf, tiersOf, lashesOf}
+use Rattle.statics.specs.Ends.{springOf}
+use Rattle.sheet.specs.Ends.{End, tiersOf, lashesOf}
 use Rattle.statics.specs.Posts.{inCompression, inTension}
 
 -- the first n entries of a list are P, and those behind them blank

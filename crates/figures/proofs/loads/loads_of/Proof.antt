@@ -5,7 +5,7 @@ use lib.Seq.{getD-take, length-take-le}
 use Prim.Native.Nat.{_-_}
 use native.Mathlib.Omega.{arith}
 use Rattle.sheet.specs.Layout.{blankTier}
-use Rattle.statics.specs.inner.Limits.{TierFacts}
+use Rattle.sheet.specs.inner.Limits.{TierLimits}
 use borrow.Author.Needs.{needs}
 use Rattle.figures.proofs.LoadLaws.{Pushed, pushed-none, pushed-more, Carried, carried-none, carried-more, carried-all}
 use Rattle.figures.proofs.loads.loads_of.Statement.{statement}
@@ -37,8 +37,8 @@ own c =
     let l = c .before .loop in
     getD-take (a .n) (a .t2) (l .i - 1) blankTier (omega (arith, c .loop-test .taken, l .inv .0 .within))
 
-facts : (c : tie.In-loop Inv-loop μ-loop) → TierFacts (getD (start (c .before) .args .t2) (c .before .loop .i - 1) blankTier)
-facts c =
+limits : (c : tie.In-loop Inv-loop μ-loop) → TierLimits (getD (start (c .before) .args .t2) (c .before .loop .i - 1) blankTier)
+limits c =
     let l = c .before .loop in
     rw (own c) at (start (c .before) .pre .1 .0 (l .i - 1) (omega (arith, c .loop-test .taken, l .inv .0 .within)))
 
@@ -58,7 +58,7 @@ array-copy-out-t : tie.Need-array-copy-out-t Inv-loop μ-loop
 array-copy-out-t c = search needs
 
 thrust-of-requires : tie.Need-thrust-of-requires Inv-loop μ-loop
-thrust-of-requires c κs = facts (c .before)
+thrust-of-requires c κs = limits (c .before)
 
 level-load-requires : tie.Need-level-load-requires Inv-loop μ-loop
 level-load-requires c κs =
@@ -75,7 +75,7 @@ slice-write-loads c = search needs
 
 lift-requires : tie.Need-lift-requires Inv-loop μ-loop
 lift-requires c κs =
-    let f = facts (c .before .before .before) in
+    let f = limits (c .before .before .before) in
     (f .mass, f .aVmax)
 
 add-most-lifted : tie.Need-add-most-lifted Inv-loop μ-loop
@@ -83,7 +83,7 @@ add-most-lifted c = search needs
 
 lift-requires-2 : tie.Need-lift-requires-2 Inv-loop μ-loop
 lift-requires-2 c κs =
-    let f = facts (c .before .before .before .before) in
+    let f = limits (c .before .before .before .before) in
     (f .mass, omega (arith, f .aVmin))
 
 add-least-lifted : tie.Need-add-least-lifted Inv-loop μ-loop
