@@ -34,7 +34,7 @@ fn gust_of(t: Tier) -> u64
     requires { ⌜ TierLimits t ⌝ }
     ensures { λ r. ⌜ (r ≡ gust t) × (r ≤ 27 * 12192 * 2896) ⌝ }
 {
-    if t.wind == 1 {
+    if sheet::exposed(t) {
         return 27 * box_length(t) * (t.height as u64);
     }
     0

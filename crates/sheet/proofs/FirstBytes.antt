@@ -16,7 +16,10 @@ use Rattle.sheet.specs.declared.Reading.the-variants.{Taken, Refused}
 use Rattle.sheet.specs.declared.Sheet.{Sheet}
 use Rattle.sheet.specs.Layout.{headOf, tierOf, lashOf, tierCount, tierPlace, lashPlace, doorPlace, closedPlace, sparePlace, sheetOf}
 use Rattle.arith.specs.Lists.{from, below}
-use Rattle.sheet.specs.Refusals.{Row, row1, row2, row3, row4, row5, row6, row7, row8, row9, row10, row11, row12, row13, notLater, first, headRows, tierCountRows, tierRows, tiersRows, lashCountRows, lashRows, endRows, doorRows, closedRows, sheetRows, unlessRefused, decoded, refusalOf, longestAnswer, refusal}
+use Rattle.sheet.specs.Refusals.{Row, row1, row2, row3, row4, row5, row6, row7, row8, row9, row10, row11, row12, row13, notLater}
+use Rattle.sheet.specs.Refusals.{first, headRows, tierCountRows, tierRows, tiersRows, lashCountRows, lashRows, endRows, doorRows}
+use Rattle.sheet.specs.Refusals.{closedRows, sheetRows, unlessRefused, decoded, refusalOf, longestAnswer, refusal}
+use Rattle.sheet.specs.Theorems.{FirstBytesDecide}
 use Rattle.sheet.proofs.Items.{count-fits}
 use Rattle.sheet.proofs.Rows.{orElse, first-append}
 use Rattle.sheet.proofs.Clear.{clear, few-tiers, few-lashes}
@@ -212,7 +215,7 @@ module _ (s t : List ℕ) (ls : 452 ≤ length s) (lt : 452 ≤ length t) (same 
   unfolding decoded
   long-alike = same-decoded (first (sheetRows s)) (first (sheetRows t)) (sheetOf s) (sheetOf t) sheets-alike
 
-pub first-452 : (s : List ℕ) → decoded (take 452 s) ≡ decoded s
+pub first-452 : FirstBytesDecide
 first-452 s = go (ltb (length s) 452) refl
   where
     go : (b : Bool) → ltb (length s) 452 ≡ b → decoded (take 452 s) ≡ decoded s

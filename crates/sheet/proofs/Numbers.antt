@@ -11,7 +11,8 @@ use Rattle.sheet.specs.declared.Reading.the-variants.{Taken, Refused}
 use Rattle.sheet.specs.Layout.{tierCount, tierPlace, lashPlace, doorPlace, closedPlace}
 use Rattle.arith.specs.Bytes.{byteAt}
 use Rattle.arith.specs.Lists.{from, below}
-use Rattle.sheet.specs.Refusals.{Row, row1, row13, first, headRows, tierCountRows, tierRows, tiersRows, lashCountRows, lashRows, endRows, doorRows, closedRows, sheetRows, refusalOf, longestAnswer, refusal}
+use Rattle.sheet.specs.Refusals.{Row, row1, row13, first, headRows, tierCountRows, tierRows, tiersRows, lashCountRows, lashRows}
+use Rattle.sheet.specs.Refusals.{endRows, doorRows, closedRows, sheetRows, refusalOf, longestAnswer, refusal}
 use Rattle.sheet.proofs.Rows.{orElse, first-append}
 use Rattle.sheet.proofs.Clear.{clear, not-taken, few-tiers, few-lashes}
 use Rattle.sheet.proofs.Items.{count-fits}
@@ -22,7 +23,11 @@ Within c p Taken = Unit {0}
 Within c p (Refused number second) = (1 ≤ number) × (number ≤ c) × (second ≤ p)
 
 module _ (c p : ℕ) where
-  row-within : (r : Row) (rs : List Row) → (r .holds ≡ true → Within c p (Refused (r .number) (r .second))) → Within c p (first rs) → Within c p (first (r ∷ rs))
+  row-within :
+      (r : Row) (rs : List Row) →
+      (r .holds ≡ true → Within c p (Refused (r .number) (r .second))) →
+      Within c p (first rs) →
+      Within c p (first (r ∷ rs))
   unfolding first
   row-within r rs h k = go (r .holds) refl
     where
@@ -37,7 +42,11 @@ module _ (c p : ℕ) where
       go Taken e w = k e
       go (Refused n m) e w = w
 
-  each-within : (f : ℕ → List Row) (i left n : ℕ) → i + left ≤ n → ((k : ℕ) → k < n → Within c p (first (f k))) → Within c p (first (flatMap f (from i left)))
+  each-within :
+      (f : ℕ → List Row) (i left n : ℕ) →
+      i + left ≤ n →
+      ((k : ℕ) → k < n → Within c p (first (f k))) →
+      Within c p (first (flatMap f (from i left)))
   unfolding first flatMap from
   each-within f i zero n b h = tt
   each-within f i (suc left) n b h =
@@ -112,7 +121,10 @@ module _ (s : List ℕ) where
       plain _ [] (omega arith) (omega arith) (omega arith) none))))
 
 -- of a sheet
-pub sheet-numbers : (s : List ℕ) {number second : ℕ} → first (sheetRows s) ≡ Refused number second → (1 ≤ number) × (number ≤ 12) × (second ≤ 451)
+pub sheet-numbers :
+    (s : List ℕ) {number second : ℕ} →
+    first (sheetRows s) ≡ Refused number second →
+    (1 ≤ number) × (number ≤ 12) × (second ≤ 451)
 sheet-numbers s e = subst (Within 12 451) e (sheet-small s)
 
 wider : {c p : ℕ} → 12 ≤ c → 451 ≤ p → (q : Reading) → Within 12 451 q → Within c p q

@@ -7,17 +7,7 @@ use Rattle.sheet.specs.declared.Sheet.{Sheet}
 use Rattle.sheet.specs.declared.Reading.{Reading}
 use Rattle.sheet.specs.declared.Reading.the-variants.{Taken, Refused}
 use Rattle.sheet.specs.Layout.{sheetOf}
-use Rattle.sheet.specs.Refusals.{
-  Row,
-  first,
-  row13,
-  sheetRows,
-  unlessRefused,
-  decoded,
-  refusalOf,
-  longestAnswer,
-  refusal,
-}
+use Rattle.sheet.specs.Refusals.{Row, first, row13, sheetRows, unlessRefused, decoded, refusalOf, longestAnswer, refusal}
 use Rattle.sheet.proofs.Clear.{not-taken}
 use Rattle.sheet.proofs.Rows.{orElse, first-append, behind-taken, behind-refused}
 

@@ -11,12 +11,15 @@ use lib.Seq.{getD-take}
 use Rattle.sheet.specs.declared.Lash.{Lash}
 use Rattle.sheet.specs.declared.Sheet.{Sheet}
 use Rattle.sheet.specs.declared.Reading.the-variants.{Taken}
-use Rattle.sheet.specs.Layout.{headOf, tierCount, tierPlace, lashPlace, doorPlace, closedPlace, sparePlace, blankTier, blankLash, tiersIn, lashesIn, sheetOf}
+use Rattle.sheet.specs.Layout.{headOf, tierCount, tierPlace, lashPlace, doorPlace, closedPlace, sparePlace, blankTier, blankLash}
+use Rattle.sheet.specs.Layout.{tiersIn, lashesIn, sheetOf}
 use Rattle.arith.specs.Bytes.{byteAt}
 use Rattle.arith.specs.Lists.{below, padded}
-use Rattle.sheet.specs.Refusals.{notLater, first, headRows, tierRows, tierCountRows, tiersRows, lashCountRows, lashRows, endRows, doorRows, closedRows, endsRows, sheetRows, row2, decoded}
+use Rattle.sheet.specs.Refusals.{notLater, first, headRows, tierRows, tierCountRows, tiersRows, lashCountRows, lashRows, endRows}
+use Rattle.sheet.specs.Refusals.{doorRows, closedRows, endsRows, sheetRows, row2, decoded}
 use Rattle.sheet.specs.Fits.{EndFits, Fits, Padded}
 use Rattle.sheet.specs.Written.{headBytes, tierBytes, lashBytes, counted, written}
+use Rattle.sheet.specs.Theorems.{EachWritten}
 use Rattle.arith.proofs.Arrays.{entries-are, full}
 use Rattle.sheet.proofs.Clear.{Clear, clear-taken, clear-join, clear-all}
 use Rattle.sheet.proofs.Limits.{tier-filled, lash-limits, lash-wider, breaking-limits}
@@ -266,6 +269,6 @@ module _ (t : Sheet) (f : Fits t) (p : Padded t) where
       closed-count : byteAt s (closedPlace s) ≡ t .nclosed
       closed-count = rw closed-place (closed-held .count)
 
-pub round-trip : (t : Sheet) → Fits t → Padded t → decoded (written t) ≡ record { reading = Taken; sheet = t }
+pub round-trip : EachWritten
 unfolding decoded
 round-trip t f p = rw (taken t f p, sheet-back t f p)

@@ -10,6 +10,7 @@ use Rattle.sheet.specs.declared.Sheet.{Sheet}
 use Rattle.sheet.specs.Layout.{blankTier, blankLash}
 use Rattle.sheet.specs.Fits.{EndFits, Fits, lashAt}
 use Rattle.sheet.specs.Written.{headBytes, tierBytes, lashBytes, counted, written}
+use Rattle.sheet.specs.Theorems.{WrittenInBytes}
 use Rattle.sheet.specs.inner.Limits.{Box, TierFilled, LashLimits}
 use Rattle.sheet.proofs.Limits.{tier-filled, lash-limits}
 
@@ -52,7 +53,7 @@ end-bytes n lashes c m f = (omega (arith, f .few), each lashBytes blankLash lash
     lash : (k : ℕ) → k < c → Bytes (lashBytes (lashAt lashes k))
     lash k q = lash-bytes (lashAt lashes k) m (lash-limits n (lashAt lashes k) (f .placed k q) (f .fits k q))
 
-pub written-bytes : (t : Sheet) → Fits t → (i : ℕ) → getD (written t) i 0 < 256
+pub written-bytes : WrittenInBytes
 unfolding written
 written-bytes t f =
     let tb = counted tierBytes (t .ntiers) (t .tiers) in

@@ -5,4 +5,5 @@ pub mod Routes
 pub mod Ends
 pub mod Fits
 pub mod Written
+pub mod Theorems
 pub mod inner

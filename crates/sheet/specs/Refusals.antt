@@ -9,7 +9,8 @@ use Rattle.sheet.specs.declared.Sheet.{Sheet}
 use Rattle.sheet.specs.declared.Reading.{Reading}
 use Rattle.sheet.specs.declared.Reading.the-variants.{Taken, Refused}
 use Rattle.sheet.specs.declared.Decoded.{Decoded}
-use Rattle.sheet.specs.Layout.{headOf, tierCount, tierPlace, tierIn, lashPlace, lashIn, doorPlace, closedPlace, sparePlace, _is_, _above_, tierFits, breakingFits, lashFits, sheetOf, blankSheet}
+use Rattle.sheet.specs.Layout.{headOf, tierCount, tierPlace, tierIn, lashPlace, lashIn, doorPlace, closedPlace, sparePlace, _is_}
+use Rattle.sheet.specs.Layout.{_above_, tierFits, breakingFits, lashFits, sheetOf, blankSheet}
 use Rattle.arith.specs.Bytes.{byteAt}
 use Rattle.arith.specs.Lists.{below}
 

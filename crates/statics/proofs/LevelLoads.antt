@@ -8,7 +8,7 @@ use native.Mathlib.Omega.{arith}
 use lib.Dec.{eqb}
 use lib.ListN.{getD}
 use lib.IntN.{pos}
-use Rattle.sheet.specs.Layout.{blankTier}
+use Rattle.sheet.specs.Layout.{blankTier, exposed}
 use Rattle.arith.specs.Fractions.{Frac, nat, _+q_, _*q_, recip, _≈_, sumq}
 use Rattle.arith.proofs.Polynomials.{v, kp, kn, _⊖_, _⊗_, ⊖_}
 use Rattle.arith.proofs.Rings.{∀₂, ∀₄, ∀₅, ∀₁₂, by-ring, by-eqs, times, mul-eq, part, both, _⊹_}
@@ -34,7 +34,7 @@ push-frac t a = record { cross = ap pos (omega arith) }
 
 gust-frac : (t : Tier) → nat 50000 *q wind t ≈ nat (gust t)
 unfolding wind gust recip
-gust-frac t = go (eqb (t .wind) 1)
+gust-frac t = go (exposed t)
   where
     go : (c : Bool) → nat 50000 *q given c (half *q nat 1080 *q thousandths (boxLength t) *q thousandths (t .height)) ≈ nat (cond c (27 * boxLength t * t .height) 0)
     go true = record { cross = ap pos (omega arith) }
@@ -204,12 +204,12 @@ push-most tf = mul-le-mul (tf .mass) (tf .aT)
 
 pub gust-most : {t : Tier} → TierLimits t → gust t ≤ 953316864
 unfolding gust boxLength
-gust-most {t} tf = exposed (eqb (t .wind) 1) (eqb (t .size) 20) (t .height) (tf .height)
+gust-most {t} tf = wind-within (exposed t) (eqb (t .size) 20) (t .height) (tf .height)
   where
-    exposed : (c d : Bool) (h : ℕ) → h ≤ 2896 → cond c (27 * cond d 6058 12192 * h) 0 ≤ 953316864
-    exposed false d h l = omega arith
-    exposed true false h l = omega arith
-    exposed true true h l = omega arith
+    wind-within : (c d : Bool) (h : ℕ) → h ≤ 2896 → cond c (27 * cond d 6058 12192 * h) 0 ≤ 953316864
+    wind-within false d h l = omega arith
+    wind-within true false h l = omega arith
+    wind-within true true h l = omega arith
 
 pub load-most : (s f : ℕ) (t u : Tier) → s ≤ 20 → f ≤ 1000 → TierLimits t → TierLimits u → levelLoad s f t u ≤ 2 ^ 46
 unfolding levelLoad

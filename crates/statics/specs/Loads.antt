@@ -5,6 +5,7 @@ use Prim.Native.Nat.{ℕ, zero, suc, _+_, _*_}
 use lib.Dec.{eqb}
 use Rattle.arith.specs.Fractions.{Frac, nat, _+q_, _*q_, _/q_, sumq}
 use Rattle.springs.specs.Equations.{given}
+use Rattle.sheet.specs.Layout.{exposed}
 use Rattle.sheet.specs.declared.Tier.{Tier}
 
 abbrev pub half : Frac
@@ -31,7 +32,7 @@ boxLength t = cond (eqb (t .size) 20) 6058 12192
 
 -- P = 0.5 × 1,080 N/m² × length × height if exposed, else 0; lengths in mm
 unfoldable pub wind : Tier → Frac
-wind t = given (eqb (t .wind) 1) (half *q nat 1080 *q thousandths (boxLength t) *q thousandths (t .height))
+wind t = given (exposed t) (half *q nat 1080 *q thousandths (boxLength t) *q thousandths (t .height))
 
 -- the share of F that a tier's own top takes, and the height of its centre as a share of the box's: 0.45 by the class rule
 abbrev pub classShare : Frac

@@ -8,7 +8,7 @@ use lib.Dec.{eqb}
 use lib.ListN.{drop, getD, length}
 use lib.IntN.{ℤ, pos, negsuc, negℤ, _+ℤ_, _-ℤ_, _*ℤ_}
 use lib.Signed.{quotZ}
-use Rattle.sheet.specs.Layout.{blankTier, blankLash}
+use Rattle.sheet.specs.Layout.{blankTier, blankLash, exposed}
 use Rattle.arith.specs.Rounding.{roundedUp}
 use Rattle.sheet.specs.declared.Tier.{Tier}
 use Rattle.sheet.specs.declared.Lash.{Lash}
@@ -34,7 +34,7 @@ unfoldable pub push : Tier → ℕ
 push t = t .mass * t .aT
 
 unfoldable pub gust : Tier → ℕ
-gust t = cond (eqb (t .wind) 1) (27 * boxLength t * t .height) 0
+gust t = cond (exposed t) (27 * boxLength t * t .height) 0
 
 -- the load on the level between a tier and the tier over it: share in twentieths, factor in thousandths, all over 4,000,000,000
 unfoldable pub levelLoad : ℕ → ℕ → Tier → Tier → ℕ
