@@ -7,7 +7,7 @@ use native.Mathlib.Decide.{ℕ-discrete, decLe}
 use lib.ListN.{getD, length, set, replicate, length-set}
 use lib.Seq.{getD-set-same, getD-set-other}
 use Rattle.springs.specs.Promise.{farthest, Solvable}
-use Rattle.springs.specs.inner.Elimination.{stiffnessDown, loadDown, shiftUp, solved, InRange, mostLoad, HandedDown}
+use Rattle.springs.specs.inner.Elimination.{stiffnessDown, loadDown, shiftUp, solved, InRange, mostLoadTogether, HandedDown}
 use Rattle.springs.proofs.Recursion as R
 use Rattle.springs.proofs.Ranges.{in-range, load-in-range, far-at}
 
@@ -54,7 +54,7 @@ module _ (n : ℕ) (k κ ω x y : List ℕ) (i j : ℕ) (next : i ≡ suc j) (s 
   given-y : getD y i 0 ≡ R.y n k κ ω (suc j)
   given-y = d .done .load i (omega arith) (d .within) ∙ ap (R.y n k κ ω) next
 
-  pub down-ready : InRange (getD k j 0) (getD κ j 0) (getD x i 0) × (getD ω j 0 + getD y i 0 ≤ mostLoad)
+  pub down-ready : InRange (getD k j 0) (getD κ j 0) (getD x i 0) × (getD ω j 0 + getD y i 0 ≤ mostLoadTogether)
   down-ready =
       let l : j < n = omega (arith, d .within) in
       rw (given-x, given-y) (in-range n k κ ω s j l, load-in-range n k κ ω s j l)
@@ -127,7 +127,7 @@ module _
     under : getD d i 0 ≡ R.d n k κ ω i
     under = t .done i (omega arith)
 
-    pub up-ready : InRange (getD k i 0) (getD κ i 0) (getD x j 0) × (getD ω i 0 + getD y j 0 ≤ mostLoad) × (getD d i 0 ≤ farthest)
+    pub up-ready : InRange (getD k i 0) (getD κ i 0) (getD x j 0) × (getD ω i 0 + getD y j 0 ≤ mostLoadTogether) × (getD d i 0 ≤ farthest)
     up-ready = rw (taken-x, taken-y, under) (in-range n k κ ω s i inside, load-in-range n k κ ω s i inside, far-at n k κ ω s i)
 
     pub up-next :

@@ -1,5 +1,5 @@
--- What the solver returns, by its name `solved`: it is as near to the exact shifts as specs/Promise says, has 11 entries, and depends on the first n
--- springs, lashes and loads alone.
+-- What the solver returns, by its name `solved`: it is as near to the exact shifts as specs/Promise says, has 11 entries, and depends on
+-- the first n springs, lashes and loads alone.
 use mathlib.Core.Path.{_≡_, refl, sym, ap, subst, fun-ext, _∙_}
 use mathlib.Core.List.{List, map}
 use Prim.Native.Nat.{ℕ, zero, suc, _+_, _*_, _-_, _≤_, _<_}
