@@ -18,19 +18,26 @@ use Rattle.sheet.specs.declared.Sheet.{Sheet}
 use Rattle.statics.specs.declared.EndFigures.{EndFigures}
 use Rattle.statics.specs.declared.Figures.{Figures}
 use Rattle.sheet.specs.Ends.{End, door, closed}
+use Rattle.statics.specs.Loads.{Rule}
+use Rattle.statics.specs.Forces as F
 use Rattle.statics.specs.Reported.{Reported, EndReported, EndFigured}
-use Rattle.answer.specs.Findings.{Kind, racking, compression, cornerTension, lockTension, lashTension, lashVertical, lashAthwart, kinds, Finding, endCode, kindCode, figuresOf, firstIndex, indexCount, reportedSize, limitAt, exactForce, findingsFrom, endFindings, findings, verdict}
+use Rattle.answer.specs.Findings.{Kind, racking, compression, cornerTension, lockTension, lashTension, lashVertical, lashAthwart, kinds, Finding, endCode, kindCode, figuresOf, firstIndex, indexCount, sizeAt, limitAt, exactAt, findingsFrom, endFindings, findings, verdict}
 use Rattle.answer.specs.Consequences.{CheckedAt, WithinLimits, Justified}
 
 -- what the report says of a checked force
-told : (margin : ℕ) (e : End) (t : Sheet) (Ds : List Frac) (f : EndFigures) → EndReported margin e t Ds f → (k : Kind) (i : ℕ) → CheckedAt e t k i → Reported margin (exactForce e t Ds k i) (reportedSize f k i)
-told margin e t Ds f r racking i c = r .rackings (i - 1) (omega (arith, c .least, c .most)) .size
-told margin e t Ds f r compression i c = r .compressions i (omega (arith, c .most))
-told margin e t Ds f r cornerTension i c = r .tensions i (omega (arith, c .most))
-told margin e t Ds f r lockTension i c = r .tensions i (omega (arith, c .most))
-told margin e t Ds f r lashTension i c = r .pulls i (omega (arith, c .most))
-told margin e t Ds f r lashVertical i c = r .verticals i (omega (arith, c .most))
-told margin e t Ds f r lashAthwart i c = r .athwarts i (omega (arith, c .most))
+reported :
+    {margin : ℕ} {rule : Rule} {e : End} {t : Sheet} {Ds : List Frac} {f : EndFigures} →
+    EndReported margin rule e t Ds f →
+    (k : Kind) (i : ℕ) →
+    CheckedAt e t k i →
+    Reported margin (exactAt rule e t Ds k i) (sizeAt f k i)
+reported r racking i c = r .forces F.racking (i - 1) (omega (arith, c .least, c .most))
+reported r compression i c = r .forces F.compression i (omega (arith, c .most))
+reported r cornerTension i c = r .forces F.tension i (omega (arith, c .most))
+reported r lockTension i c = r .forces F.tension i (omega (arith, c .most))
+reported r lashTension i c = r .forces F.lashTension i (omega (arith, c .most))
+reported r lashVertical i c = r .forces F.lashVertical i (omega (arith, c .most))
+reported r lashAthwart i c = r .forces F.lashAthwart i (omega (arith, c .most))
 
 -- a reported size up to the limit, and one above it
 module _ {margin : ℕ} {exact : Frac} {size limit : ℕ} (r : Reported margin exact size) where
@@ -85,13 +92,13 @@ record Stands (e : End) (t : Sheet) (f : EndFigures) (k : Kind) (i n : ℕ) (x :
   named-kind : x .kind ≡ kindCode k
   least : i ≤ x .index
   most : x .index < i + n
-  exceeds : limitAt e t k (x .index) < reportedSize f k (x .index)
+  exceeds : limitAt e t k (x .index) < sizeAt f k (x .index)
 
 module _ (e : End) (t : Sheet) (f : EndFigures) (k : Kind) where
   abbrev over : ℕ → Bool
-  over i = ltb (limitAt e t k i) (reportedSize f k i)
+  over i = ltb (limitAt e t k i) (sizeAt f k i)
 
-  none-from : (i n : ℕ) → findingsFrom e t f k i n ≡ [] → (j : ℕ) → i ≤ j → j < i + n → reportedSize f k j ≤ limitAt e t k j
+  none-from : (i n : ℕ) → findingsFrom e t f k i n ≡ [] → (j : ℕ) → i ≤ j → j < i + n → sizeAt f k j ≤ limitAt e t k j
   unfolding findingsFrom
   none-from i zero q j l u = absurd (out l u)
     where
@@ -108,11 +115,11 @@ module _ (e : End) (t : Sheet) (f : EndFigures) (k : Kind) where
       never : here ∷ rest ≡ [] → ⊥
       never q = let z : _≡_ {A = ℕ} 0 1 = cc in omega arith
 
-      go : (b : Bool) → over i ≡ b → cond b (here ∷ rest) rest ≡ [] → (rest ≡ [] → (j : ℕ) → suc i ≤ j → j < suc i + n → reportedSize f k j ≤ limitAt e t k j) → reportedSize f k j ≤ limitAt e t k j
+      go : (b : Bool) → over i ≡ b → cond b (here ∷ rest) rest ≡ [] → (rest ≡ [] → (j : ℕ) → suc i ≤ j → j < suc i + n → sizeAt f k j ≤ limitAt e t k j) → sizeAt f k j ≤ limitAt e t k j
       go true h p r = absurd (never p)
       go false h p r =
           ⊎-elim
-          (λ (s : i ≡ j). subst (λ (m : ℕ). reportedSize f k m ≤ limitAt e t k m) s (ltb-false (limitAt e t k i) (reportedSize f k i) h))
+          (λ (s : i ≡ j). subst (λ (m : ℕ). sizeAt f k m ≤ limitAt e t k m) s (ltb-false (limitAt e t k i) (sizeAt f k i) h))
           (λ (s : i < j). r p j s (omega arith))
           (eq-or-lt-of-le l)
 
@@ -137,7 +144,7 @@ module _ (e : End) (t : Sheet) (f : EndFigures) (k : Kind) where
             exceeds = s .exceeds;
           }
 
-      first : limitAt e t k i < reportedSize f k i → x ≡ here → Stands e t f k i (suc n) x
+      first : limitAt e t k i < sizeAt f k i → x ≡ here → Stands e t f k i (suc n) x
       first h q =
           let at : x .index ≡ i = ap (λ (y : Finding). y .index) q in
           record {
@@ -145,12 +152,12 @@ module _ (e : End) (t : Sheet) (f : EndFigures) (k : Kind) where
             named-kind = ap (λ (y : Finding). y .kind) q;
             least = omega arith;
             most = omega arith;
-            exceeds = subst (λ (m : ℕ). limitAt e t k m < reportedSize f k m) (sym at) h;
+            exceeds = subst (λ (m : ℕ). limitAt e t k m < sizeAt f k m) (sym at) h;
           }
 
       go : (b : Bool) → over i ≡ b → List·Memᴰ x (cond b (here ∷ rest) rest) → (List·Memᴰ x rest → Stands e t f k (suc i) n x) → Stands e t f k i (suc n) x
       go true h m r =
-          ⊎-elim (first (ltb-true (limitAt e t k i) (reportedSize f k i) h)) (λ s. later (r s)) (List·Memᴰ·cases-cons m)
+          ⊎-elim (first (ltb-true (limitAt e t k i) (sizeAt f k i) h)) (λ s. later (r s)) (List·Memᴰ·cases-cons m)
       go false h m r = later (r m)
 
 -- both ends
@@ -175,15 +182,15 @@ module _ (t : Sheet) (f : Figures) where
   one-at x m =
       ⊎-elim {C = (e : End) × List·Memᴰ x (endFindings t f e)} (λ n. (door, n)) (λ n. (closed, n)) (List·Memᴰ·append-cases (endFindings t f door) m)
 
-  module _ {margin : ℕ} (figured : (e : End) → EndFigured margin e t (figuresOf e f)) where
+  module _ {margin : ℕ} {rule : Rule} (figured : (e : End) → EndFigured margin rule e t (figuresOf e f)) where
     -- verdict 0: no checked limit is exceeded
-    pub accepted : verdict (findings t f) ≡ 0 → WithinLimits t
+    pub accepted : verdict (findings t f) ≡ 0 → WithinLimits rule t
     accepted v =
         record {
           within =
               λ e Ds s k i c.
               up-to
-              (told margin e t Ds (figuresOf e f) (figured e .told Ds s) k i c)
+              (reported (figured e .reports Ds s) k i c)
               (none-from e t (figuresOf e f) k (firstIndex k) (indexCount e t k)
               (none-of (λ k. findingsFrom e t (figuresOf e f) k (firstIndex k) (indexCount e t k)) kinds k (every k) (none-at (accepting v) e))
               i
@@ -192,7 +199,7 @@ module _ (t : Sheet) (f : Figures) where
         }
 
     -- every finding names a force above its limit, or less than the margin short of exceeding it
-    pub found : (x : Finding) → List·Memᴰ x (findings t f) → Justified margin t x
+    pub found : (x : Finding) → List·Memᴰ x (findings t f) → Justified margin rule t x
     found x m =
         let (e, n) = one-at x m in
         let (k, o) = one-of (λ k. findingsFrom e t (figuresOf e f) k (firstIndex k) (indexCount e t k)) kinds x n in
@@ -205,5 +212,5 @@ module _ (t : Sheet) (f : Figures) where
           named-kind = s .named-kind;
           checked = c;
           near =
-              λ Ds z. above (told margin e t Ds (figuresOf e f) (figured e .told Ds z) k (x .index) c) (s .exceeds);
+              λ Ds z. above (reported (figured e .reports Ds z) k (x .index) c) (s .exceeds);
         }

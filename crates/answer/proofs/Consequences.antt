@@ -1,63 +1,37 @@
 -- An answer's bytes say by themselves what the exact forces are: the forces read back report them, and findings and verdict are the rule's.
 use mathlib.Core.Path.{_≡_, refl, sym, ap, ap₂, subst, _∙_}
 use mathlib.Core.Bool.{cond}
-use mathlib.Core.List.{List, [], _∷_, _++_, map, flatMap, List·Memᴰ, List·Memᴰ·head, List·Memᴰ·tail}
-use Prim.Native.Nat.{ℕ, zero, suc, _+_, _-_, _≤_, _<_, _^_}
+use mathlib.Core.List.{List, [], _∷_, _++_, flatMap, List·Memᴰ, List·Memᴰ·head, List·Memᴰ·tail}
+use Prim.Native.Nat.{ℕ, zero, suc, _+_, _-_, _≤_, _<_}
 use native.Mathlib.Omega.{arith}
 use lib.Dec.{ltb}
-use lib.IntN.{pos, natAbs}
+use lib.IntN.{ℤ, pos, natAbs}
 use lib.ListN.{getD, length}
 use Rattle.arith.specs.Fractions.{Frac}
 use Rattle.sheet.specs.declared.Reading.{Reading}
 use Rattle.sheet.specs.declared.Reading.the-variants.{Taken}
 use Rattle.sheet.specs.declared.Sheet.{Sheet}
+use Rattle.sheet.specs.Ends.{End, door, closed}
 use Rattle.sheet.specs.Layout.{sheetOf}
 use Rattle.sheet.specs.Refusals.{refusal}
-use Rattle.sheet.proofs.Refusal.{sheet-taken}
-use Rattle.sheet.proofs.Taken.{taken-fits}
 use Rattle.statics.specs.declared.EndFigures.{EndFigures}
 use Rattle.statics.specs.declared.Figures.{Figures}
-use Rattle.statics.specs.Ends.{EndSolved}
-use Rattle.sheet.specs.Ends.{End, door, closed, lashesOf}
-use Rattle.statics.specs.Reported.{EndReported}
-use Rattle.sheet.specs.inner.Limits.{SheetLimits}
-use Rattle.statics.proofs.Bounds.{racking-within}
-use Rattle.sheet.proofs.SheetLimits.{sheet-limits}
-use Rattle.statics.proofs.Within.{reported-below}
+use Rattle.statics.specs.Loads.{Rule, classRule}
+use Rattle.statics.specs.Forces as F
+use Rattle.statics.specs.Reported.{Reported, Directed, reportedNumber, EndReported}
+use Rattle.statics.proofs.Arrays.{entry-at}
 use Rattle.answer.specs.declared.Outcome.{Outcome}
-use Rattle.answer.specs.Findings.{Kind, racking, compression, cornerTension, lockTension, lashTension, lashVertical, lashAthwart, kinds, Finding, endCode, kindCode, figuresOf, firstIndex, indexCount, reportedSize, limitAt, findingsFrom, endFindings, findings, verdict}
-use Rattle.arith.specs.Lists.{from, below}
+use Rattle.answer.specs.Findings.{Kind, racking, compression, cornerTension, lockTension, lashTension, lashVertical, lashAthwart, kinds}
+use Rattle.answer.specs.Findings.{Finding, endCode, kindCode, figuresOf, firstIndex, indexCount, sizeAt, limitAt, findingsFrom, endFindings, findings, verdict}
 use Rattle.answer.specs.Checked.{AnswerTo, Answered, CheckedAs, Checked}
-use Rattle.answer.specs.Places.{EndReadBack, noFinding, ReadBack, reportedIn, figuresIn}
+use Rattle.answer.specs.Places.{EndReadBack, noFinding, ReadBack, forceIn, reportedIn, figuresIn}
 use Rattle.answer.specs.Consequences.{CheckedAt, Justified, AnswerSays}
 use Rattle.answer.proofs.Accepted as A
 use Rattle.answer.proofs.ReadBack as R
-use Rattle.answer.proofs.ReadBack.{Signed}
-
--- entry i of a list made by index
-made-at : {A : Type 0} (g : ℕ → A) (d : A) (a n i : ℕ) → i < n → getD (map g (from a n)) i d ≡ g (a + i)
-unfolding from
-made-at g d a zero i h = absurd (none h)
-  where
-    none : i < 0 → ⊥
-    none h = omega arith
-made-at g d a (suc n) zero h = ap g (omega arith)
-made-at g d a (suc n) (suc i) h = made-at g d (suc a) n i (omega arith) ∙ ap g (omega arith)
-
-made : {A : Type 0} (g : ℕ → A) (d : A) (n i : ℕ) → i < n → getD (map g (below n)) i d ≡ g i
-made g d n i h = made-at g d 0 n i h ∙ ap g (omega arith)
-
--- the rackings of a taken sheet fit 32 bits
-module _ {margin : ℕ} (few : margin ≤ 100) {t : Sheet} (limits : SheetLimits t) (e : End) {f : EndFigures} where
-  signed : (Ds : List Frac) → EndSolved e t Ds → EndReported margin e t Ds f → Signed t f
-  signed Ds s r = record { racking = λ i h. small (reported-below (racking-within e limits s i h) (r .rackings i h .size)) }
-    where
-      small : {n : ℕ} → n < 2440000 + margin → n < 2 ^ 31
-      small h = omega arith
 
 -- findings depend on the sizes at the checked indexes alone
 module _ (t : Sheet) where
-  from-same : (e : End) (f g : EndFigures) (k : Kind) (i n : ℕ) → ((j : ℕ) → i ≤ j → j < i + n → reportedSize f k j ≡ reportedSize g k j) → findingsFrom e t f k i n ≡ findingsFrom e t g k i n
+  from-same : (e : End) (f g : EndFigures) (k : Kind) (i n : ℕ) → ((j : ℕ) → i ≤ j → j < i + n → sizeAt f k j ≡ sizeAt g k j) → findingsFrom e t f k i n ≡ findingsFrom e t g k i n
   unfolding findingsFrom
   from-same e f g k i zero h = refl
   from-same e f g k i (suc n) h =
@@ -72,7 +46,7 @@ module _ (t : Sheet) where
   kinds-same f g [] h = refl
   kinds-same f g (k ∷ ks) h = ap₂ (λ (a b : List Finding). a ++ b) (h k) (kinds-same f g ks h)
 
-  findings-same : (f g : Figures) → ((e : End) (k : Kind) (i : ℕ) → CheckedAt e t k i → reportedSize (figuresOf e f) k i ≡ reportedSize (figuresOf e g) k i) → findings t f ≡ findings t g
+  findings-same : (f g : Figures) → ((e : End) (k : Kind) (i : ℕ) → CheckedAt e t k i → sizeAt (figuresOf e f) k i ≡ sizeAt (figuresOf e g) k i) → findings t f ≡ findings t g
   unfolding findings
   findings-same f g h = ap₂ (λ (a b : List Finding). a ++ b) (end door) (end closed)
     where
@@ -93,71 +67,53 @@ member (x ∷ xs) (suc k) h = List·Memᴰ·tail (member xs k (omega arith))
 -- the figures read back are those that were written
 module _ (t : Sheet) (f : Figures) (s : List ℕ) (b : ReadBack t f s) where
   module _ (e : End) where
-    abbrev back : EndFigures
-    back = reportedIn t e s
+    -- the sizes that are read back
+    size-back : (x : F.Force) (i : ℕ) → i < F.entryCount x e t → natAbs (forceIn t e s x i) ≡ natAbs (reportedNumber x (figuresOf e f) i)
+    size-back x i h = ap natAbs (b .ends e .forces x i h)
 
-    abbrev rb : EndReadBack t e (figuresOf e f) s
-    rb = b .ends e
+    back : (x : F.Force) (i : ℕ) → i < F.entryCount x e t → reportedNumber x (reportedIn t e s) i ≡ reportedNumber x (figuresOf e f) i
+    back F.racking i h = entry-at (forceIn t e s F.racking) (pos 0) (t .ntiers) i h ∙ b .ends e .forces F.racking i h
+    back F.compression i h =
+        ap pos (entry-at (λ i. natAbs (forceIn t e s F.compression i)) 0 (F.entryCount F.compression e t) i h ∙ size-back F.compression i h)
+    back F.tension i h =
+        ap pos (entry-at (λ i. natAbs (forceIn t e s F.tension i)) 0 (F.entryCount F.tension e t) i h ∙ size-back F.tension i h)
+    back F.lashTension i h =
+        ap pos (entry-at (λ i. natAbs (forceIn t e s F.lashTension i)) 0 (F.entryCount F.lashTension e t) i h ∙ size-back F.lashTension i h)
+    back F.lashAthwart i h =
+        ap pos (entry-at (λ i. natAbs (forceIn t e s F.lashAthwart i)) 0 (F.entryCount F.lashAthwart e t) i h ∙ size-back F.lashAthwart i h)
+    back F.lashVertical i h =
+        ap pos (entry-at (λ i. natAbs (forceIn t e s F.lashVertical i)) 0 (F.entryCount F.lashVertical e t) i h ∙ size-back F.lashVertical i h)
 
-    racking-back : (i : ℕ) → i < t .ntiers → getD (back .racking) i (pos 0) ≡ getD (figuresOf e f .racking) i (pos 0)
-    racking-back i h = made _ (pos 0) (t .ntiers) i h ∙ rb .racking i h
-
-    compression-back : (i : ℕ) → i ≤ t .ntiers → getD (back .compression) i 0 ≡ getD (figuresOf e f .compression) i 0
-    compression-back i h = made _ 0 (suc (t .ntiers)) i (omega arith) ∙ rb .compression i h
-
-    tension-back : (i : ℕ) → i < t .ntiers → getD (back .tension) i 0 ≡ getD (figuresOf e f .tension) i 0
-    tension-back i h = made _ 0 (t .ntiers) i h ∙ rb .tension i h
-
-    pull-back : (j : ℕ) → j < length (lashesOf e t) → getD (back .pull) j 0 ≡ getD (figuresOf e f .pull) j 0
-    pull-back j h = made _ 0 (length (lashesOf e t)) j h ∙ rb .pull j h
-
-    athwart-back : (j : ℕ) → j < length (lashesOf e t) → getD (back .athwart) j 0 ≡ getD (figuresOf e f .athwart) j 0
-    athwart-back j h = made _ 0 (length (lashesOf e t)) j h ∙ rb .athwart j h
-
-    vertical-back : (j : ℕ) → j < length (lashesOf e t) → getD (back .vertical) j 0 ≡ getD (figuresOf e f .vertical) j 0
-    vertical-back j h = made _ 0 (length (lashesOf e t)) j h ∙ rb .vertical j h
-
-    reported-back : (margin : ℕ) (Ds : List Frac) → EndReported margin e t Ds (figuresOf e f) → EndReported margin e t Ds back
-    reported-back margin Ds r =
+    pub reported-back :
+        {margin : ℕ} {rule : Rule} (Ds : List Frac) →
+        EndReported margin rule e t Ds (figuresOf e f) →
+        EndReported margin rule e t Ds (reportedIn t e s)
+    reported-back {margin} {rule} Ds r =
         record {
-          rackings = λ i h. rw (racking-back i h) (r .rackings i h);
-          compressions = λ i h. rw (compression-back i h) (r .compressions i h);
-          tensions = λ i h. rw (tension-back i h) (r .tensions i h);
-          pulls = λ j h. rw (pull-back j h) (r .pulls j h);
-          athwarts = λ j h. rw (athwart-back j h) (r .athwarts j h);
-          verticals = λ j h. rw (vertical-back j h) (r .verticals j h);
+          forces =
+              λ x i h. subst (λ (z : ℤ). Reported margin (F.exactForce x rule e t Ds i) (natAbs z)) (sym (back x i h)) (r .forces x i h);
+          ways =
+              λ i h. subst (λ (z : ℤ). Directed margin (F.exactForce F.racking rule e t Ds i) z) (sym (back F.racking i h)) (r .ways i h);
         }
 
-    size-back : (k : Kind) (i : ℕ) → CheckedAt e t k i → reportedSize back k i ≡ reportedSize (figuresOf e f) k i
-    size-back racking i c = ap natAbs (racking-back (i - 1) (omega (arith, c .least, c .most)))
-    size-back compression i c = compression-back i (omega (arith, c .most))
-    size-back cornerTension i c = tension-back i (omega (arith, c .most))
-    size-back lockTension i c = tension-back i (omega (arith, c .most))
-    size-back lashTension i c = pull-back i (omega (arith, c .most))
-    size-back lashVertical i c = vertical-back i (omega (arith, c .most))
-    size-back lashAthwart i c = athwart-back i (omega (arith, c .most))
+    size-at : (k : Kind) (i : ℕ) → CheckedAt e t k i → sizeAt (reportedIn t e s) k i ≡ sizeAt (figuresOf e f) k i
+    size-at racking i c = ap natAbs (back F.racking (i - 1) (omega (arith, c .least, c .most)))
+    size-at compression i c = ap natAbs (back F.compression i (omega (arith, c .most)))
+    size-at cornerTension i c = ap natAbs (back F.tension i (omega (arith, c .most)))
+    size-at lockTension i c = ap natAbs (back F.tension i (omega (arith, c .most)))
+    size-at lashTension i c = ap natAbs (back F.lashTension i (omega (arith, c .most)))
+    size-at lashVertical i c = ap natAbs (back F.lashVertical i (omega (arith, c .most)))
+    size-at lashAthwart i c = ap natAbs (back F.lashAthwart i (omega (arith, c .most)))
+
+    end-ruled : EndReadBack t e (reportedIn t e s) s
+    end-ruled = record { counts = b .ends e .counts; forces = λ x i h. b .ends e .forces x i h ∙ sym (back x i h) }
 
   same-findings : findings t (figuresIn t s) ≡ findings t f
-  same-findings = findings-same t (figuresIn t s) f size
+  same-findings = findings-same t (figuresIn t s) f same
     where
-      size : (e : End) (k : Kind) (i : ℕ) → CheckedAt e t k i → reportedSize (figuresOf e (figuresIn t s)) k i ≡ reportedSize (figuresOf e f) k i
-      size door k i c = size-back door k i c
-      size closed k i c = size-back closed k i c
-
-  end-ruled : (e : End) → EndReadBack t e (reportedIn t e s) s
-  end-ruled e =
-      record {
-        rackings = rb e .rackings;
-        racking = λ i h. sym (made _ (pos 0) (t .ntiers) i h);
-        compressions = rb e .compressions;
-        compression = λ i h. sym (made _ 0 (suc (t .ntiers)) i (omega arith));
-        tensions = rb e .tensions;
-        tension = λ i h. sym (made _ 0 (t .ntiers) i h);
-        lashes = rb e .lashes;
-        pull = λ j h. sym (made _ 0 (length (lashesOf e t)) j h);
-        athwart = λ j h. sym (made _ 0 (length (lashesOf e t)) j h);
-        vertical = λ j h. sym (made _ 0 (length (lashesOf e t)) j h);
-      }
+      same : (e : End) (k : Kind) (i : ℕ) → CheckedAt e t k i → sizeAt (figuresOf e (figuresIn t s)) k i ≡ sizeAt (figuresOf e f) k i
+      same door = size-at door
+      same closed = size-at closed
 
   ruled-back : ReadBack t (figuresIn t s) s
   ruled-back =
@@ -173,55 +129,33 @@ module _ (t : Sheet) (f : Figures) (s : List ℕ) (b : ReadBack t f s) where
       ends closed = end-ruled closed
 
 -- what an answer's bytes say, whatever stands behind them
-module _ {margin : ℕ} (few : margin ≤ 100) {t : Sheet} (limits : SheetLimits t) {bytes : List ℕ} (a : AnswerTo margin t bytes) (rest : List ℕ) where
+module _ {margin : ℕ} {rule : Rule} {t : Sheet} {bytes : List ℕ} (a : AnswerTo margin rule t bytes) (rest : List ℕ) where
   abbrev f : Figures
   f = a .figures
 
-  all-signed : (e : End) → Signed t (figuresOf e f)
-  all-signed e =
-      let Ds = a .one e .shifts in
-      let s = a .one e .exists in
-      signed few limits e Ds s (a .reports e .told Ds s)
-
   pub read-back : ReadBack t f (bytes ++ rest)
   read-back =
-      subst (λ (l : List ℕ). ReadBack t f (l ++ rest)) (sym (a .encoded))
-      (R.read-back t f (λ e. a .reports e .fits) all-signed rest)
+      subst (λ (l : List ℕ). ReadBack t f (l ++ rest)) (sym (a .encoded)) (R.read-back t f (λ e. a .reports e .fits) rest)
 
-  pub says : AnswerSays margin t (bytes ++ rest)
+  pub says : AnswerSays margin rule t (bytes ++ rest)
   says =
       let s = bytes ++ rest in
       record {
-        reported = λ e Ds z. reported-back t f s read-back e margin Ds (a .reports e .told Ds z);
+        reported = λ e Ds z. reported-back t f s read-back e Ds (a .reports e .reports Ds z);
         ruled = ruled-back t f s read-back;
         accepted = λ z. A.accepted t f (a .reports) (sym (read-back .verdict) ∙ z);
         found =
             λ k h.
             let g : k < length (findings t f) = rw (read-back .count) at h in
-            subst (λ (x : Finding). Justified margin t x) (sym (read-back .finding k g))
+            subst (λ (x : Finding). Justified margin rule t x) (sym (read-back .finding k g))
             (A.found t f (a .reports) (getD (findings t f) k noFinding) (member (findings t f) k g));
       }
-
--- where a check is not refused, its sheet is not
-pub sheet-taken : (s : List ℕ) (room : ℕ) → refusal s room ≡ Taken → first (sheetRows s) ≡ Taken
-unfolding refusal
-sheet-taken s room e = go (first (sheetRows s)) (sym (first-append (sheetRows s) (row13 room ∷ [])) ∙ e)
-  where
-    go : (q : Reading) → orElse q (first (row13 room ∷ [])) ≡ Taken → q ≡ Taken
-    go Taken h = refl
-    go (Refused n p) h = absurd (never h)
-      where
-        never : Refused n p ≡ Taken → ⊥
-        never h = let z : _≡_ {A = ℕ} 0 1 = cc in omega arith
 
 -- a check that does not refuse answers
 pub answered :
     {margin : ℕ} {s before after : List ℕ} {r : Outcome} →
     refusal s (length before) ≡ Taken →
     Checked margin s before after r →
-    Answered margin (sheetOf s) before after r
+    Answered margin (classRule (sheetOf s)) (sheetOf s) before after r
 answered {margin} {s} {before} {after} {r} e c =
     subst (λ (q : Reading). CheckedAs q margin (sheetOf s) before after r) e (c .holds)
-
-pub taken-facts : (s : List ℕ) (room : ℕ) → refusal s room ≡ Taken → SheetLimits (sheetOf s)
-taken-facts s room e = limits (taken-fits s (sheet-taken s room e))

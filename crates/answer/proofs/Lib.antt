@@ -5,4 +5,5 @@ pub mod ReadBack
 pub mod Longest
 pub mod Numbers
 pub mod Consequences
+pub mod Named
 pub mod Theorems

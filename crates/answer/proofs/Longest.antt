@@ -9,7 +9,7 @@ use Rattle.sheet.specs.declared.Sheet.{Sheet}
 use Rattle.statics.specs.declared.EndFigures.{EndFigures}
 use Rattle.statics.specs.declared.Figures.{Figures}
 use Rattle.sheet.specs.Ends.{End, door, closed, lashesOf}
-use Rattle.answer.specs.Findings.{Kind, racking, compression, cornerTension, lockTension, lashTension, lashVertical, lashAthwart, Finding, endCode, kindCode, figuresOf, limitAt, reportedSize, findingsFrom, endFindings, findings}
+use Rattle.answer.specs.Findings.{Kind, racking, compression, cornerTension, lockTension, lashTension, lashVertical, lashAthwart, Finding, endCode, kindCode, figuresOf, limitAt, sizeAt, findingsFrom, endFindings, findings}
 use Rattle.answer.specs.Answers.{answerBytes}
 use Rattle.answer.proofs.ReadBack.{end-length, bytes-length}
 
@@ -17,7 +17,7 @@ use Rattle.answer.proofs.ReadBack.{end-length, bytes-length}
 from-few : (e : End) (t : Sheet) (f : EndFigures) (k : Kind) (i n : ℕ) → length (findingsFrom e t f k i n) ≤ n
 unfolding findingsFrom
 from-few e t f k i zero = omega arith
-from-few e t f k i (suc n) = go (ltb (limitAt e t k i) (reportedSize f k i)) (from-few e t f k (suc i) n)
+from-few e t f k i (suc n) = go (ltb (limitAt e t k i) (sizeAt f k i)) (from-few e t f k (suc i) n)
   where
     rest : List Finding
     rest = findingsFrom e t f k (suc i) n

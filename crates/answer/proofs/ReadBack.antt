@@ -14,11 +14,12 @@ use Rattle.sheet.specs.declared.Sheet.{Sheet}
 use Rattle.statics.specs.declared.EndFigures.{EndFigures}
 use Rattle.statics.specs.declared.Figures.{Figures}
 use Rattle.sheet.specs.Ends.{End, door, closed, lashesOf}
-use Rattle.statics.specs.Reported.{Fitting}
 use Rattle.answer.specs.Findings.{Finding, figuresOf, findings, verdict}
 use Rattle.answer.specs.Answers.{counted, endBytes, findingBytes, answerBytes}
 use Rattle.arith.specs.Lists.{from, below}
-use Rattle.answer.specs.Places.{sectionSize, entryPlace, endSize, endPlace, findingsPlace, compressionsPlace, tensionsPlace, lashesPlace, EndReadBack, noFinding, ReadBack}
+use Rattle.statics.specs.Forces as F
+use Rattle.statics.specs.Reported.{reportedNumber, reportedSize, Fitting}
+use Rattle.answer.specs.Places.{sectionSize, entryPlace, endSize, endPlace, findingsPlace, lashesPlace, sectionPlace, forceIn, findingIn, noFinding, EndReadBack, ReadBack}
 
 -- xs stands in l from `at` on
 record Stands (l : List ℕ) (at : ℕ) (xs : List ℕ) : Type 0 where
@@ -91,10 +92,7 @@ module _ (entry : ℕ → List ℕ) (size : ℕ) (wide : (i : ℕ) → length (e
         let e : 0 + i ≡ i = omega arith in
         rw e at (one-entry (at + 1) 0 n i h (behind n (flatMap entry (below n)) s))
 
--- the rackings fit 32 bits in two's complement, as every i32 does
-pub record Signed (t : Sheet) (f : EndFigures) : Type 0 where
-  pub racking : (i : ℕ) → i < t .ntiers → natAbs (getD (f .racking) i (pos 0)) < 2 ^ 31
-
+-- a number below 2^31 in size fits 32 bits in two's complement
 fits-signed : (z : ℤ) → natAbs z < 2 ^ 31 → SFits w32 z
 fits-signed (pos n) h = record { sfits = omega arith }
 fits-signed (negsuc n) h = record { sfits = omega arith }
@@ -148,7 +146,7 @@ module _ (t : Sheet) (e : End) (f : EndFigures) where
   end-length =
       omega (arith, length-append three (counted m lashed), three-length, section-length lashed 12 (λ j. refl) m)
 
-  module _ {l : List ℕ} (fits : Fitting f) (two32 : Signed t f) (s : Stands l (endPlace t e) (endBytes t e f)) where
+  module _ {l : List ℕ} (fits : Fitting f) (s : Stands l (endPlace t e) (endBytes t e f)) where
     abbrev at : ℕ
     at = endPlace t e
 
@@ -156,16 +154,16 @@ module _ (t : Sheet) (e : End) (f : EndFigures) where
     unfolding endBytes
     rackings-there = first-part (counted n racked) (counted (suc n) pressed) (first-part two (counted n drawn) (first-part three (counted m lashed) s))
 
-    compressions-there : Stands l (compressionsPlace t e) (counted (suc n) pressed)
+    compressions-there : Stands l (sectionPlace t e F.compression) (counted (suc n) pressed)
     unfolding endBytes
     compressions-there =
         rw (section-length racked 4 (λ i. refl) n) at
         (second-part (counted n racked) (counted (suc n) pressed) (first-part two (counted n drawn) (first-part three (counted m lashed) s)))
 
-    tensions-there : Stands l (tensionsPlace t e) (counted n drawn)
+    tensions-there : Stands l (sectionPlace t e F.tension) (counted n drawn)
     unfolding endBytes
     tensions-there =
-        let p : at + length two ≡ tensionsPlace t e = omega (arith, two-length) in
+        let p : at + length two ≡ sectionPlace t e F.tension = omega (arith, two-length) in
         rw p at (second-part two (counted n drawn) (first-part three (counted m lashed) s))
 
     lashes-there : Stands l (lashesPlace t e) (counted m lashed)
@@ -174,21 +172,43 @@ module _ (t : Sheet) (e : End) (f : EndFigures) where
         let p : at + length three ≡ lashesPlace t e = omega (arith, three-length) in
         rw p at (second-part three (counted m lashed) s)
 
+    counts : (x : F.Force) → byteAt l (sectionPlace t e x) ≡ F.entryCount x e t
+    counts F.racking = the-count racked 4 (λ i. refl) at n rackings-there
+    counts F.compression = the-count pressed 4 (λ i. refl) (sectionPlace t e F.compression) (suc n) compressions-there
+    counts F.tension = the-count drawn 4 (λ i. refl) (sectionPlace t e F.tension) n tensions-there
+    counts F.lashTension = the-count lashed 12 (λ j. refl) (lashesPlace t e) m lashes-there
+    counts F.lashAthwart = the-count lashed 12 (λ j. refl) (lashesPlace t e) m lashes-there
+    counts F.lashVertical = the-count lashed 12 (λ j. refl) (lashesPlace t e) m lashes-there
+
+    -- an unsigned number of four bytes
+    plain : {at : ℕ} (x : F.Force) (i : ℕ) (v : ℕ) → reportedSize x f i ≡ v → Stands l at (bytes4 v) → pos (le4 l at) ≡ pos v
+    plain x i v e s = ap pos (number v (omega (arith, fits .small x i)) s)
+
+    abbrev lash : (j : ℕ) → j < m → Stands l (entryPlace (lashesPlace t e) 12 j) (lashed j)
+    lash = the-entry lashed 12 (λ j. refl) (lashesPlace t e) m lashes-there
+
+    -- at the start of an entry
+    first-at : {p : ℕ} (xs : List ℕ) → Stands l p xs → Stands l (p + 0) xs
+    first-at {p} xs s = rw (add-zero p) s
+
+    forces : (x : F.Force) (i : ℕ) → i < F.entryCount x e t → forceIn t e l x i ≡ reportedNumber x f i
+    forces F.racking i h =
+        rw (add-zero (entryPlace at 4 i))
+        (signed (getD (f .racking) i (pos 0)) (fits-signed _ (fits .small F.racking i)) (the-entry racked 4 (λ i. refl) at n rackings-there i h))
+    forces F.compression i h =
+        plain F.compression i _ refl (first-at (pressed i) (the-entry pressed 4 (λ i. refl) (sectionPlace t e F.compression) (suc n) compressions-there i h))
+    forces F.tension i h =
+        plain F.tension i _ refl (first-at (drawn i) (the-entry drawn 4 (λ i. refl) (sectionPlace t e F.tension) n tensions-there i h))
+    forces F.lashTension j h =
+        plain F.lashTension j _ refl
+        (first-at (pulled j) (first-part (pulled j) (athwarted j) (first-part (pulled j ++ athwarted j) (raised j) (lash j h))))
+    forces F.lashAthwart j h =
+        plain F.lashAthwart j _ refl
+        (second-part (pulled j) (athwarted j) (first-part (pulled j ++ athwarted j) (raised j) (lash j h)))
+    forces F.lashVertical j h = plain F.lashVertical j _ refl (second-part (pulled j ++ athwarted j) (raised j) (lash j h))
+
     end-back : EndReadBack t e f l
-    end-back =
-        let lash = the-entry lashed 12 (λ j. refl) (lashesPlace t e) m lashes-there in
-        record {
-          rackings = the-count racked 4 (λ i. refl) at n rackings-there;
-          racking = λ i h. signed (getD (f .racking) i (pos 0)) (fits-signed _ (two32 .racking i h)) (the-entry racked 4 (λ i. refl) at n rackings-there i h);
-          compressions = the-count pressed 4 (λ i. refl) (compressionsPlace t e) (suc n) compressions-there;
-          compression = λ i h. number (getD (f .compression) i 0) (fits .compression i) (the-entry pressed 4 (λ i. refl) (compressionsPlace t e) (suc n) compressions-there i (omega arith));
-          tensions = the-count drawn 4 (λ i. refl) (tensionsPlace t e) n tensions-there;
-          tension = λ i h. number (getD (f .tension) i 0) (fits .tension i) (the-entry drawn 4 (λ i. refl) (tensionsPlace t e) n tensions-there i h);
-          lashes = the-count lashed 12 (λ j. refl) (lashesPlace t e) m lashes-there;
-          pull = λ j h. number (getD (f .pull) j 0) (fits .pull j) (first-part (pulled j) (athwarted j) (first-part (pulled j ++ athwarted j) (raised j) (lash j h)));
-          athwart = λ j h. number (getD (f .athwart) j 0) (fits .athwart j) (second-part (pulled j) (athwarted j) (first-part (pulled j ++ athwarted j) (raised j) (lash j h)));
-          vertical = λ j h. number (getD (f .vertical) j 0) (fits .vertical j) (second-part (pulled j ++ athwarted j) (raised j) (lash j h));
-        }
+    end-back = record { counts = counts; forces = forces }
 
 -- findings, three bytes each
 pub bytes-length : (xs : List Finding) → length (flatMap findingBytes xs) ≡ 3 * length xs
@@ -219,7 +239,7 @@ one-finding {l} at (suc k) (x ∷ xs) h s =
     rw e (one-finding (at + 3) k xs (omega arith) (second-part (findingBytes x) (flatMap findingBytes xs) s))
 
 -- the whole answer, whatever stands behind it
-module _ (t : Sheet) (f : Figures) (fits : (e : End) → Fitting (figuresOf e f)) (two32 : (e : End) → Signed t (figuresOf e f)) (rest : List ℕ) where
+module _ (t : Sheet) (f : Figures) (fits : (e : End) → Fitting (figuresOf e f)) (rest : List ℕ) where
   abbrev s : List ℕ
   s = answerBytes t f ++ rest
 
@@ -256,8 +276,8 @@ module _ (t : Sheet) (f : Figures) (fits : (e : End) → Fitting (figuresOf e f)
       rw p at (second-part both tail all-there)
 
   an-end : (e : End) → EndReadBack t e (figuresOf e f) s
-  an-end door = end-back t door (f .door) (fits door) (two32 door) door-there
-  an-end closed = end-back t closed (f .closed) (fits closed) (two32 closed) closed-there
+  an-end door = end-back t door (f .door) (fits door) door-there
+  an-end closed = end-back t closed (f .closed) (fits closed) closed-there
 
   -- the numbers read back
   pub read-back : ReadBack t f s

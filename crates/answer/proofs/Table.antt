@@ -12,18 +12,18 @@ use Rattle.arith.proofs.FractionLaws.{≈-trans, ≈⊑}
 use Rattle.arith.proofs.OrderedField.{⊑-⊏-trans}
 use Rattle.arith.specs.Roots.{Least}
 use Rattle.sheet.specs.declared.Sheet.{Sheet}
-use Rattle.statics.specs.Loads.{weight, transverse, verticalForce, boxLength, wind, load, classShare}
+use Rattle.statics.specs.Loads.{weight, transverse, verticalForce, boxLength, wind, load, classRule}
 use Rattle.statics.specs.Lashes.{lashLength, pull, athwartPart}
 use Rattle.springs.specs.Equations as S
 use Rattle.springs.specs.Equations.{shift}
 use Rattle.springs.proofs.OneSolution.{handedStiffness, handedLoad, shiftOf, solution, exists, unique, same-racking}
-use Rattle.statics.specs.Ends.{chainTiers, chainLash, chainLashes, routeFactor, EndSolved}
+use Rattle.statics.specs.Ends.{chainTiers, chainLash, chainLashes, EndSolved}
+use Rattle.statics.specs.Theorems.{OneSolution}
 use Rattle.sheet.specs.Ends.{door, tiersOf, lashesOf}
 use Rattle.statics.specs.Posts.{levelHeight, turning, moment, atMost, tension}
 use Rattle.statics.proofs.LashLength.{length-is}
 use Rattle.answer.specs.Limits.{safeLoad}
 use Rattle.answer.specs.Table.{boxB, rodS, rodOf, exposedBox, sheetWith, alone, pair, held, heldAbove, doorTiers, lowestLoad, Table}
-use Rattle.answer.specs.Checked.{OneSolution}
 
 -- (a), (b)
 figure-a : lowestLoad alone ≈ nat 220725 /q nat 10
@@ -65,16 +65,16 @@ figure-i-twenty : wind (exposedBox 20 2591) ≈ nat 847599012 /q nat 100000
 unfolding wind boxLength recip
 figure-i-twenty = record { cross = refl }
 
-figure-j : transverse (routeFactor (sheetWith 7 (boxB ∷ []) [])) boxB ≈ nat 358065 /q nat 10
+figure-j : transverse (classRule (sheetWith 7 (boxB ∷ []) []) .factor) boxB ≈ nat 358065 /q nat 10
 unfolding transverse weight recip
 figure-j = record { cross = refl }
 
 -- (c): with no lash the shifts do not enter
-figure-c-moment : (Ds : List Frac) → moment classShare (routeFactor alone) (tiersOf alone) (lashesOf door alone) Ds 0 ≈ nat 571898475 /q nat 10
+figure-c-moment : (Ds : List Frac) → moment (classRule alone) (tiersOf alone) (lashesOf door alone) Ds 0 ≈ nat 571898475 /q nat 10
 unfolding moment turning transverse weight wind sumq recip levelHeight
 figure-c-moment Ds = record { cross = refl }
 
-figure-c-tension : (Ds : List Frac) → tension classShare (routeFactor alone) (tiersOf alone) (lashesOf door alone) Ds 0 ≈ nat 0
+figure-c-tension : (Ds : List Frac) → tension (classRule alone) (tiersOf alone) (lashesOf door alone) Ds 0 ≈ nat 0
 unfolding tension atMost moment turning transverse verticalForce weight wind sumq recip levelHeight
 figure-c-tension Ds = record { cross = refl }
 
@@ -91,19 +91,19 @@ abbrev solved : Sheet → List Frac
 solved t = solution (doorTiers t) (doorLashes t)
 
 module _ (t : Sheet) (stiff : S.Stiff (doorTiers t) (doorLashes t)) where
-  agree : (Ds Es : List Frac) → EndSolved door t Ds → EndSolved door t Es → S.Agree Ds Es
+  agree : (Ds Es : List Frac) → EndSolved (classRule t) door t Ds → EndSolved (classRule t) door t Es → S.Agree Ds Es
   agree Ds Es s r = unique (doorTiers t) (doorLashes t) Ds Es stiff (s .solves) (r .solves)
 
-  there : EndSolved door t (solved t)
+  there : EndSolved (classRule t) door t (solved t)
   there = record { solves = exists (doorTiers t) (doorLashes t) stiff }
 
-  one : OneSolution door t
+  one : OneSolution (classRule t) door t
   one = record { shifts = solved t; exists = there; unique = λ Ds Es s r. agree Ds Es s r .same }
 
-  every-shift : (i : ℕ) (x : Frac) → shift (solved t) i ≈ x → (Ds : List Frac) → EndSolved door t Ds → shift Ds i ≈ x
+  every-shift : (i : ℕ) (x : Frac) → shift (solved t) i ≈ x → (Ds : List Frac) → EndSolved (classRule t) door t Ds → shift Ds i ≈ x
   every-shift i x e Ds s = ≈-trans (shift Ds i) (shift (solved t) i) x (agree Ds (solved t) s there .same i) e
 
-  every-racking : (i : ℕ) (x : Frac) → S.racking (doorTiers t) (solved t) i ⊏ x → (Ds : List Frac) → EndSolved door t Ds → S.racking (doorTiers t) Ds i ⊏ x
+  every-racking : (i : ℕ) (x : Frac) → S.racking (doorTiers t) (solved t) i ⊏ x → (Ds : List Frac) → EndSolved (classRule t) door t Ds → S.racking (doorTiers t) Ds i ⊏ x
   every-racking i x e Ds s =
       ⊑-⊏-trans (S.racking (doorTiers t) Ds i) (S.racking (doorTiers t) (solved t) i) x
       (≈⊑ (S.racking (doorTiers t) Ds i) (S.racking (doorTiers t) (solved t) i) (same-racking (doorTiers t) Ds (solved t) (agree Ds (solved t) s there) i)) e

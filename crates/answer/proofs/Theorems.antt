@@ -10,17 +10,18 @@ use Rattle.sheet.specs.declared.Sheet.{Sheet}
 use Rattle.sheet.specs.Layout.{sheetOf}
 use Rattle.sheet.specs.Refusals.{refusal}
 use Rattle.statics.proofs.Margins.{figured-wider}
-use Rattle.sheet.proofs.SheetLimits.{sheet-limits}
+use Rattle.statics.specs.Loads.{Rule, classRule}
 use Rattle.answer.specs.declared.Outcome.{Outcome}
 use Rattle.answer.specs.Checked.{AnswerTo, Answered, CheckedAs, Checked, kept, demanded}
 use Rattle.answer.specs.Consequences.{AnswerSays}
 use Rattle.answer.specs.Theorems.{DemandThree, Theorems}
 use Rattle.answer.proofs.Consequences as C
-use Rattle.answer.proofs.Consequences.{answered, taken-facts}
+use Rattle.answer.proofs.Consequences.{answered}
+use Rattle.answer.proofs.Named.{answer-named, check-named}
 use Rattle.answer.proofs.Table.{table}
 
 module _ {m n : ℕ} (wider : m ≤ n) where
-  pub answer-wider : {t : Sheet} {bytes : List ℕ} → AnswerTo m t bytes → AnswerTo n t bytes
+  pub answer-wider : {rule : Rule} {t : Sheet} {bytes : List ℕ} → AnswerTo m rule t bytes → AnswerTo n rule t bytes
   answer-wider a =
       record {
         figures = a .figures;
@@ -46,17 +47,19 @@ demand-three {s} {before} {after} e c =
     record {
       one = a .answer .one;
       says =
-          subst (λ (l : List ℕ). AnswerSays demanded (sheetOf s) l) (sym (a .written))
-          (C.says (lit≤ tt) (taken-facts s (length before) e) (a .answer) (drop (length (a .bytes)) before));
+          subst (λ (l : List ℕ). AnswerSays demanded (classRule (sheetOf s)) (sheetOf s) l) (sym (a .written))
+          (C.says (a .answer) (drop (length (a .bytes)) before));
     }
 
 pub theorems : Theorems
 theorems =
     record {
-      answer-wider = λ m n h t bytes a. answer-wider h a;
+      answer-named = λ c rule t stands f. answer-named stands f;
+      check-named = check-named;
+      answer-wider = λ m n h rule t bytes a. answer-wider h a;
       checked-wider = λ m n h s before after r c. checked-wider h c;
-      read-back = λ margin few t bytes rest f a. C.read-back few (sheet-limits f) a rest;
-      says = λ margin few t bytes rest f a. C.says few (sheet-limits f) a rest;
+      read-back = λ margin rule t bytes rest a. C.read-back a rest;
+      says = λ margin rule t bytes rest a. C.says a rest;
       demand-three = λ s before after r e c. demand-three e c;
       table = table;
     }

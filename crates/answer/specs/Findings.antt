@@ -12,7 +12,7 @@ use Rattle.statics.specs.declared.EndFigures.{EndFigures}
 use Rattle.statics.specs.declared.Figures.{Figures}
 use Rattle.statics.specs.Loads.{Rule}
 use Rattle.statics.specs.Forces as F
-use Rattle.statics.specs.Forces.{Force, entryCount, exactForce}
+use Rattle.statics.specs.Forces.{Force, exactForce}
 use Rattle.statics.specs.Reported.{reportedSize}
 use Rattle.answer.specs.Limits.{rackingLimit, compressionLimit, cornerTensionLimit, lashVerticalLimit, lashAthwartLimit, safeLoad}
 
@@ -60,17 +60,31 @@ forceOf lashAthwart = F.lashAthwart
 
 abbrev pub entryAt : Kind → ℕ → ℕ
 entryAt racking i = i - 1
-entryAt k i = i
+entryAt compression i = i
+entryAt cornerTension i = i
+entryAt lockTension i = i
+entryAt lashTension i = i
+entryAt lashVertical i = i
+entryAt lashAthwart i = i
 
 -- where a kind is checked: racking at every tier, compression at levels 1 to n, tension at levels 0 to n − 1, and every lash
 abbrev pub firstIndex : Kind → ℕ
 firstIndex racking = 1
 firstIndex compression = 1
-firstIndex k = 0
+firstIndex cornerTension = 0
+firstIndex lockTension = 0
+firstIndex lashTension = 0
+firstIndex lashVertical = 0
+firstIndex lashAthwart = 0
 
 abbrev pub indexCount : End → Sheet → Kind → ℕ
+indexCount e t racking = t .ntiers
 indexCount e t compression = t .ntiers
-indexCount e t k = entryCount (forceOf k) e t
+indexCount e t cornerTension = t .ntiers
+indexCount e t lockTension = t .ntiers
+indexCount e t lashTension = length (lashesOf e t)
+indexCount e t lashVertical = length (lashesOf e t)
+indexCount e t lashAthwart = length (lashesOf e t)
 
 -- the reported size at an index, and the exact force there at the shifts Ds of the end's levels
 abbrev pub sizeAt : EndFigures → Kind → ℕ → ℕ

@@ -60,14 +60,21 @@ stride lashAthwart = 12
 stride lashVertical = 12
 
 abbrev pub offset : Force → ℕ
+offset racking = 0
+offset compression = 0
+offset tension = 0
+offset lashTension = 0
 offset lashAthwart = 4
 offset lashVertical = 8
-offset x = 0
 
 -- a number of an answer's bytes: racking in two's complement
 abbrev pub numberIn : Force → List ℕ → ℕ → ℤ
 numberIn racking s at = signed4 s at
-numberIn x s at = pos (le4 s at)
+numberIn compression s at = pos (le4 s at)
+numberIn tension s at = pos (le4 s at)
+numberIn lashTension s at = pos (le4 s at)
+numberIn lashAthwart s at = pos (le4 s at)
+numberIn lashVertical s at = pos (le4 s at)
 
 -- the force that is read back from the bytes s
 abbrev pub forceIn : Sheet → End → List ℕ → Force → ℕ → ℤ

@@ -31,9 +31,12 @@ writtenAs Taken bytes before = bytes ++ drop (length bytes) before
 abbrev pub roomFor : ℕ → Reading
 roomFor room = first (row13 longestAnswer room ∷ [])
 
--- of a sheet's bytes
+-- of a sheet's bytes, by the class rule
+abbrev pub checkBytes : List ℕ → List ℕ
+checkBytes s = answerBy (classLoadRule (sheetOf s)) (sheetOf s)
+
 unfoldable pub returned : List ℕ → ℕ → Outcome
-returned s room = returnedAs (refusal s room) (answerBy (classLoadRule (sheetOf s)) (sheetOf s))
+returned s room = returnedAs (refusal s room) (checkBytes s)
 
 unfoldable pub written : List ℕ → List ℕ → List ℕ
-written s before = writtenAs (refusal s (length before)) (answerBy (classLoadRule (sheetOf s)) (sheetOf s)) before
+written s before = writtenAs (refusal s (length before)) (checkBytes s) before
