@@ -23,7 +23,7 @@ use Rattle.statics.proofs.Arrays.{entry-at}
 use Rattle.answer.specs.declared.Outcome.{Outcome}
 use Rattle.answer.specs.Findings.{Kind, racking, compression, cornerTension, lockTension, lashTension, lashVertical, lashAthwart, kinds}
 use Rattle.answer.specs.Findings.{Finding, endCode, kindCode, figuresOf, firstIndex, indexCount, sizeAt, limitAt, findingsFrom, endFindings, findings, verdict}
-use Rattle.answer.specs.Checked.{AnswerTo, Answered, CheckedAs, Checked}
+use Rattle.answer.specs.Checked.{AnswerTo, Answered, AnsweredAs, Checked}
 use Rattle.answer.specs.Places.{EndReadBack, noFinding, ReadBack, forceIn, reportedIn, figuresIn}
 use Rattle.answer.specs.Consequences.{CheckedAt, Justified, AnswerSays}
 use Rattle.answer.proofs.Accepted as A
@@ -158,4 +158,4 @@ pub answered :
     Checked margin s before after r →
     Answered margin (classRule (sheetOf s)) (sheetOf s) before after r
 answered {margin} {s} {before} {after} {r} e c =
-    subst (λ (q : Reading). CheckedAs q margin (sheetOf s) before after r) e (c .holds)
+    subst (λ (q : Reading). AnsweredAs q margin (classRule (sheetOf s)) (sheetOf s) before after r) e (c .holds)

@@ -14,14 +14,14 @@ use Rattle.sheet.proofs.Refusal.{sheet-taken}
 use Rattle.sheet.proofs.SheetLimits.{sheet-limits}
 use Rattle.sheet.proofs.Taken.{taken-fits}
 use Rattle.statics.specs.declared.LoadRule.{LoadRule}
-use Rattle.statics.specs.Loads.{Rule, StandsFor}
+use Rattle.statics.specs.Loads.{Rule, classRule, StandsFor}
 use Rattle.statics.specs.Reported.{EndFigured}
 use Rattle.statics.specs.inner.Computed.{figuresBy}
 use Rattle.statics.proofs.EndChain.{class-stands}
 use Rattle.statics.proofs.Figured.{end-figured}
 use Rattle.statics.proofs.OneSolution.{one-solution}
 use Rattle.answer.specs.Findings.{figuresOf}
-use Rattle.answer.specs.Checked.{AnswerTo, CheckedAs, Checked, kept}
+use Rattle.answer.specs.Checked.{AnswerTo, AnsweredAs, roomFor, Checked, kept}
 use Rattle.answer.specs.inner.Named.{answerBy, checkBytes, returnedAs, writtenAs, returned, written}
 
 module _ {c : LoadRule} {rule : Rule} {t : Sheet} (stands : StandsFor c rule) (f : Fits t) where
@@ -39,6 +39,18 @@ module _ {c : LoadRule} {rule : Rule} {t : Sheet} (stands : StandsFor c rule) (f
         one = λ e. one-solution rule e (sheet-limits f);
       }
 
+  -- with a buffer that held `before`
+  pub answer-by-named :
+      (before : List ℕ) →
+      AnsweredAs (roomFor (length before)) kept rule t before
+      (writtenAs (roomFor (length before)) (answerBy c t) before)
+      (returnedAs (roomFor (length before)) (answerBy c t))
+  answer-by-named before = go (roomFor (length before))
+    where
+      go : (q : Reading) → AnsweredAs q kept rule t before (writtenAs q (answerBy c t) before) (returnedAs q (answerBy c t))
+      go (Refused n p) = record { refused = refl; untouched = refl }
+      go Taken = record { bytes = answerBy c t; answer = answer-named; taken = refl; written = refl }
+
 pub check-named : (s before : List ℕ) → Checked kept s before (written s before) (returned s (length before))
 unfolding written returned
 check-named s before = record { holds = go (refusal s (length before)) refl }
@@ -46,7 +58,7 @@ check-named s before = record { holds = go (refusal s (length before)) refl }
     go :
         (q : Reading) →
         refusal s (length before) ≡ q →
-        CheckedAs q kept (sheetOf s) before (writtenAs q (checkBytes s) before) (returnedAs q (checkBytes s))
+        AnsweredAs q kept (classRule (sheetOf s)) (sheetOf s) before (writtenAs q (checkBytes s) before) (returnedAs q (checkBytes s))
     go (Refused n p) e = record { refused = refl; untouched = refl }
     go Taken e =
         let fits = taken-fits s (sheet-taken s (length before) e) in

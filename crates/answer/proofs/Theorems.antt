@@ -12,7 +12,7 @@ use Rattle.sheet.specs.Refusals.{refusal}
 use Rattle.statics.proofs.Margins.{figured-wider}
 use Rattle.statics.specs.Loads.{Rule, classRule}
 use Rattle.answer.specs.declared.Outcome.{Outcome}
-use Rattle.answer.specs.Checked.{AnswerTo, Answered, CheckedAs, Checked, kept, demanded}
+use Rattle.answer.specs.Checked.{AnswerTo, Answered, AnsweredAs, Checked, kept, demanded}
 use Rattle.answer.specs.Consequences.{AnswerSays}
 use Rattle.answer.specs.Theorems.{DemandThree, Theorems}
 use Rattle.answer.proofs.Consequences as C
@@ -33,7 +33,7 @@ module _ {m n : ℕ} (wider : m ≤ n) where
   pub checked-wider : {s before after : List ℕ} {r : Outcome} → Checked m s before after r → Checked n s before after r
   checked-wider {s} {before} {after} {r} c = record { holds = go (refusal s (length before)) (c .holds) }
     where
-      go : (q : Reading) → CheckedAs q m (sheetOf s) before after r → CheckedAs q n (sheetOf s) before after r
+      go : (q : Reading) → AnsweredAs q m (classRule (sheetOf s)) (sheetOf s) before after r → AnsweredAs q n (classRule (sheetOf s)) (sheetOf s) before after r
       go (Refused c p) h = h
       go Taken h = record { bytes = h .bytes; answer = answer-wider (h .answer); taken = h .taken; written = h .written }
 

@@ -1,15 +1,16 @@
 -- What `check` says: document 01's demands on the two numbers returned and on each byte of the buffer.
 use mathlib.Core.Path.{_≡_}
-use mathlib.Core.List.{List, _++_}
+use mathlib.Core.List.{List, [], _∷_, _++_}
 use Prim.Native.Nat.{ℕ}
 use lib.ListN.{drop, length}
 use Rattle.sheet.specs.declared.Reading.{Reading}
 use Rattle.sheet.specs.declared.Reading.the-variants.{Taken, Refused}
 use Rattle.sheet.specs.declared.Sheet.{Sheet}
 use Rattle.sheet.specs.Layout.{sheetOf}
-use Rattle.sheet.specs.Refusals.{refusal}
+use Rattle.sheet.specs.Refusals.{row13, first, longestAnswer, refusal}
 use Rattle.statics.specs.declared.Figures.{Figures}
-use Rattle.statics.specs.Loads.{Rule, classRule}
+use Rattle.statics.specs.declared.LoadRule.{LoadRule}
+use Rattle.statics.specs.Loads.{Rule, classRule, StandsFor}
 use Rattle.statics.specs.Theorems.{OneSolution}
 use Rattle.sheet.specs.Ends.{End}
 use Rattle.statics.specs.Reported.{EndFigured}
@@ -47,13 +48,21 @@ pub record Answered (margin : ℕ) (rule : Rule) (t : Sheet) (before after : Lis
   pub taken : r ≡ O.Taken (length bytes)
   pub written : after ≡ bytes ++ drop (length bytes) before
 
--- the sheet s with a buffer that held `before`, by cases on document 01's refusals; its loads go by the class rule
-abbrev pub CheckedAs : Reading → ℕ → Sheet → List ℕ → List ℕ → Outcome → Type 0
-CheckedAs (Refused c p) margin t before after r = TurnedBack c p before after r
-CheckedAs Taken margin t before after r = Answered margin (classRule t) t before after r
+-- by cases on a refusal
+abbrev pub AnsweredAs : Reading → ℕ → Rule → Sheet → List ℕ → List ℕ → Outcome → Type 0
+AnsweredAs (Refused c p) margin rule t before after r = TurnedBack c p before after r
+AnsweredAs Taken margin rule t before after r = Answered margin rule t before after r
 
+-- the check of the sheet s with a buffer that held `before`, by document 01's refusals; its loads go by the class rule
 pub record Checked (margin : ℕ) (s before after : List ℕ) (r : Outcome) : Type 0 where
-  pub holds : CheckedAs (refusal s (length before)) margin (sheetOf s) before after r
+  pub holds : AnsweredAs (refusal s (length before)) margin (classRule (sheetOf s)) (sheetOf s) before after r
+
+-- the answer to a decoded sheet t, by every rule that c stands for: only the room can be too short
+abbrev pub roomFor : ℕ → Reading
+roomFor room = first (row13 longestAnswer room ∷ [])
+
+pub record AnsweredBy (margin : ℕ) (c : LoadRule) (t : Sheet) (before after : List ℕ) (r : Outcome) : Type 0 where
+  pub holds : (rule : Rule) → StandsFor c rule → AnsweredAs (roomFor (length before)) margin rule t before after r
 
 -- demand 3's margin, and the one that the check keeps
 abbrev pub demanded : ℕ

@@ -15,7 +15,7 @@ use Rattle.statics.specs.declared.EndFigures.{EndFigures}
 use Rattle.statics.specs.declared.Figures.{Figures}
 use Rattle.sheet.specs.Ends.{End, door, closed, lashesOf}
 use Rattle.answer.specs.Limits.{safeLoad}
-use Rattle.answer.specs.Findings.{Finding, Kind, racking, compression, cornerTension, lockTension, lashTension, lashVertical, lashAthwart, endCode, kindCode, figuresOf, firstIndex, indexCount, reportedSize, limitAt, findingsFrom, endFindings, findings}
+use Rattle.answer.specs.Findings.{Finding, Kind, racking, compression, cornerTension, lockTension, lashTension, lashVertical, lashAthwart, endCode, kindCode, figuresOf, firstIndex, indexCount, sizeAt, limitAt, findingsFrom, endFindings, findings}
 use Rattle.answer.specs.Answers.{findingBytes}
 use Rattle.arith.specs.Lists.{from, padded}
 use Rattle.answer_findings.specs.declared.Found.{Found}
@@ -66,23 +66,23 @@ drop-replicate (suc k) (suc n) z =
 -- one kind
 module _ (e : End) (t : Sheet) (f : EndFigures) (k : Kind) where
   abbrev entry : ℕ → List ℕ
-  entry i = findingWhere (endCode e) (kindCode k) i (reportedSize f k i) (limitAt e t k i)
+  entry i = findingWhere (endCode e) (kindCode k) i (sizeAt f k i) (limitAt e t k i)
 
   from-bytes : (i n : ℕ) → flatMap findingBytes (findingsFrom e t f k i n) ≡ flatMap entry (from i n)
   unfolding findingsFrom flatMap from findingWhere
   from-bytes i zero = refl
   from-bytes i (suc n) =
-      where-found (ltb (limitAt e t k i) (reportedSize f k i)) (record { end = endCode e; kind = kindCode k; index = i }) (findingsFrom e t f k (suc i) n)
+      where-found (ltb (limitAt e t k i) (sizeAt f k i)) (record { end = endCode e; kind = kindCode k; index = i }) (findingsFrom e t f k (suc i) n)
       ∙ ap (λ (l : List ℕ). entry i ++ l) (from-bytes (suc i) n)
 
-  kind-bytes : (n : ℕ) (limit : ℕ → ℕ) → indexCount e t k ≡ n → ((i : ℕ) → i < firstIndex k + n → limitAt e t k i ≡ limit i) → flatMap findingBytes (findingsFrom e t f k (firstIndex k) (indexCount e t k)) ≡ findingsOver (endCode e) (kindCode k) (firstIndex k) (reportedSize f k) limit n
+  kind-bytes : (n : ℕ) (limit : ℕ → ℕ) → indexCount e t k ≡ n → ((i : ℕ) → i < firstIndex k + n → limitAt e t k i ≡ limit i) → flatMap findingBytes (findingsFrom e t f k (firstIndex k) (indexCount e t k)) ≡ findingsOver (endCode e) (kindCode k) (firstIndex k) (sizeAt f k) limit n
   unfolding findingsOver
   kind-bytes n limit c h =
       let z : firstIndex k + 0 ≡ firstIndex k = add-zero (firstIndex k) in
       rw c
       (from-bytes (firstIndex k) n
       ∙ (rw z at (entries-from entry (firstIndex k) 0 n))
-      ∙ over-same (endCode e) (kindCode k) (firstIndex k) n (reportedSize f k) (limitAt e t k) limit h)
+      ∙ over-same (endCode e) (kindCode k) (firstIndex k) n (sizeAt f k) (limitAt e t k) limit h)
 
 -- an end: kinds 1 to 7
 module _ (t : Sheet) (f : Figures) (e : End) (ls : List Lash) (m : ℕ) (few : length (lashesOf e t) ≡ m) (each : (j : ℕ) → j < m → getD (lashesOf e t) j blankLash ≡ getD ls j blankLash) where

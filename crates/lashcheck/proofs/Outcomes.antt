@@ -11,7 +11,7 @@ use Rattle.sheet.specs.Layout.{sheetOf}
 use Rattle.sheet.specs.Refusals.{refusal}
 use Rattle.answer.specs.declared.Outcome.{Outcome}
 use Rattle.answer.specs.declared.Outcome.the-variants.{Taken, Refused}
-use Rattle.answer.specs.Checked.{AnswerTo, CheckedAs, Checked, number, second}
+use Rattle.answer.specs.Checked.{AnswerTo, AnsweredAs, Checked, number, second}
 use Rattle.answer.proofs.Numbers.{Numbers, numbers}
 use Rattle.lashcheck.specs.Lines.{Line}
 use Rattle.lashcheck.specs.Replies.{ReplyAs, Reply}
@@ -21,9 +21,9 @@ module _ {margin : ℕ} {s before after : List ℕ} {o : Outcome} (room : length
   pub answer-fits : {n : ℕ} → o ≡ Taken n → n ≤ 834
   answer-fits is = subst Numbers is (numbers c) .next
 
-  by-refusal : {bytes : List ℕ} → ((q : Reading) → CheckedAs q margin (sheetOf s) before after o → ReplyAs q margin (sheetOf s) bytes) → Reply margin s bytes
+  by-refusal : {bytes : List ℕ} → ((q : Reading) → AnsweredAs q margin (classRule (sheetOf s)) (sheetOf s) before after o → ReplyAs q margin (sheetOf s) bytes) → Reply margin s bytes
   by-refusal f =
-      record { holds = f (refusal s 834) (subst (λ (n : ℕ). CheckedAs (refusal s n) margin (sheetOf s) before after o) room (c .holds)) }
+      record { holds = f (refusal s 834) (subst (λ (n : ℕ). AnsweredAs (refusal s n) margin (sheetOf s) before after o) room (c .holds)) }
 
   pub reply-taken : {n : ℕ} → o ≡ Taken n → Reply margin s (take n after)
   reply-taken {n} is = by-refusal go
@@ -31,7 +31,7 @@ module _ {margin : ℕ} {s before after : List ℕ} {o : Outcome} (room : length
       other : {p q : ℕ} → Taken n ≡ Refused p q → ⊥
       other e = let z : _≡_ {A = ℕ} 0 1 = cc in omega arith
 
-      go : (q : Reading) → CheckedAs q margin (sheetOf s) before after o → ReplyAs q margin (sheetOf s) (take n after)
+      go : (q : Reading) → AnsweredAs q margin (classRule (sheetOf s)) (sheetOf s) before after o → ReplyAs q margin (sheetOf s) (take n after)
       go (R.Refused number second) h = absurd (other (sym is ∙ h .refused))
       go R.Taken h =
           let size : n ≡ length (h .bytes) = ap second (sym is ∙ h .taken) in
@@ -44,7 +44,7 @@ module _ {margin : ℕ} {s before after : List ℕ} {o : Outcome} (room : length
       other : {n : ℕ} → Refused p q ≡ Taken n → ⊥
       other e = let z : _≡_ {A = ℕ} 0 1 = cc in omega arith
 
-      go : (x : Reading) → CheckedAs x margin (sheetOf s) before after o → ReplyAs x margin (sheetOf s) bytes
+      go : (x : Reading) → AnsweredAs x margin (classRule (sheetOf s)) (sheetOf s) before after o → ReplyAs x margin (sheetOf s) bytes
       go (R.Refused number' second') h =
           let e : Refused p q ≡ Refused number' second' = sym is ∙ h .refused in
           rw (ap number e, ap second e) at line

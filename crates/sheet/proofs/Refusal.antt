@@ -58,7 +58,7 @@ module _ (s : List ℕ) (own : List Row) (needed room : ℕ) where
         first-taken (first own) (first (row13 needed room ∷ [])) (sym (past-sheet ∙ first-append own (row13 needed room ∷ [])) ∙ e)
 
     module _ (clear : first own ≡ Taken) where
-      last : refusalOf s own needed room ≡ first (row13 needed room ∷ [])
+      pub last : refusalOf s own needed room ≡ first (row13 needed room ∷ [])
       last = past-sheet ∙ behind-taken own (row13 needed room ∷ []) clear
 
       -- then a short buffer
@@ -88,6 +88,9 @@ module _ (s : List ℕ) (room : ℕ) where
   sheet-taken e = sym (decoded-reading s) ∙ sheet-taken-of s [] longestAnswer room (sym is ∙ e)
 
   module _ (taken : decoded s .reading ≡ Taken) where
+    pub room-last : refusal s room ≡ first (row13 longestAnswer room ∷ [])
+    room-last = is ∙ last s [] longestAnswer room taken no-rows
+
     pub room-short : room < longestAnswer → refusal s room ≡ Refused 13 longestAnswer
     room-short h = is ∙ refused-for-room s [] longestAnswer room taken no-rows h
 

@@ -1,22 +1,24 @@
 -- The answer's bytes as the code writes them: the verdict, the two ends, the findings behind their count.
-use mathlib.Core.Path.{_≡_, refl, ap, _∙_}
-use mathlib.Core.Bool.{cond}
+use mathlib.Core.Path.{_≡_, refl, sym, ap, _∙_}
+use mathlib.Core.Bool.{true, cond, true≢false}
+use native.Mathlib.Nat.{lt-of-not-le}
 use mathlib.Core.List.{List, [], _∷_, flatMap}
-use Prim.Native.Nat.{ℕ, suc, _+_, _-_, _*_, _≤_}
+use Prim.Native.Nat.{ℕ, zero, suc, _<_, _+_, _-_, _*_, _≤_}
 use native.Mathlib.Numerals.{add-one}
 use native.Mathlib.Omega.{arith}
 use borrow.Author.Tests.{ne-eqb}
 use lib.Dec.{eqb}
-use lib.ListN.{length, take, replicate, length-append, length-take, length-replicate}
+use lib.ListN.{length, take, replicate, length-take, List·getD-eq-default}
 use lib.Seq.{sets, take-at}
 use Rattle.sheet.specs.declared.Lash.{Lash}
 use Rattle.sheet.specs.declared.Sheet.{Sheet}
-use Rattle.sheet.specs.Layout.{blankLash}
-use Rattle.arith.specs.Lists.{padded}
-use Rattle.sheet.specs.Fits.{Fits, Padded}
+use Rattle.sheet.specs.Layout.{blankLash, lashFits}
+use Rattle.sheet.specs.Fits.{lashAt, EndFits, Fits}
 use Rattle.statics.specs.declared.EndFigures.{EndFigures}
 use Rattle.statics.specs.declared.Figures.{Figures}
 use Rattle.sheet.specs.Ends.{End, door, closed, lashesOf}
+use Rattle.statics.specs.Forces.{Force}
+use Rattle.statics.specs.Reported.{reportedSize, Fitting}
 use Rattle.answer.specs.Findings.{Finding, findings, verdict}
 use Rattle.answer.specs.Answers.{endBytes, answerBytes, findingBytes}
 use Rattle.answer_findings.specs.declared.Found.{Found}
@@ -29,6 +31,10 @@ use Rattle.stack_check.proofs.Stores.{run, then}
 pub end-is : (t : Sheet) (e : End) (f : EndFigures) (m : ℕ) → length (lashesOf e t) ≡ m → endBytes t e f ≡ endBytesOf (t .ntiers) m f
 unfolding endBytes endBytesOf
 end-is t e f m few = rw (few, add-one (t .ntiers)) refl
+
+-- a figure fits four bytes
+pub fits-four : {f : EndFigures} → Fitting f → (x : Force) (i : ℕ) → reportedSize x f i < 4294967296
+fits-four h x i = omega (arith, h .small x i)
 
 -- the verdict, by the count of findings
 verdict-is : (fs : List Finding) → cond (eqb (length fs) 0) 0 1 ≡ verdict fs
@@ -69,21 +75,26 @@ module _ (t : Sheet) (f : Figures) (s : Sized t) {r : Found} (is : r ≡ found t
       rw (end-is t door (f .door) (t .ndoor) (s .door-lashes), end-is t closed (f .closed) (t .nclosed) (s .closed-lashes))
       (then (then (then mark a) b) (then count (rw bytes-are at h)))
 
--- an end has as many lashes as are counted
-lashes-full : (ls : List Lash) (n : ℕ) → ls ≡ padded 8 blankLash (take n ls) → n ≤ 8 → length (take n ls) ≡ n
-lashes-full ls n e h =
-    let short : length (take n ls) ≤ n = rw (length-take n ls) (omega arith) in
-    let rest = 8 - length (take n ls) in
-    let whole : length ls ≡ 8 = ap length e ∙ length-append (take n ls) (replicate rest blankLash) ∙ omega (arith, length-replicate rest blankLash) in
-    length-take n ls ∙ rw whole (omega arith)
+-- an end has as many lashes as are counted: the last is none that is blank
+module _ {n : ℕ} {lashes : List Lash} {count : ℕ} (f : EndFits n lashes count) where
+  last : (k : ℕ) → count ≡ suc k → k < length lashes
+  unfolding lashFits
+  last k e = lt-of-not-le (λ h. true≢false (sym (f .fits k (omega arith)) ∙ ap lashFits (List·getD-eq-default lashes blankLash h)))
 
--- a sheet within document 01's limits, with its arrays blank behind the counts
-pub sized : (t : Sheet) → Fits t → Padded t → Sized t
-sized t f p =
+  lashes-full : length (take count lashes) ≡ count
+  lashes-full = omega (arith, length-take count lashes, all count refl)
+    where
+      all : (k : ℕ) → count ≡ k → k ≤ length lashes
+      all zero e = omega arith
+      all (suc k) e = last k e
+
+-- a sheet within document 01's limits
+pub sized : {t : Sheet} → Fits t → Sized t
+sized f =
     record {
       tiers = f .few;
       door-few = f .door .few;
       closed-few = f .closed .few;
-      door-lashes = lashes-full (t .door) (t .ndoor) (p .door) (f .door .few);
-      closed-lashes = lashes-full (t .closed) (t .nclosed) (p .closed) (f .closed .few);
+      door-lashes = lashes-full (f .door);
+      closed-lashes = lashes-full (f .closed);
     }

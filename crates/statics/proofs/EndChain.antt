@@ -7,7 +7,7 @@ use native.Mathlib.Omega.{arith}
 use lib.ListN.{getD, length, List·getD-eq-default}
 use lib.IntN.{pos}
 use Rattle.sheet.specs.Layout.{blankTier}
-use Rattle.arith.specs.Fractions.{nat, recip, _⊏_}
+use Rattle.arith.specs.Fractions.{nat, recip, _/q_, _⊏_}
 use Rattle.springs.specs.Equations as S
 use Rattle.springs.specs.Equations.{loadAt}
 use Rattle.springs.specs.Promise.{Rounded}
@@ -110,6 +110,20 @@ class-stands {t} f =
       factor = record { cross = ap pos (omega arith) };
       share-most = omega arith;
       factor-most = omega (arith, percent-most f);
+    }
+
+-- the rule in fractions that whole numbers stand for
+abbrev pub exactRule : LoadRule → Rule
+exactRule c = record { share = nat (c .share) /q nat 20; factor = nat (c .factor) /q nat 1000 }
+
+pub exact-stands : {c : LoadRule} → c .share ≤ 20 → c .factor ≤ 1000 → StandsFor c (exactRule c)
+unfolding recip
+exact-stands s f =
+    record {
+      share = record { cross = ap pos (omega arith) };
+      factor = record { cross = ap pos (omega arith) };
+      share-most = s;
+      factor-most = f;
     }
 
 -- the load on a level of an end

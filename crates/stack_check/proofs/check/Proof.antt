@@ -1,8 +1,15 @@
--- `stack_check::check`: the refusals in their order, then the answer.
-use Rattle.stack_check.proofs.CheckLaws.{refused, short-room, taken-fits, taken-sized, taken}
+-- `stack_check::check`: the refusals in their order, then the answer (CheckLaws).
+use Rattle.stack_check.proofs.CheckLaws.{refused, taken-fits, taken}
 use borrow.Author.Needs.{needs}
 use Rattle.stack_check.proofs.check.Statement.{statement}
 use Rattle.stack_check.proofs.check.Tie as tie
+
+-- from each step to the one before it
+abbrev entered : tie.After-decode → tie.Start
+entered c = c .before .before .before
+
+abbrev decoded : tie.After-class-rule → tie.After-decode
+decoded c = c .before .before .before .before
 
 decode-requires : tie.Need-decode-requires
 decode-requires c κs = search needs
@@ -13,49 +20,40 @@ enum-known-reading c = search needs
 enum-told : tie.Need-enum-told
 enum-told c = search needs
 
-returns : tie.Need-returns
-returns c =
+class-rule-requires : tie.Need-class-rule-requires
+class-rule-requires c κs =
     let m = c .before in
     let d = m .before .before in
-    let a = d .before .before .before .args in
-    short-room (a .sheet .now) (a .answer .now) (d .decode .result) (d .decode .ensures) (m .enum-told .given .1) (c .if1 .taken) _
-
-figures-of-requires : tie.Need-figures-of-requires
-figures-of-requires c κs =
-    let m = c .before .before in
-    let d = m .before .before in
-    let a = d .before .before .before .args in
+    let a = entered d .args in
     taken-fits (a .sheet .now) (a .answer .now) (d .decode .result) (d .decode .ensures) (m .enum-told .given .1)
 
-write-answer-requires : tie.Need-write-answer-requires
-write-answer-requires c κs =
-    let m = c .before .before .before .before in
+answer-to-requires : tie.Need-answer-to-requires
+answer-to-requires c κs =
+    let r = c .before in
+    let m = r .before .before in
     let d = m .before .before in
-    let a = d .before .before .before .args in
-    let f = c .before .figures-of .ensures in
-    (taken-sized (a .sheet .now) (a .answer .now) (d .decode .result) (d .decode .ensures) (m .enum-told .given .1), f .0 .fits, f .1 .fits, c .before .before .before .if1 .left)
+    let a = entered d .args in
+    let e = r .class-rule .ensures in
+    (taken-fits (a .sheet .now) (a .answer .now) (d .decode .result) (d .decode .ensures) (m .enum-told .given .1), e .1, e .2)
 
-returns-2 : tie.Need-returns-2
-returns-2 c =
+returns : tie.Need-returns
+returns c =
     let d = c .before .before .before in
-    let a = d .before .before .before .args in
-    refused (a .sheet .now) (a .answer .now) (d .decode .result) (d .decode .ensures) (c .before .reading .given .1) _
+    let a = entered d .args in
+    refused (a .sheet .now) (a .answer .now) (d .decode .result) (d .decode .ensures) (c .before .reading .given .1)
 
 same-length : tie.Need-same-length
 same-length c = search needs
 
-returns-3 : tie.Need-returns-3
-returns-3 c =
+returns-2 : tie.Need-returns-2
+returns-2 c =
     let w = c .before .before in
-    let f = w .before .before in
-    let l = f .before .before in
-    let m = l .before in
+    let r = w .before .before in
+    let m = r .before .before in
     let d = m .before .before in
-    let a = d .before .before .before .args in
-    let p = w .write-answer .ensures in
-    let g = f .figures-of .ensures in
+    let a = entered d .args in
     taken (a .sheet .now) (a .answer .now) (d .decode .result) (d .decode .ensures) (m .enum-told .given .1)
-    (l .if1 .left) (p .0) (p .1) (g .0) (g .1)
+    (r .class-rule .ensures .0) (w .answer-to .ensures .1)
 
 pub check-spec : {M : Type 1} → statement M
 check-spec =
@@ -64,9 +62,8 @@ check-spec =
     decode-requires
     enum-known-reading
     enum-told
+    class-rule-requires
+    answer-to-requires
     returns
-    figures-of-requires
-    write-answer-requires
-    returns-2
     same-length
-    returns-3)
+    returns-2)

@@ -1,7 +1,9 @@
 -- `stack_check::encode::write_end` writes the four sections one behind another.
 use native.Mathlib.Omega.{arith}
 use Rattle.stack_check.specs.inner.Encoding.{endBytesOf}
+use Rattle.statics.specs.Forces as F
 use Rattle.stack_check.proofs.Stores.{then}
+use Rattle.stack_check.proofs.AnswerLaws.{fits-four}
 use borrow.Author.Needs.{needs}
 use Rattle.stack_check.proofs.encode.write_end.Statement.{statement}
 use Rattle.stack_check.proofs.encode.write_end.Tie as tie
@@ -13,10 +15,15 @@ add-write-figures : tie.Need-add-write-figures
 add-write-figures c = search needs
 
 write-figures-requires : tie.Need-write-figures-requires
-write-figures-requires c κs = search needs
+write-figures-requires c κs =
+    let b = c .before .before .before .before .before .before .before .before .before .before .before .before in
+    search (needs, fits-four (b .pre .3) F.compression)
 
 write-figures-requires-2 : tie.Need-write-figures-requires-2
-write-figures-requires-2 c κs = search needs
+write-figures-requires-2 c κs =
+    let p = c .before .before .before .before .before .before .before in
+    let b = p .before .before .before .before .before .before .before .before .before .before .before .before in
+    search (needs, fits-four (b .pre .3) F.tension)
 
 write-lashes-requires : tie.Need-write-lashes-requires
 write-lashes-requires c κs =
@@ -28,7 +35,7 @@ write-lashes-requires c κs =
     let pulls = c .before .before .before .before .write-lashes-arg3 .given .0 in
     let athwarts = c .before .before .write-lashes-arg5 .given .0 in
     let verticals = c .write-lashes-arg7 .given .0 in
-    (q .1, omega arith, omega arith, omega arith, omega arith, q .3 .pull, q .3 .athwart, q .3 .vertical)
+    (q .1, omega arith, omega arith, omega arith, omega arith, fits-four (q .3) F.lashTension, fits-four (q .3) F.lashAthwart, fits-four (q .3) F.lashVertical)
 
 same-length : tie.Need-same-length
 same-length c = search needs
