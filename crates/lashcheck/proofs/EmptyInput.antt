@@ -34,7 +34,7 @@ line : {text : List ℕ} → Line 1 0 text → text ≡ 49 ∷ 32 ∷ 48 ∷ 10 
 line l = l .whole ∙ rw (decimal 1 (omega arith) (l .left-in), decimal 0 (omega arith) (l .right-in))
 
 short : refusal [] 834 ≡ R.Refused 1 0
-unfolding refusal first
+unfolding refusal refusalOf first
 short = refl
 
 pub empty-input : {margin : ℕ} {bytes : List ℕ} → Reply margin [] bytes → bytes ≡ 49 ∷ 32 ∷ 48 ∷ 10 ∷ []

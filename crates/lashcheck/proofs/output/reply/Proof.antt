@@ -22,14 +22,14 @@ returns : tie.Need-returns
 returns c =
     let check = c .before .before .before .check in
     let is = c .before .outcome .given .1 in (
-      counts-of (c .before .outcome .given .0 .0) (check .last .1 .0) (omega (arith, answer-fits (omega arith) (check .ensures) is)),
-      reply-taken (omega arith) (check .ensures) is,
+      counts-of (c .before .outcome .given .0 .0) (check .last .1 .0) (omega (arith, answer-fits (omega arith) (check .ensures .0) is)),
+      reply-taken (omega arith) (check .ensures .0) is,
     )
 
 returns-2 : tie.Need-returns-2
 returns-2 c = (
   c .put-line .ensures .0,
-  reply-refused (omega arith) (c .before .before .before .before .before .check .ensures) (c .before .before .before .outcome2 .given .1)
+  reply-refused (omega arith) (c .before .before .before .before .before .check .ensures .0) (c .before .before .before .outcome2 .given .1)
       (c .put-line .ensures .1),
 )
 
