@@ -20,14 +20,14 @@ cast-result c = search needs
 
 mul-result-2 : tie.Need-mul-result-2
 mul-result-2 c =
-    let b = c .before .before .before .before .before in
+    let b = c .before .before .before .before in
     omega (arith, mul-le-mul (c .before .box-length .ensures .1) (b .pre .height))
 
 returns : tie.Need-returns
 unfolding gust
 returns c =
     let e = c .before .box-length .ensures in
-    let b = c .before .before .before .before .before in
+    let b = c .before .before .before .before in
     (simp (← c .before .before .before .exposed .ensures, c .before .before .if1 .taken, e .0), omega (arith, mul-le-mul (e .1) (b .pre .height)))
 
 returns-2 : tie.Need-returns-2
