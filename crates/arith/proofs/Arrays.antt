@@ -31,8 +31,8 @@ module _ {A : Type 0} (f : ℕ → A) (b : A) where
   entry i (suc n) zero h = ap f (sym (add-zero i))
   entry i (suc n) (suc k) h = entry (suc i) n k (omega (arith, h)) ∙ ap f (suc-add i k ∙ sym (add-suc i k))
 
-  pub held : (n size k : ℕ) → k < n → getD (padded size b (map f (below n))) k b ≡ f k
-  held n size k h =
+  pub entry-at : (n size k : ℕ) → k < n → getD (padded size b (map f (below n))) k b ≡ f k
+  entry-at n size k h =
       List·getD-append (map f (below n)) (replicate (size - length (map f (below n))) b) b k (rw (length-entries n) h)
       ∙ entry 0 n k h
       ∙ ap f (zero-add k)
