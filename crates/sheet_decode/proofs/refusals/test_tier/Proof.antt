@@ -66,9 +66,9 @@ returns-4 c =
     let t = tier (b .before) in
     let size = tier-size (begun t .args .s .now) 9 in
     sym (
-      fits (b .before)
-      ∙ row-passed _ _ (simp (size, ← t .tier-of .ensures, ← b .field1 .ensures, eq-eqb _ _ (c .if3 .left)))
-      ∙ no-rows)
+    fits (b .before)
+    ∙ row-passed _ _ (simp (size, ← t .tier-of .ensures, ← b .field1 .ensures, eq-eqb _ _ (c .if3 .left)))
+    ∙ no-rows)
 
 pub test-tier-spec : {M : Type 1} → statement M
 test-tier-spec =
