@@ -6,7 +6,8 @@
 --
 -- `∀₃` (to ∀₁₂, ∀₁₄, ∀₁₆) names the variables v 0, v 1, v 2, in their order. `simp zq` reads the statement: sums, differences, products,
 -- negations and whole numbers, joined by ≡ or ≼. Over ℚ it is ℚR, `simp qq`, ≤ℚ and `int (pos 3)`; over a ring R that is a variable, R and
--- `simp gq`. `λ h l.` takes the hypotheses. A quotient or an absolute value in a statement becomes a variable with what is known of it as hypotheses.
+-- `simp gq`. `λ h l.` takes the hypotheses. A quotient or an absolute value in a statement becomes a variable with what is known of it as
+-- hypotheses.
 --
 -- Closers, each with a last argument `tt`, for which antt computes that nothing is left over:
 --     by-ring tt       an identity

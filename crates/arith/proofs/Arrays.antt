@@ -1,13 +1,13 @@
--- An array of blanks, set entry by entry from the front, is the entries and then blanks.
+-- An array of blanks, set entry by entry from the front, is the entries and then blanks; the counted bytes of its entries.
 use Prim.Native.Nat.{ℕ, zero, suc, _+_, _-_, _<_, _≤_}
-use mathlib.Core.List.{List, [], _∷_, _++_, map, append-assoc}
+use mathlib.Core.List.{List, [], _∷_, _++_, map, flatMap, append-assoc}
 use mathlib.Core.Path.{_≡_, refl, sym, ap, _∙_}
 use native.Mathlib.Nat.{add-zero, add-suc, suc-add, zero-add}
 use native.Mathlib.Numerals.{add-one}
 use native.Mathlib.Omega.{arith}
 use lib.ListN.{length, getD, List·getD-append, set, take, replicate, length-append, length-map, length-replicate, length-take}
-use lib.Seq.{set-at, ext-getD}
-use Rattle.arith.specs.Lists.{from, below, padded}
+use lib.Seq.{set-at, ext-getD, getD-take}
+use Rattle.arith.specs.Lists.{from, below, padded, counted}
 
 pub length-from : (i n : ℕ) → length (from i n) ≡ n
 unfolding from
@@ -31,8 +31,8 @@ module _ {A : Type 0} (f : ℕ → A) (b : A) where
   entry i (suc n) zero h = ap f (sym (add-zero i))
   entry i (suc n) (suc k) h = entry (suc i) n k (omega (arith, h)) ∙ ap f (suc-add i k ∙ sym (add-suc i k))
 
-  pub held : (n size k : ℕ) → k < n → getD (padded size b (map f (below n))) k b ≡ f k
-  held n size k h =
+  pub entry-at : (n size k : ℕ) → k < n → getD (padded size b (map f (below n))) k b ≡ f k
+  entry-at n size k h =
       List·getD-append (map f (below n)) (replicate (size - length (map f (below n))) b) b k (rw (length-entries n) h)
       ∙ entry 0 n k h
       ∙ ap f (zero-add k)
@@ -69,3 +69,19 @@ full size b l n e h =
     let short : length (take n l) ≤ n = rw (length-take n l) (omega arith) in
     let whole : length l ≡ size = ap length e ∙ length-padded size b (take n l) (omega arith) in
     length-take n l ∙ rw whole (omega arith)
+
+-- the counted bytes of a list's entries, by the list
+flat-map : {A : Type 0} (bytes : A → List ℕ) (f : ℕ → A) (ns : List ℕ) → flatMap (λ k. bytes (f k)) ns ≡ flatMap bytes (map f ns)
+unfolding flatMap
+flat-map bytes f [] = refl
+flat-map bytes f (n ∷ ns) = ap {B = List ℕ} (λ l. bytes (f n) ++ l) (flat-map bytes f ns)
+
+pub counted-entries :
+    {A : Type 0} (bytes : A → List ℕ) (b : A) (l : List A) (n : ℕ) →
+    length (take n l) ≡ n →
+    counted n (λ k. bytes (getD l k b)) ≡ n ∷ flatMap bytes (take n l)
+counted-entries {A} bytes b l n e =
+    let at : ℕ → A = λ k. getD l k b in
+    ap {B = List ℕ} (λ s. n ∷ s)
+    (flat-map bytes at (below n)
+    ∙ ap {B = List ℕ} (flatMap bytes) (entries-are at b (take n l) n e (λ k q. sym (getD-take n l k b q))))

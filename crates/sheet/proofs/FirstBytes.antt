@@ -21,7 +21,7 @@ use Rattle.sheet.specs.Refusals.{first, headRows, tierCountRows, tierRow
 use Rattle.sheet.specs.Refusals.{closedRows, sheetRows, unlessRefused, decoded, refusalOf, longestAnswer, refusal}
 use Rattle.sheet.specs.Theorems.{FirstBytesDecide}
 use Rattle.sheet.proofs.Items.{count-fits}
-use Rattle.sheet.proofs.Rows.{orElse, first-append}
+use Rattle.sheet.proofs.Rows.{row-holds, row-passed, orElse, first-append}
 use Rattle.sheet.proofs.Clear.{clear, few-tiers, few-lashes}
 use Rattle.sheet.proofs.Refusal.{refusal-of}
 
@@ -61,12 +61,10 @@ each f g i (suc left) m b h =
 
 -- 1 does not hold where 452 bytes are there
 enough : (s : List ℕ) → 452 ≤ length s → (at size : ℕ) → at + size ≤ 452 → (rs : List Row) → first (row1 s at size ∷ rs) ≡ first rs
-unfolding first
-enough s l at size h rs = rw (le-ltb (length s) (at + size) (omega arith))
+enough s l at size h rs = row-passed _ rs (le-ltb (length s) (at + size) (omega arith))
 
 spare : (s : List ℕ) → sparePlace s < length s → first (row2 s (sparePlace s) ∷ []) ≡ Refused 2 (sparePlace s)
-unfolding first
-spare s h = rw (lt-ltb (sparePlace s) (length s) h)
+spare s h = row-holds _ [] (lt-ltb (sparePlace s) (length s) h)
 
 same-decoded : (r q : Reading) (t u : Sheet) → Alike r q → unlessRefused r t ≡ unlessRefused q u
 same-decoded r q t u a = rw (a .left, a .right)

@@ -22,20 +22,20 @@ abbrev key : Lash → ℕ
 key l = 4 * l .tier + 2 * l .hook + l .kind
 
 -- 1 where two numbers are equal, else 0; how often a number stands in a list
-unfoldable one : ℕ → ℕ → ℕ
-one a b = cond (eqb a b) 1 0
+unfoldable match : ℕ → ℕ → ℕ
+match a b = cond (eqb a b) 1 0
 
 unfoldable count : ℕ → List ℕ → ℕ
 count a [] = 0
-count a (b ∷ bs) = one a b + count a bs
+count a (b ∷ bs) = match a b + count a bs
 
-one-same : (a b : ℕ) → a ≡ b → one a b ≡ 1
-unfolding one
-one-same a b e = simp (eq-eqb a b e)
+same-counts : (a b : ℕ) → a ≡ b → match a b ≡ 1
+unfolding match
+same-counts a b e = simp (eq-eqb a b e)
 
-one-other : (a b : ℕ) → a < b → one a b ≡ 0
-unfolding one
-one-other a b h = simp (ne-eqb a b (λ e. omega (arith, h, e)))
+other-counts : (a b : ℕ) → a < b → match a b ≡ 0
+unfolding match
+other-counts a b h = simp (ne-eqb a b (λ e. omega (arith, h, e)))
 
 -- each number of the list is at least m, and above the one before it
 abbrev Rising : ℕ → List ℕ → Type 0
@@ -45,10 +45,10 @@ Rising m (b ∷ bs) = (m ≤ b) × Rising (suc b) bs
 none : (a m : ℕ) (bs : List ℕ) → a < m → Rising m bs → count a bs ≡ 0
 unfolding count
 none a m [] h r = refl
-none a m (b ∷ bs) h r = omega (arith, one-other a b (omega (arith, r .0)), none a (suc b) bs (omega (arith, r .0)) (r .1))
+none a m (b ∷ bs) h r = omega (arith, other-counts a b (omega (arith, r .0)), none a (suc b) bs (omega (arith, r .0)) (r .1))
 
 once : (a m : ℕ) (bs : List ℕ) → Rising m bs → count a bs ≤ 1
-unfolding count one
+unfolding count match
 once a m [] r = omega arith
 once a m (b ∷ bs) r = go (eqb a b) refl (once a (suc b) bs (r .1))
   where
@@ -151,7 +151,7 @@ at-most i W {n} {lashes} {c} e f =
 -- the keys of a lash at level i: a top hook of tier i, a bottom hook of tier i + 1
 hit : (W : List ℕ) (a b : ℕ) → a ≡ b → 1 ≤ counts (a ∷ W) (b ∷ [])
 unfolding counts count
-hit W a b e = omega (arith, one-same a b e)
+hit W a b e = omega (arith, same-counts a b e)
 
 skip : (W : List ℕ) (a b : ℕ) → 1 ≤ counts W (b ∷ []) → 1 ≤ counts (a ∷ W) (b ∷ [])
 unfolding counts

@@ -54,68 +54,68 @@ module _ (c p : ℕ) where
       (λ _. each-within f (suc i) left n (omega (arith, b)) h)
 
 module _ (s : List ℕ) where
-  abbrev Small : List Row → Type 0
-  Small rs = Within 12 451 (first rs)
+  abbrev Bounded : List Row → Type 0
+  Bounded rs = Within 12 451 (first rs)
 
-  none : Small []
+  none : Bounded []
   unfolding first
   none = tt
 
   -- a row whose number is n and whose second number is at most 451
-  plain : (r : Row) (rs : List Row) → 1 ≤ r .number → r .number ≤ 12 → r .second ≤ 451 → Small rs → Small (r ∷ rs)
+  plain : (r : Row) (rs : List Row) → 1 ≤ r .number → r .number ≤ 12 → r .second ≤ 451 → Bounded rs → Bounded (r ∷ rs)
   plain r rs a b d k = row-within 12 451 r rs (λ _. (a, b, d)) k
 
   -- 1 is told of a sheet of fewer bytes than the item's end
-  short : (at size : ℕ) (rs : List Row) → at + size ≤ 452 → Small rs → Small (row1 s at size ∷ rs)
+  short : (at size : ℕ) (rs : List Row) → at + size ≤ 452 → Bounded rs → Bounded (row1 s at size ∷ rs)
   short at size rs h k =
       row-within 12 451 (row1 s at size) rs (λ e. (omega arith, omega arith, omega (arith, ltb-true (length s) (at + size) e))) k
 
-  head-small : Small (headRows s)
-  head-small =
+  head-bounded : Bounded (headRows s)
+  head-bounded =
       short 0 8 _ (omega arith)
       (plain _ _ (omega arith) (omega arith) (omega arith)
       (plain _ _ (omega arith) (omega arith) (omega arith) (plain _ [] (omega arith) (omega arith) (omega arith) none)))
 
-  tier-small : (k : ℕ) → k < 10 → Small (tierRows s k)
-  tier-small k h =
+  tier-bounded : (k : ℕ) → k < 10 → Bounded (tierRows s k)
+  tier-bounded k h =
       short (tierPlace k) 12 _ (omega arith)
       (plain _ _ (omega arith) (omega arith) (omega arith) (plain _ [] (omega arith) (omega arith) (omega arith) none))
 
-  tiers-small : Small (tiersRows s)
-  tiers-small =
+  tiers-bounded : Bounded (tiersRows s)
+  tiers-bounded =
       parts-within 12 451 (tierCountRows s) (flatMap (tierRows s) (below (tierCount s)))
       (short 8 1 _ (omega arith) (plain _ [] (omega arith) (omega arith) (omega arith) none))
       (λ e.
       let few : tierCount s ≤ 10 = count-fits (tierCount s) (clear (tierCountRows s) e .1 .0) .1 in
-      each-within 12 451 (tierRows s) 0 (tierCount s) 10 (omega arith) tier-small)
+      each-within 12 451 (tierRows s) 0 (tierCount s) 10 (omega arith) tier-bounded)
 
   -- an end whose count stands at 290 or before, as the closed end's does at the latest
   module _ (n at : ℕ) (place : at ≤ 290) where
-    lash-small : (k : ℕ) → k < 8 → Small (lashRows n s at k)
-    lash-small k h =
+    lash-bounded : (k : ℕ) → k < 8 → Bounded (lashRows n s at k)
+    lash-bounded k h =
         short (lashPlace at k) 20 _ (omega arith)
         (plain _ _ (omega arith) (omega arith) (omega arith)
         (plain _ _ (omega arith) (omega arith) (omega arith) (plain _ [] (omega arith) (omega arith) (omega arith) none)))
 
-    end-small : Small (endRows n s at)
-    end-small =
+    end-bounded : Bounded (endRows n s at)
+    end-bounded =
         parts-within 12 451 (lashCountRows s at) (flatMap (lashRows n s at) (below (byteAt s at)))
         (short at 1 _ (omega arith) (plain _ [] (omega arith) (omega arith) (omega arith) none))
         (λ e.
         let few : byteAt s at ≤ 8 = ltb-false 8 (byteAt s at) (clear (lashCountRows s at) e .1 .0) in
-        each-within 12 451 (lashRows n s at) 0 (byteAt s at) 8 (omega arith) lash-small)
+        each-within 12 451 (lashRows n s at) 0 (byteAt s at) 8 (omega arith) lash-bounded)
 
-  sheet-small : Small (sheetRows s)
-  sheet-small =
-      parts-within 12 451 (headRows s) _ head-small
+  sheet-bounded : Bounded (sheetRows s)
+  sheet-bounded =
+      parts-within 12 451 (headRows s) _ head-bounded
       (λ _.
-      parts-within 12 451 (tiersRows s) _ tiers-small
+      parts-within 12 451 (tiersRows s) _ tiers-bounded
       (λ t.
       let tiers : tierCount s ≤ 10 = few-tiers s (clear (tiersRows s) t) in
-      parts-within 12 451 (doorRows s) _ (end-small (tierCount s) (doorPlace s) (omega arith))
+      parts-within 12 451 (doorRows s) _ (end-bounded (tierCount s) (doorPlace s) (omega arith))
       (λ d.
       let door : byteAt s (doorPlace s) ≤ 8 = few-lashes (tierCount s) s (doorPlace s) (clear (doorRows s) d) in
-      parts-within 12 451 (closedRows s) _ (end-small (tierCount s) (closedPlace s) (omega arith))
+      parts-within 12 451 (closedRows s) _ (end-bounded (tierCount s) (closedPlace s) (omega arith))
       (λ c.
       let closed : byteAt s (closedPlace s) ≤ 8 = few-lashes (tierCount s) s (closedPlace s) (clear (closedRows s) c) in
       plain _ [] (omega arith) (omega arith) (omega arith) none))))
@@ -125,7 +125,7 @@ pub sheet-numbers :
     (s : List ℕ) {number second : ℕ} →
     first (sheetRows s) ≡ Refused number second →
     (1 ≤ number) × (number ≤ 12) × (second ≤ 451)
-sheet-numbers s e = subst (Within 12 451) e (sheet-small s)
+sheet-numbers s e = subst (Within 12 451) e (sheet-bounded s)
 
 wider : {c p : ℕ} → 12 ≤ c → 451 ≤ p → (q : Reading) → Within 12 451 q → Within c p q
 wider a b Taken w = tt
@@ -146,7 +146,7 @@ module _ (c p : ℕ) (table : 13 ≤ c) (places : 451 ≤ p) (s : List ℕ) (own
   unfolding refusalOf first
   call-numbers e =
       subst (Within c p) e
-      (parts-within c p (sheetRows s) (own ++ (row13 needed room ∷ [])) (wider (omega arith) places (first (sheetRows s)) (sheet-small s))
+      (parts-within c p (sheetRows s) (own ++ (row13 needed room ∷ [])) (wider (omega arith) places (first (sheetRows s)) (sheet-bounded s))
       (λ _.
       parts-within c p own (row13 needed room ∷ []) (within-by c p (first own) owns)
       (λ _. row-within c p (row13 needed room) [] (λ _. (omega arith, table, enough)) tt)))

@@ -9,7 +9,7 @@ use Rattle.sheet.specs.declared.Reading.the-variants.{Taken, Refused}
 use Rattle.sheet.specs.Layout.{sheetOf}
 use Rattle.sheet.specs.Refusals.{Row, first, row13, sheetRows, unlessRefused, decoded, refusalOf, longestAnswer, refusal}
 use Rattle.sheet.proofs.Clear.{not-taken}
-use Rattle.sheet.proofs.Rows.{orElse, first-append, behind-taken, behind-refused}
+use Rattle.sheet.proofs.Rows.{no-rows, row-holds, row-passed, orElse, first-append, behind-taken, behind-refused}
 
 reading-of : (r : Reading) (t : Sheet) → unlessRefused r t .reading ≡ r
 reading-of Taken t = refl
@@ -63,22 +63,16 @@ module _ (s : List ℕ) (own : List Row) (needed room : ℕ) where
 
       -- then a short buffer
       pub refused-for-room : room < needed → refusalOf s own needed room ≡ Refused 13 needed
-      unfolding first
-      refused-for-room h = last ∙ simp (lt-ltb room needed h)
+      refused-for-room h = last ∙ row-holds _ _ (lt-ltb room needed h)
 
       pub all-taken-of : needed ≤ room → refusalOf s own needed room ≡ Taken
-      unfolding first
-      all-taken-of h = last ∙ simp (le-ltb room needed h)
+      all-taken-of h = last ∙ row-passed _ _ (le-ltb room needed h) ∙ no-rows
 
 -- the check
 module _ (s : List ℕ) (room : ℕ) where
   is : refusal s room ≡ refusalOf s [] longestAnswer room
   unfolding refusal
   is = refl
-
-  no-rows : first [] ≡ Taken
-  unfolding first
-  no-rows = refl
 
   pub sheet-refused : {n p : ℕ} → decoded s .reading ≡ Refused n p → refusal s room ≡ Refused n p
   sheet-refused e = is ∙ refused-by-sheet s [] longestAnswer room e

@@ -18,7 +18,7 @@ use Rattle.arith.specs.Lists.{below, padded}
 use Rattle.sheet.specs.Refusals.{notLater, first, endRows, sheetRows, unlessRefused, decoded}
 use Rattle.sheet.specs.Fits.{EndFits, Fits, Padded}
 use Rattle.sheet.specs.Theorems.{TakenWithinLimits}
-use Rattle.arith.proofs.Arrays.{length-entries, held}
+use Rattle.arith.proofs.Arrays.{length-entries, entry-at}
 use Rattle.sheet.proofs.Bools.{or-false}
 use Rattle.sheet.proofs.Clear.{Clear, Parts, parts, not-taken, tier-clear, some-tier, few-tiers, lash-clear, few-lashes}
 use Rattle.sheet.proofs.Clear.{lashes-there}
@@ -26,7 +26,7 @@ use Rattle.sheet.proofs.Refusal.{decoded-sheet}
 
 module _ (n : ℕ) (s : List ℕ) (at : ℕ) (h : Clear (endRows n s at)) where
   lash-held : (k : ℕ) → k < byteAt s at → getD (lashesIn s at (byteAt s at)) k blankLash ≡ lashIn s at k
-  lash-held k q = held (lashIn s at) blankLash (byteAt s at) 8 k q
+  lash-held k q = entry-at (lashIn s at) blankLash (byteAt s at) 8 k q
 
   end-fits : EndFits n (lashesIn s at (byteAt s at)) (byteAt s at)
   unfolding notLater
@@ -67,7 +67,7 @@ taken-fits s e =
     five = or-false (ltb 2 (headOf s .lockMaterial)) (not (breakingFits (headOf s .lockBreakingLoad))) (p .head .1 .1 .1 .0)
 
     tier-held : (k : ℕ) → k < tierCount s → getD (tiersIn s (tierCount s)) k blankTier ≡ tierIn s k
-    tier-held k q = held (tierIn s) blankTier (tierCount s) 10 k q
+    tier-held k q = entry-at (tierIn s) blankTier (tierCount s) 10 k q
 
 -- the arrays are blank behind their counts, whatever the bytes
 pub sheet-padded : (s : List ℕ) → Padded (sheetOf s)

@@ -1,12 +1,13 @@
 -- The bytes of a sheet that holds given fields: document 01's layout, written out.
 use Prim.Native.Nat.{ℕ}
-use mathlib.Core.List.{List, _∷_, _++_, flatMap}
-use lib.ListN.{take}
+use mathlib.Core.List.{List, _∷_, _++_}
 use Rattle.arith.specs.Bytes.{bytes2, bytes4}
+use Rattle.arith.specs.Lists.{counted}
 use Rattle.sheet.specs.declared.Head.{Head}
 use Rattle.sheet.specs.declared.Tier.{Tier}
 use Rattle.sheet.specs.declared.Lash.{Lash}
 use Rattle.sheet.specs.declared.Sheet.{Sheet}
+use Rattle.sheet.specs.Fits.{tierAt, lashAt}
 
 abbrev pub headBytes : Head → List ℕ
 headBytes h = h .rule ∷ h .route ∷ h .lockMaterial ∷ h .zero ∷ bytes4 (h .lockBreakingLoad)
@@ -23,13 +24,9 @@ lashBytes l =
     ∷ l .material
     ∷ bytes2 (l .lx) ++ bytes2 (l .ly) ++ bytes2 (l .lz) ++ bytes2 (l .area) ++ bytes4 (l .modulus) ++ bytes4 (l .breakingLoad)
 
--- a count, then as many entries
-abbrev pub counted : {A : Type 0} → (A → List ℕ) → ℕ → List A → List ℕ
-counted bytes n entries = n ∷ flatMap bytes (take n entries)
-
 unfoldable pub written : Sheet → List ℕ
 written t =
     headBytes (t .head)
-    ++ (counted tierBytes (t .ntiers) (t .tiers)
-    ++ (counted lashBytes (t .ndoor) (t .door)
-    ++ counted lashBytes (t .nclosed) (t .closed)))
+    ++ (counted (t .ntiers) (λ k. tierBytes (tierAt (t .tiers) k))
+    ++ (counted (t .ndoor) (λ k. lashBytes (lashAt (t .door) k))
+    ++ counted (t .nclosed) (λ k. lashBytes (lashAt (t .closed) k))))

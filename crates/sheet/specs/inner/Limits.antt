@@ -1,4 +1,5 @@
--- Document 01's limits in numbers: of a tier, of a lash, of an end and of a whole sheet.
+-- For contracts of inner functions: document 01's limits in numbers, of a tier, of a lash, of an end and of a whole sheet. A sheet that
+-- `Fits` has them, which is proved; nothing here need be believed.
 use Prim.Native.Nat.{ℕ, _<_, _≤_}
 use mathlib.Core.List.{List}
 use mathlib.Core.Logic.{_⊎_}

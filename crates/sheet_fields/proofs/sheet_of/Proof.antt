@@ -1,4 +1,5 @@
 -- `sheet_fields::sheet_of`: what a sheet holds: the counts and lengths that its parts need follow from its being taken.
+-- Steps: m where the closed end's lashes are counted, n where the door end's are, b where the tiers are, a at the start.
 use borrow.Author.Needs.{needs}
 use Rattle.sheet.specs.Layout.{sheetOf}
 use Rattle.sheet.proofs.Clear.{parts, head-there, few-tiers, tiers-there, few-lashes, lashes-there}
@@ -22,13 +23,16 @@ byte-at-requires-3 c κs = search needs
 
 head-of-requires : tie.Need-head-of-requires
 head-of-requires c κs =
-    let a = c .before .before .before .before .before .before in
+    let n = c .before .before in
+    let b = n .before .before in
+    let a = b .before .before in
     let s = a .args .s .now in
     head-there s (parts s (a .pre) .head)
 
 tiers-of-requires : tie.Need-tiers-of-requires
 tiers-of-requires c κs =
-    let b = c .before .before .before .before .before in
+    let n = c .before .before .before in
+    let b = n .before .before in
     let a = b .before .before in
     let s = a .args .s .now in
     let t = parts s (a .pre) .tiers in
@@ -36,35 +40,38 @@ tiers-of-requires c κs =
 
 lashes-of-requires : tie.Need-lashes-of-requires
 lashes-of-requires c κs =
-    let m = c .before .before .before .before in
-    let p = m .before in
-    let a = p .before .before .before in
+    let m = c .before .before in
+    let n = m .before .before in
+    let b = n .before .before in
+    let a = b .before .before in
     let s = a .args .s .now in
     let d = parts s (a .pre) .door in
-    rw (m .byte-at2 .ensures .0, p .door-place .ensures .0) (few-lashes _ s _ d, lashes-there _ s _ d)
+    rw (n .byte-at2 .ensures .0, n .before .door-place .ensures .0) (few-lashes _ s _ d, lashes-there _ s _ d)
 
 lashes-of-requires-2 : tie.Need-lashes-of-requires-2
 lashes-of-requires-2 c κs =
     let m = c .before .before .before in
-    let p = m .before in
-    let a = p .before .before .before .before .before in
+    let n = m .before .before in
+    let b = n .before .before in
+    let a = b .before .before in
     let s = a .args .s .now in
     let d = parts s (a .pre) .closed in
-    rw (m .byte-at3 .ensures .0, p .closed-place .ensures .0) (few-lashes _ s _ d, lashes-there _ s _ d)
+    rw (m .byte-at3 .ensures .0, m .before .closed-place .ensures .0) (few-lashes _ s _ d, lashes-there _ s _ d)
 
 returns : tie.Need-returns
 unfolding sheetOf
 returns c =
-    let f = c .before .before .before .before in
-    let n = f .before .before in
+    let t = c .before .before in
+    let m = t .before .before in
+    let n = m .before .before in
     let b = n .before .before in
     rw (
       c .lashes-of2 .ensures,
       c .before .lashes-of .ensures,
-      c .before .before .tiers-of .ensures,
-      c .before .before .before .head-of .ensures,
-      f .byte-at3 .ensures .0,
-      f .before .closed-place .ensures .0,
+      t .tiers-of .ensures,
+      t .before .head-of .ensures,
+      m .byte-at3 .ensures .0,
+      m .before .closed-place .ensures .0,
       n .byte-at2 .ensures .0,
       n .before .door-place .ensures .0,
       b .byte-at .ensures .0,
