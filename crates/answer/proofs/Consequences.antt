@@ -1,4 +1,4 @@
--- What follows for a taken sheet from what `check` says: its answer's bytes, by themselves, tell the forces, the findings and the verdict.
+-- An answer's bytes say by themselves what the exact forces are: the forces read back report them, and findings and verdict are the rule's.
 use mathlib.Core.Path.{_≡_, refl, sym, ap, ap₂, subst, _∙_}
 use mathlib.Core.Bool.{cond}
 use mathlib.Core.List.{List, [], _∷_, _++_, map, flatMap, List·Memᴰ, List·Memᴰ·head, List·Memᴰ·tail}
@@ -6,7 +6,7 @@ use Prim.Native.Nat.{ℕ, zero, suc, _+_, _-_, _≤_, _<_, _^_}
 use native.Mathlib.Omega.{arith}
 use lib.Dec.{ltb}
 use lib.IntN.{pos, natAbs}
-use lib.ListN.{getD, length, drop}
+use lib.ListN.{getD, length}
 use Rattle.arith.specs.Fractions.{Frac}
 use Rattle.sheet.specs.declared.Reading.{Reading}
 use Rattle.sheet.specs.declared.Reading.the-variants.{Taken, Refused}
@@ -25,9 +25,8 @@ use Rattle.statics.proofs.Taken.{facts}
 use Rattle.statics.proofs.Within.{reported-below}
 use Rattle.answer.specs.declared.Outcome.{Outcome}
 use Rattle.answer.specs.Findings.{Kind, racking, compression, cornerTension, lockTension, lashTension, lashVertical, lashAthwart, kinds, Finding, endCode, kindCode, figuresOf, firstIndex, indexCount, reportedSize, limitAt, findingsFrom, endFindings, findings, verdict}
-use Rattle.answer.specs.Answers.{answerBytes}
 use Rattle.arith.specs.Lists.{from, below}
-use Rattle.answer.specs.Checked.{Answered, CheckedAs, Checked}
+use Rattle.answer.specs.Checked.{AnswerTo, Answered, CheckedAs, Checked}
 use Rattle.answer.specs.Places.{EndReadBack, noFinding, ReadBack, reportedIn, figuresIn}
 use Rattle.answer.specs.Consequences.{CheckedAt, Justified, AnswerSays}
 use Rattle.answer.proofs.Accepted as A
@@ -172,30 +171,34 @@ module _ (t : Sheet) (f : Figures) (s : List ℕ) (b : ReadBack t f s) where
       ends door = end-ruled door
       ends closed = end-ruled closed
 
--- what the bytes say of a taken sheet
-module _ {margin : ℕ} (few : margin ≤ 100) {t : Sheet} (facts : Facts t) {before after : List ℕ} {r : Outcome} (a : Answered margin t before after r) where
+-- what an answer's bytes say, whatever stands behind them
+module _ {margin : ℕ} (few : margin ≤ 100) {t : Sheet} (facts : Facts t) {bytes : List ℕ} (a : AnswerTo margin t bytes) (rest : List ℕ) where
   abbrev f : Figures
   f = a .figures
 
   all-signed : (e : End) → Signed t (figuresOf e f)
   all-signed e =
-      signed few facts e (a .one e .shifts) (a .one e .exists) (a .told e .told (a .one e .shifts) (a .one e .exists))
+      let Ds = a .one e .shifts in
+      let s = a .one e .exists in
+      signed few facts e Ds s (a .reports e .told Ds s)
 
-  pub read-back : ReadBack t f after
+  pub read-back : ReadBack t f (bytes ++ rest)
   read-back =
-      subst (λ (s : List ℕ). ReadBack t f s) (sym (a .written))
-      (R.read-back t f (λ e. a .told e .fits) all-signed (drop (length (answerBytes t f)) before))
+      subst (λ (l : List ℕ). ReadBack t f (l ++ rest)) (sym (a .encoded))
+      (R.read-back t f (λ e. a .reports e .fits) all-signed rest)
 
-  pub answer-told : AnswerSays margin t after
-  answer-told =
+  pub says : AnswerSays margin t (bytes ++ rest)
+  says =
+      let s = bytes ++ rest in
       record {
-        reported = λ e Ds s. reported-back t f after read-back e margin Ds (a .told e .told Ds s);
-        ruled = ruled-back t f after read-back;
-        accepted = λ z. A.accepted t f (a .told) (sym (read-back .verdict) ∙ z);
+        reported = λ e Ds z. reported-back t f s read-back e margin Ds (a .reports e .told Ds z);
+        ruled = ruled-back t f s read-back;
+        accepted = λ z. A.accepted t f (a .reports) (sym (read-back .verdict) ∙ z);
         found =
             λ k h.
             let g : k < length (findings t f) = rw (read-back .count) at h in
-            subst (λ (x : Finding). Justified margin t x) (sym (read-back .finding k g)) (A.found t f (a .told) (getD (findings t f) k noFinding) (member (findings t f) k g));
+            subst (λ (x : Finding). Justified margin t x) (sym (read-back .finding k g))
+            (A.found t f (a .reports) (getD (findings t f) k noFinding) (member (findings t f) k g));
       }
 
 -- where a check is not refused, its sheet is not
@@ -210,8 +213,14 @@ sheet-taken s room e = go (first (sheetRows s)) (sym (first-append (sheetRows s)
         never : Refused n p ≡ Taken → ⊥
         never h = let z : _≡_ {A = ℕ} 0 1 = cc in omega arith
 
--- what `check` says of a taken sheet is enough
-pub told : {margin : ℕ} {s before after : List ℕ} {r : Outcome} → margin ≤ 100 → refusal s (length before) ≡ Taken → Checked margin s before after r → AnswerSays margin (sheetOf s) after
-told {margin} {s} {before} {after} {r} few e c =
-    answer-told few (facts (taken-fits s (sheet-taken s (length before) e)))
-    (subst (λ (q : Reading). CheckedAs q margin (sheetOf s) before after r) e (c .holds))
+-- a check that does not refuse answers
+pub answered :
+    {margin : ℕ} {s before after : List ℕ} {r : Outcome} →
+    refusal s (length before) ≡ Taken →
+    Checked margin s before after r →
+    Answered margin (sheetOf s) before after r
+answered {margin} {s} {before} {after} {r} e c =
+    subst (λ (q : Reading). CheckedAs q margin (sheetOf s) before after r) e (c .holds)
+
+pub taken-facts : (s : List ℕ) (room : ℕ) → refusal s room ≡ Taken → Facts (sheetOf s)
+taken-facts s room e = facts (taken-fits s (sheet-taken s room e))

@@ -5,3 +5,4 @@ pub mod ReadBack
 pub mod Longest
 pub mod Numbers
 pub mod Consequences
+pub mod Theorems

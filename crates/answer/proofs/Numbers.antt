@@ -39,10 +39,7 @@ numbers {margin} {s} {before} {after} {r} c = go (refusal s (length before)) ref
     go : (q : Reading) → refusal s (length before) ≡ q → CheckedAs q margin (sheetOf s) before after r → Numbers r
     go (Refused n p) e h =
         let b = check-numbers s (length before) e in
-        record { first = omega (arith, h .first, b .1); next = omega (arith, h .next, b .2) }
+        rw (h .refused) (record { first = b .1; next = b .2 })
     go Taken e h =
-        record {
-          first = omega (arith, h .taken);
-          next =
-              omega (arith, h .size, answer-most (sheetOf s) (h .figures) (within s (length before) e .few) (lashes s (length before) e));
-        }
+        let short = answer-most (sheetOf s) (h .answer .figures) (within s (length before) e .few) (lashes s (length before) e) in
+        rw (h .taken) (record { first = omega arith; next = rw (h .answer .encoded) short })

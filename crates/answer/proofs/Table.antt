@@ -7,6 +7,7 @@ use native.Mathlib.Omega.{arith}
 use lib.Dec.{lit≤}
 use Rattle.sheet.specs.Lashings.{levelOf}
 use Rattle.arith.specs.Fractions.{Frac, nat, _/q_, recip, sumq, _≈_, _⊏_}
+use Rattle.arith.specs.Lists.{from}
 use Rattle.arith.proofs.FractionLaws.{≈-trans, ≈⊑}
 use Rattle.arith.proofs.OrderedField.{⊑-⊏-trans}
 use Rattle.arith.specs.Roots.{Least}
@@ -129,15 +130,15 @@ stiff-e = record { springs = springs; lashes = stiff-rod 2 }
     springs (suc (suc i)) h = absurd (omega arith)
 
 solved-d : shift (solved held) 1 ≈ nat 220725 /q nat 10 /q nat 10930
-unfolding solution shiftOf handedStiffness handedLoad shift sumq recip chainTiers load transverse weight wind chainLash athwartPart pull levelOf
+unfolding from solution shiftOf handedStiffness handedLoad shift sumq recip chainTiers load transverse weight wind chainLash athwartPart pull levelOf
 solved-d = rw (length-S 1) (record { cross = refl })
 
 solved-e : shift (solved heldAbove) 2 ≈ nat 2918475 /q nat 100 /q nat 18130
-unfolding solution shiftOf handedStiffness handedLoad shift sumq recip chainTiers load transverse weight wind chainLash athwartPart pull levelOf
+unfolding from solution shiftOf handedStiffness handedLoad shift sumq recip chainTiers load transverse weight wind chainLash athwartPart pull levelOf
 solved-e = rw (length-S 2) (record { cross = refl })
 
 racked-e : S.racking (doorTiers heldAbove) (solved heldAbove) 1 ⊏ nat 0
-unfolding solution shiftOf handedStiffness handedLoad shift sumq recip chainTiers load transverse weight wind chainLash athwartPart pull levelOf
+unfolding from solution shiftOf handedStiffness handedLoad shift sumq recip chainTiers load transverse weight wind chainLash athwartPart pull levelOf
 racked-e = rw (length-S 2) (record { cross = record { lt = tt } })
 
 pub table : Table

@@ -33,21 +33,25 @@ pub record OneSolution (e : End) (t : Sheet) : Type 0 where
   pub exists : EndSolved e t shifts
   pub unique : (Ds Es : List Frac) → EndSolved e t Ds → EndSolved e t Es → (i : ℕ) → shift Ds i ≈ shift Es i
 
+-- bytes that answer a sheet t: those of figures that are within `margin` N of the exact forces at each end, whose equations have one
+-- solution. Findings and verdict are the rule's from these figures, by answerBytes
+pub record AnswerTo (margin : ℕ) (t : Sheet) (bytes : List ℕ) : Type 0 where
+  pub figures : Figures
+  pub encoded : bytes ≡ answerBytes t figures
+  pub reports : (e : End) → EndFigured margin e t (figuresOf e figures)
+  pub one : (e : End) → OneSolution e t
+
 -- a refused sheet: its two numbers, and the buffer as it was
 pub record TurnedBack (c p : ℕ) (before after : List ℕ) (r : Outcome) : Type 0 where
-  pub first : number r ≡ c
-  pub next : second r ≡ p
+  pub refused : r ≡ O.Refused c p
   pub untouched : after ≡ before
 
--- a taken sheet t: 0 and the answer's length; the buffer holds the answer's bytes, then what stood there. The figures in it are within
--- `margin` N of the exact forces at each end, whose equations have one solution; findings and verdict are the rule's, by answerBytes
+-- a taken sheet t: 0 and the answer's length; the buffer holds the answer's bytes, then what stood there
 pub record Answered (margin : ℕ) (t : Sheet) (before after : List ℕ) (r : Outcome) : Type 0 where
-  pub figures : Figures
-  pub taken : number r ≡ 0
-  pub size : second r ≡ length (answerBytes t figures)
-  pub written : after ≡ answerBytes t figures ++ drop (length (answerBytes t figures)) before
-  pub told : (e : End) → EndFigured margin e t (figuresOf e figures)
-  pub one : (e : End) → OneSolution e t
+  pub bytes : List ℕ
+  pub answer : AnswerTo margin t bytes
+  pub taken : r ≡ O.Taken (length bytes)
+  pub written : after ≡ bytes ++ drop (length bytes) before
 
 -- the sheet s with a buffer that held `before`, by cases on document 01's refusals
 abbrev pub CheckedAs : Reading → ℕ → Sheet → List ℕ → List ℕ → Outcome → Type 0

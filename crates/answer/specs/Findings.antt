@@ -1,8 +1,8 @@
 -- Document 01, "The answer sheet": the seven kinds of checked limits, the findings and the verdict.
-use mathlib.Core.Bool.{cond}
+use mathlib.Core.Bool.{Bool, cond}
 use mathlib.Core.List.{List, [], _∷_, _++_, flatMap}
 use Prim.Native.Nat.{ℕ, zero, suc, _+_, _-_}
-use lib.Dec.{ltb}
+use lib.Dec.{ltb, eqb}
 use lib.IntN.{ℤ, pos, natAbs}
 use lib.ListN.{getD, length}
 use Rattle.sheet.specs.Layout.{blankLash}
@@ -123,3 +123,7 @@ findings t f = endFindings t f door ++ endFindings t f closed
 abbrev pub verdict : List Finding → ℕ
 verdict [] = 0
 verdict (x ∷ xs) = 1
+
+-- a stack is accepted where its figures give no finding
+abbrev pub accepted : Sheet → Figures → Bool
+accepted t f = eqb (length (findings t f)) 0

@@ -1,13 +1,13 @@
 -- The findings in bytes, kind by kind, against document 01's list of findings.
-use mathlib.Core.Path.{_≡_, refl, ap, ap₂, _∙_}
+use mathlib.Core.Path.{_≡_, refl, sym, ap, ap₂, _∙_}
 use mathlib.Core.Bool.{Bool, true, false, cond}
 use mathlib.Core.List.{List, [], _∷_, _++_, flatMap, append-assoc, append-nil}
-use Prim.Native.Nat.{ℕ, zero, suc, _+_, _/_, _<_, _≤_}
+use Prim.Native.Nat.{ℕ, zero, suc, _+_, _-_, _/_, _<_, _≤_}
 use native.Mathlib.Nat.{add-zero}
 use native.Mathlib.Omega.{arith}
 use lib.Dec.{ltb}
-use lib.ListN.{length, getD, take}
-use lib.Seq.{sets, getD-take}
+use lib.ListN.{length, getD, take, drop, replicate, length-replicate}
+use lib.Seq.{sets, sets-eq, getD-take}
 use Rattle.sheet.specs.Layout.{blankLash}
 use Rattle.sheet.specs.declared.Lash.{Lash}
 use Rattle.sheet.specs.declared.Sheet.{Sheet}
@@ -17,10 +17,10 @@ use Rattle.statics.specs.Ends.{End, door, closed, lashesOf}
 use Rattle.answer.specs.Limits.{safeLoad}
 use Rattle.answer.specs.Findings.{Finding, Kind, racking, compression, cornerTension, lockTension, lashTension, lashVertical, lashAthwart, endCode, kindCode, figuresOf, firstIndex, indexCount, reportedSize, limitAt, findingsFrom, endFindings, findings}
 use Rattle.answer.specs.Answers.{findingBytes}
-use Rattle.arith.specs.Lists.{from}
-use Rattle.answer_findings.specs.inner.Findings.{Wrote, Put, Sized, lashLimit, findingWhere, findingsOver, tierFindings, lashFindings, findingsBytes}
+use Rattle.arith.specs.Lists.{from, padded}
+use Rattle.answer_findings.specs.declared.Found.{Found}
+use Rattle.answer_findings.specs.inner.Findings.{Put, Sized, lashLimit, findingWhere, findingsOver, tierFindings, lashFindings, found}
 use Rattle.answer.proofs.ReadBack.{bytes-length}
-use Rattle.answer_findings.proofs.Stores.{run, then}
 
 -- entries that agree from i on, and entries counted from another place
 entries-same : (f g : ℕ → List ℕ) (i n : ℕ) → ((k : ℕ) → i ≤ k → k < i + n → f k ≡ g k) → flatMap f (from i n) ≡ flatMap g (from i n)
@@ -51,6 +51,17 @@ where-found : (b : Bool) (x : Finding) (xs : List Finding) → flatMap findingBy
 unfolding flatMap
 where-found true x xs = refl
 where-found false x xs = refl
+
+drop-replicate : (k n z : ℕ) → drop k (replicate n z) ≡ replicate (n - k) z
+drop-replicate zero n z =
+    let e : n - 0 ≡ n = omega arith in
+    rw e refl
+drop-replicate (suc k) zero z =
+    let e : 0 - suc k ≡ 0 = omega arith in
+    rw e refl
+drop-replicate (suc k) (suc n) z =
+    let e : suc n - suc k ≡ n - k = omega arith in
+    rw e (drop-replicate k n z)
 
 -- one kind
 module _ (e : End) (t : Sheet) (f : EndFigures) (k : Kind) where
@@ -89,7 +100,7 @@ module _ (t : Sheet) (f : Figures) (e : End) (ls : List Lash) (m : ℕ) (few : l
       let a = kind-bytes e t g lashAthwart m _ few (λ i h. refl) in
       simp (bytes-append, append-nil, append-assoc, tierFindings, lashFindings, r, c, s, u, p, v, a)
 
--- both ends, behind the count that their bytes give
+-- both ends
 module _ (t : Sheet) (f : Figures) (s : Sized t) (lock : ℕ) (safe : lock ≡ safeLoad (t .head .lockMaterial) (t .head .lockBreakingLoad)) where
   abbrev both : List ℕ
   both =
@@ -105,10 +116,25 @@ module _ (t : Sheet) (f : Figures) (s : Sized t) (lock : ℕ) (safe : lock ≡ s
       (end-bytes t f door (t .door) (t .ndoor) (s .door-lashes) (λ j h. getD-take (t .ndoor) (t .door) j blankLash h))
       (end-bytes t f closed (t .closed) (t .nclosed) (s .closed-lashes) (λ j h. getD-take (t .nclosed) (t .closed) j blankLash h)))
 
-  -- the count stored, and the bytes that were found copied behind it
-  pub behind-count : {r found l m n : List ℕ} {at q : ℕ} → Put r 0 both found q → m ≡ sets l at (q / 3 ∷ []) → Wrote m (at + 1) (take q found) n (at + 1 + q) → Wrote l at (findingsBytes t f) n (at + 1 + q)
-  unfolding findingsBytes
-  behind-count {r} {found} {l} {m} {n} {at} {q} p e w =
-      let b : take q found ≡ flatMap findingBytes (findings t f) = p .stored ∙ both-bytes in
-      let c : q / 3 ≡ length (findings t f) = omega (arith, p .place, ap length both-bytes, bytes-length (findings t f)) in
-      then (run {bytes = length (findings t f) ∷ []} (rw c at e) refl) (rw b at w)
+  -- put into an array of zeros, with zeros stored again behind the last
+  module _ {held : List ℕ} {q : ℕ} (p : Put (replicate 387 0) 0 both held q) (room : q ≤ 384) where
+    count-is : q / 3 ≡ length (findings t f)
+    count-is = omega (arith, p .place, ap length both-bytes, bytes-length (findings t f))
+
+    zeros : 0 ∷ 0 ∷ 0 ∷ drop (q + 3) held ≡ replicate (387 - q) 0
+    zeros =
+        let e : 387 - q ≡ suc (suc (suc (387 - (q + 3)))) = omega arith in
+        rw (p .behind, drop-replicate (q + 3) 387 0) (ap (λ (n : ℕ). replicate n 0) (sym e))
+
+    bytes-are : {after : List ℕ} → after ≡ sets held q (0 ∷ 0 ∷ 0 ∷ []) → after ≡ padded 387 0 (flatMap findingBytes (findings t f))
+    bytes-are e =
+        let h : q + 3 ≤ length held = omega (arith, p .room, length-replicate {A = ℕ} 387 0) in
+        let l : q ≡ length both = omega (arith, p .place) in
+        e
+        ∙ sets-eq (0 ∷ 0 ∷ 0 ∷ []) held q h
+        ∙ append-assoc (take q held) (0 ∷ 0 ∷ 0 ∷ []) (drop (q + 3) held)
+        ∙ ap₂ (λ (a b : List ℕ). a ++ b) (p .stored) (zeros ∙ ap (λ (n : ℕ). replicate (387 - n) 0) l)
+        ∙ ap (λ (b : List ℕ). padded 387 0 b) both-bytes
+
+    pub found-is : {r : Found} {after : List ℕ} → r .bytes ≡ after → r .count ≡ q / 3 → after ≡ sets held q (0 ∷ 0 ∷ 0 ∷ []) → r ≡ found t f
+    found-is b c e = λ i. record { bytes = (b ∙ bytes-are e) i; count = (c ∙ count-is) i }

@@ -7,16 +7,23 @@ ghost use mathlib.Core.Bool.{cond};
 ghost use mathlib.Core.List.{[], _∷_, _++_};
 ghost use Prim.Native.Nat.{_+_, _-_, _*_, _<_, _≤_};
 ghost use lib.IntN.{pos, natAbs};
-ghost use lib.ListN.{length, getD, take};
+ghost use lib.ListN.{length, getD};
+ghost use lib.Seq.{sets};
 ghost use Rattle.answer.specs.Limits.{rackingLimit};
-ghost use Rattle.answer_findings.specs.inner.Findings.{Wrote, Put, Sized, lashLimit, findingsOver, tierFindings, lashFindings, findingsBytes};
+ghost use Rattle.answer.specs.Findings.{accepted};
+ghost use Rattle.answer_findings.specs.inner.Findings.{Put, Sized, lashLimit, findingsOver, tierFindings, lashFindings, found};
 use crate::limits::Limits;
 use crate::limits::safe_load;
-use arith::bytes::write1;
 use sheet::Lash;
 use sheet::Sheet;
 use statics::EndFigures;
 use statics::Figures;
+
+// The bytes of the findings, three each, with zeros behind them, and their count.
+pub struct Found {
+    pub bytes: [u8; 387],
+    pub count: usize,
+}
 
 // The size of a racking, its value without the sign.
 fn size(x: i32) -> u64
@@ -33,6 +40,7 @@ fn size(x: i32) -> u64
 fn put_where(found: &mut [u8], at: usize, end: u8, kind: u8, index: usize, over: bool) -> usize
     requires { ⌜ (at + 3 ≤ length (now found)) × (index < 256) ⌝ }
     ensures { λ r. ⌜ Put (now (found .entry)) at (cond over (end ∷ kind ∷ index ∷ []) []) (now (found .exit)) r × (r ≤ at + 3) ⌝ }
+    ensures { λ r. ⌜ now (found .exit) ≡ sets (now (found .entry)) at (end ∷ kind ∷ index ∷ []) ⌝ }
 {
     found[at] = end;
     found[at + 1] = kind;
@@ -117,33 +125,29 @@ fn put_end(
     put_over(found, v, end, 7, 0, &f.athwart, Limits::LASH_ATHWART, m)
 }
 
-// The first n bytes found, into the answer at `at`.
-fn write_found(answer: &mut [u8], at: usize, found: &[u8], n: usize)
-    requires { ⌜ (n ≤ length (now found)) × (at + n ≤ length (now answer)) ⌝ }
-    ensures { λ r. ⌜ Wrote (now (answer .entry)) at (take n (now (found .entry))) (now (answer .exit)) (at + n) ⌝ }
-{
-    let mut i = 0;
-    while i < n {
-        answer[at + i] = found[i];
-        i += 1;
-    }
-}
-
-// All findings behind their count: the door end's, then the closed end's. They go through a buffer of their own, since bytes are stored
-// behind the last finding too.
-pub fn write_findings(answer: &mut [u8], at: usize, t: Sheet, f: Figures) -> usize
-    requires { ⌜ Sized t × (at + 385 ≤ length (now answer)) ⌝ }
-    ensures { λ r. ⌜ Wrote (now (answer .entry)) at (findingsBytes t f) (now (answer .exit)) r × (r ≤ at + 385) ⌝ }
+// The findings of a stack: those of the door end, then those of the closed end.
+pub fn findings_of(t: Sheet, f: Figures) -> Found
+    requires { ⌜ Sized t ⌝ }
+    ensures { λ r. ⌜ (r ≡ found t f) × (r .count ≤ 128) ⌝ }
 {
     let n = t.ntiers;
     let head = t.head;
     let lock = safe_load(head.lockMaterial, head.lockBreakingLoad);
     let door = t.door;
     let closed = t.closed;
-    let mut found = [0u8; 384];
-    let p = put_end(&mut found, 0, 0, n, lock, door, t.ndoor, f.door);
-    let q = put_end(&mut found, p, 1, n, lock, closed, t.nclosed, f.closed);
-    write1(answer, at, (q / 3) as u64);
-    write_found(answer, at + 1, &found, q);
-    at + 1 + q
+    let mut bytes = [0u8; 387];
+    let p = put_end(&mut bytes, 0, 0, n, lock, door, t.ndoor, f.door);
+    let q = put_end(&mut bytes, p, 1, n, lock, closed, t.nclosed, f.closed);
+    put_where(&mut bytes, q, 0, 0, 0, false);
+    let count = q / 3;
+    Found { bytes, count }
+}
+
+// Whether a stack is accepted.
+pub fn accepted(t: Sheet, f: Figures) -> bool
+    requires { ⌜ Sized t ⌝ }
+    ensures { λ r. ⌜ r ≡ accepted t f ⌝ }
+{
+    let found = findings_of(t, f);
+    found.count == 0
 }

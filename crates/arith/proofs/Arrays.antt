@@ -25,7 +25,7 @@ module _ {A : Type 0} (f : ℕ → A) (b : A) where
       ap {B = List A} (λ l. f i ∷ l)
       (entries-more (suc i) n ∙ ap {B = List A} (λ m. map f (from (suc i) n) ++ (f m ∷ [])) (suc-add i n ∙ sym (add-suc i n)))
 
-  entry : (i n k : ℕ) → k < n → getD (map f (from i n)) k b ≡ f (i + k)
+  pub entry : (i n k : ℕ) → k < n → getD (map f (from i n)) k b ≡ f (i + k)
   unfolding from
   entry i zero k h = absurd (omega (arith, h))
   entry i (suc n) zero h = ap f (sym (add-zero i))

@@ -1,32 +1,35 @@
 -- The figures of an end, put together from the steps that compute them.
 use Prim.Native.Nat.{ℕ, zero, suc, _+_, _*_, _-_, _<_, _≤_}
 use mathlib.Core.Bool.{cond}
-use mathlib.Core.List.{List, [], _∷_}
-use mathlib.Core.Path.{_≡_, refl, sym, ap, ap₂, _∙_}
+use mathlib.Core.List.{List, [], _∷_, map}
+use mathlib.Core.Path.{_≡_, refl, sym, _∙_}
 use native.Mathlib.Decide.{decLt, ℕ-discrete}
 use native.Mathlib.Omega.{arith}
 use borrow.Author.Tests.{le-leb, lt-leb, eq-eqb, ne-eqb}
 use lib.Dec.{leb, eqb}
-use lib.IntN.{ℤ, pos, _+ℤ_, _*ℤ_}
-use lib.ListN.{length, getD, take, drop, replicate, length-drop, getD-replicate}
-use Rattle.sheet.specs.Layout.{blankLash}
+use lib.IntN.{ℤ, pos}
+use lib.ListN.{length, getD, take, drop, replicate}
+use lib.Seq.{ext-getD}
+use Rattle.sheet.specs.Layout.{blankLash, blankTier}
 use Rattle.springs.specs.Promise.{Solvable, Promised}
+use Rattle.springs.specs.inner.Elimination.{solved}
 use Rattle.sheet.specs.declared.Tier.{Tier}
 use Rattle.sheet.specs.declared.Lash.{Lash}
 use Rattle.sheet.specs.declared.Lashing.{Lashing}
 use Rattle.sheet.specs.declared.Sheet.{Sheet}
 use Rattle.sheet.specs.Lashings.{lashingOf, levelOf}
-use Rattle.sheet.specs.Routes.{routePercent}
 use Rattle.statics.specs.declared.EndFigures.{EndFigures}
 use Rattle.statics.specs.inner.Limits.{LashFacts, Facts}
-use Rattle.statics.specs.Ends.{End, springOf, tiersOf, lashesOf}
-use Rattle.statics.specs.Reported.{EndFigured}
-use Rattle.statics.specs.inner.WholeNumbers.{upward, upwards, leePart, windwardPart, rackingPart, rackingFigure, momentPart, compressionFigure, tensionFigure, Computed}
-use Rattle.statics.specs.inner.WholeNumbers.{Filled}
-use Rattle.figures.specs.inner.Ends.{Loaded, Weighed, Workable, EndWorked, Worked}
+use Rattle.statics.specs.declared.LoadRule.{LoadRule}
+use Rattle.statics.specs.Ends.{End, door, closed, springOf, tiersOf, lashesOf}
+use Rattle.statics.specs.inner.WholeNumbers.{Filled, levelStiffness, upward, upwards, leePart, windwardPart, rackingPart, rackingFigure, momentPart, compressionFigure, tensionFigure, pullFigure, athwartFigure, verticalFigure}
+use Rattle.statics.specs.inner.Computed.{springsOf, stiffnessesOf, figuresAt}
+use Rattle.figures.specs.inner.Ends.{Loaded, Weighed, Workable}
 use Rattle.figures_levels.specs.inner.Levels.{total, momentOf, Measured, Levelled}
 use Rattle.figures_lashes.specs.inner.Lashes.{Held, Pulled, Borne}
-use Rattle.statics.proofs.Figured.{end-figured}
+use Rattle.arith.specs.Lists.{from, below}
+use Rattle.arith.proofs.Arrays.{length-entries}
+use Rattle.statics.proofs.Arrays.{entry-at, filled-padded}
 use Rattle.statics.proofs.Inputs.{spring-least, spring-most}
 use Rattle.statics.proofs.LevelStiffness.{level-most}
 use Rattle.figures_lashes.proofs.Tallies.{tally, tally-upwards}
@@ -63,24 +66,26 @@ module _ (post : Lashing → ℕ → ℕ) (n : ℕ) (d : List ℕ) (ls : List La
   abbrev on : Lash → ℕ
   on l = post (lashingOf l) (upward d l)
 
-  from : (g i : ℕ) → i + g ≡ suc n → total (drop i (take (suc n) r)) ≡ tally (λ l. leb i (levelOf l)) on ls
-  from zero i e =
+  levels-from : (g i : ℕ) → i + g ≡ suc n → total (drop i (take (suc n) r)) ≡ tally (λ l. leb i (levelOf l)) on ls
+  levels-from zero i e =
       let q : i ≡ suc n = omega arith in
       rw q (total-off r (suc n) room ∙ sym (tally-over on n ls under))
-  from (suc g) i e =
+  levels-from (suc g) i e =
       omega (
         arith,
         total-peel r (suc n) i (omega arith) room,
-        from g (suc i) (omega arith),
+        levels-from g (suc i) (omega arith),
         each i ∙ tally-upwards post (λ l. eqb i (levelOf l)) d ls,
         tally-split on i ls,
       )
 
   pub sum-from : (i : ℕ) → i ≤ suc n → total (drop i (take (suc n) r)) ≡ upwards post (λ l. leb i (levelOf l)) d ls
-  sum-from i h = from (suc n - i) i (omega arith) ∙ sym (tally-upwards post (λ l. leb i (levelOf l)) d ls)
+  sum-from i h = levels-from (suc n - i) i (omega arith) ∙ sym (tally-upwards post (λ l. leb i (levelOf l)) d ls)
 
-refilled : {A : Type 0} {blank : A} {n : ℕ} {P Q : ℕ → A} {r : List A} → ((i : ℕ) → i < n → P i ≡ Q i) → Filled blank n P r → Filled blank n Q r
-refilled e f = record { each = λ i h. f .each i h ∙ e i h; rest = f .rest }
+refilled :
+    {A : Type 0} {size : ℕ} {blank : A} {n : ℕ} {P Q : ℕ → A} {r : List A} →
+    ((i : ℕ) → i < n → P i ≡ Q i) → Filled size blank n P r → Filled size blank n Q r
+refilled e f = record { long = f .long; each = λ i h. f .each i h ∙ e i h; rest = f .rest }
 
 facts-ten : {n : ℕ} {l : Lash} → n ≤ 10 → LashFacts n l → LashFacts 10 l
 facts-ten h f =
@@ -98,8 +103,8 @@ facts-ten h f =
       inside = omega (arith, f .inside);
     }
 
-module _ {n : ℕ} {k : List ℕ} {ts : List Tier} {m : ℕ} {ls : List Lash} {ω most least : List ℕ}
-    (h : Workable n k ts m ls ω most least) (counted : length ls ≡ m) where
+module _ {n : ℕ} {k : List ℕ} {ts : List Tier} {m : ℕ} {ls : List Lash} {ω vmax vmin : List ℕ}
+    (h : Workable n k ts m ls ω vmax vmin) (counted : length ls ≡ m) where
   pub each-ten : (j : ℕ) → j < m → LashFacts 10 (getD ls j blankLash)
   each-ten j q = facts-ten (h .few) (h .each j (omega arith))
 
@@ -117,7 +122,7 @@ module _ {n : ℕ} {k : List ℕ} {ts : List Tier} {m : ℕ} {ls : List Lash} {�
       Promised n k κ ω d →
       Borne leePart ls d lee →
       Borne windwardPart ls d windward →
-      Measured n k ts d most least lee windward
+      Measured n k ts d vmax vmin lee windward
   end-measured o u v =
       record {
         few = h .few;
@@ -132,41 +137,34 @@ module _ {n : ℕ} {k : List ℕ} {ts : List Tier} {m : ℕ} {ls : List Lash} {�
         windward-long = v .long;
       }
 
-  pub end-worked :
-      {κ d pull athwart vertical lee windward : List ℕ} {racking : List ℤ} {compression tension : List ℕ} →
-      Held ls κ →
-      Promised n k κ ω d →
-      Pulled m ls d pull athwart vertical →
+  -- the figures put together are those of the definition
+  pub end-named :
+      {d lash-tension athwart vertical lee windward : List ℕ} {racking : List ℤ} {compression tension : List ℕ} →
+      Pulled m ls d lash-tension athwart vertical →
       Borne leePart ls d lee →
       Borne windwardPart ls d windward →
-      Levelled n k ts d most least lee windward racking compression tension →
-      EndWorked n k ts ls ω
-      (record {
+      Levelled n k ts d vmax vmin lee windward racking compression tension →
+      record {
         racking = racking;
         compression = compression;
         tension = tension;
-        pull = pull;
+        pull = lash-tension;
         athwart = athwart;
         vertical = vertical;
-      })
-  end-worked {κ} {d} {lee = lee} {windward = windward} s o u x y l =
-      record {
-        κ = κ;
-        d = d;
-        held = λ i q. s i;
-        promised = o;
-        racking = l .racking-is;
-        compression =
-            refilled (λ i q. let e = lees i (omega arith) in let f = windwards i (omega arith) in rw (h .weighed .most-is i, e, f) refl)
-            (l .compression-is);
-        tension =
-            refilled
-            (λ i q. let e = lees (suc i) (omega arith) in let f = windwards (suc i) (omega arith) in rw (h .weighed .least-is i, e, f) refl)
-            (l .tension-is);
-        pull = rw counted (u .pull-is);
-        athwart = rw counted (u .athwart-is);
-        vertical = rw counted (u .vertical-is);
       }
+      ≡ figuresAt n k ts ls d
+  unfolding figuresAt compressionFigure tensionFigure momentPart momentOf
+  end-named {d} {lash-tension} {athwart} {vertical} {lee} {windward} {racking} {compression} {tension} u x y l =
+      rw (
+        filled-padded (λ i. rackingFigure (rackingPart (getD k i 0) d i)) (pos 0) 10 n racking (h .few) (l .racking-is),
+        filled-padded (compressionFigure k ts ls d) 0 11 (suc n) compression (omega (arith, h .few))
+        (refilled (λ i q. rw (h .weighed .vmax-is i, lees i (omega arith), windwards i (omega arith)) refl) (l .compression-is)),
+        filled-padded (tensionFigure k ts ls d) 0 10 n tension (h .few)
+        (refilled (λ i q. rw (h .weighed .vmin-is i, lees (suc i) (omega arith), windwards (suc i) (omega arith)) refl) (l .tension-is)),
+        filled-padded (λ j. pullFigure d (getD ls j blankLash)) 0 8 (length ls) lash-tension (omega (arith, h .few-lashes)) (rw counted (u .pull-is)),
+        filled-padded (λ j. athwartFigure d (getD ls j blankLash)) 0 8 (length ls) athwart (omega (arith, h .few-lashes)) (rw counted (u .athwart-is)),
+        filled-padded (λ j. verticalFigure d (getD ls j blankLash)) 0 8 (length ls) vertical (omega (arith, h .few-lashes)) (rw counted (u .vertical-is)),
+      ) refl
     where
       under : (j : ℕ) → j < length ls → levelOf (getD ls j blankLash) ≤ n
       under j q = h .each j q .inside
@@ -177,24 +175,25 @@ module _ {n : ℕ} {k : List ℕ} {ts : List Tier} {m : ℕ} {ls : List Lash} {�
       windwards : (i : ℕ) → i ≤ suc n → total (drop i (take (suc n) windward)) ≡ upwards windwardPart (λ l. leb i (levelOf l)) d ls
       windwards = sum-from windwardPart n d ls windward (omega (arith, h .few, y .long)) under (y .each)
 
--- the springs of an end, and that its figures may be computed
-abbrev pub springs : End → List ℕ
-springs e = replicate 10 (springOf e)
+-- the stiffnesses by level, as an array of ten
+pub stiffnesses-named : (ls : List Lash) {κ : List ℕ} → length κ ≡ 10 → Held ls κ → κ ≡ stiffnessesOf ls
+unfolding stiffnessesOf
+stiffnesses-named ls {κ} long s =
+    ext-getD 0 κ (map (λ i. levelStiffness ls (suc i)) (below 10)) (long ∙ sym (length-entries (λ i. levelStiffness ls (suc i)) 0 10))
+    (λ i q. s i ∙ sym (entry-at (λ i. levelStiffness ls (suc i)) 0 10 i (omega (arith, q, long))))
 
+-- an end's figures may be computed
 module _ {t : Sheet} (f : Facts t) (e : End) where
-  pub spring-at : (i : ℕ) → i < t .ntiers → getD (springs e) i 0 ≡ springOf e
-  spring-at i h = getD-replicate 10 i (springOf e) 0 (omega (arith, f .few))
-
   pub workable :
-      (share factor m : ℕ) (ω most least : List ℕ) →
+      (rule : LoadRule) (m : ℕ) (ω vmax vmin : List ℕ) →
       m ≤ 8 →
-      Loaded share factor (t .ntiers) (tiersOf t) ω →
-      Weighed (tiersOf t) most least →
-      Workable (t .ntiers) (springs e) (tiersOf t) m (lashesOf e t) ω most least
-  workable share factor m ω most least few l v =
+      Loaded rule (t .ntiers) (tiersOf t) ω →
+      Weighed (tiersOf t) vmax vmin →
+      Workable (t .ntiers) (springsOf e (tiersOf t)) (tiersOf t) m (lashesOf e t) ω vmax vmin
+  workable rule m ω vmax vmin few l v =
       record {
         few = f .few;
-        springs = λ i h. rw (spring-at i h) (spring-least e, spring-most e);
+        springs = λ i h. rw (spring-at i h) (spring-least e (tier i), spring-most e (tier i));
         heights = λ i h. f .each i h .height;
         few-lashes = few;
         each = f .ends e .each;
@@ -202,56 +201,23 @@ module _ {t : Sheet} (f : Facts t) (e : End) where
         loaded = l .small;
         weighed = v;
       }
+    where
+      tier : ℕ → Tier
+      tier i = getD (tiersOf t) i blankTier
 
--- one spring for all tiers of an end
-moment-same : (K n : ℕ) (k d : List ℕ) → ((i : ℕ) → i < n → getD k i 0 ≡ K) → (ts : List Tier) (i : ℕ) → i + length ts ≤ n → momentOf k d ts i ≡ momentPart K d ts i
-unfolding momentOf momentPart
-moment-same K n k d same [] i h = refl
-moment-same K n k d same (t ∷ ts) i h =
-    ap₂ (λ x y. pos (t .height) *ℤ rackingPart x d i +ℤ y) (same i (omega arith)) (moment-same K n k d same ts (suc i) (omega arith))
+      spring-at : (i : ℕ) → i < t .ntiers → getD (springsOf e (tiersOf t)) i 0 ≡ springOf e (tier i)
+      spring-at i h = entry-at (λ i. springOf e (tier i)) 0 10 i (omega (arith, f .few))
 
--- the figures of an end of a sheet
-module _ {share factor : ℕ} (e : End) (t : Sheet) {k ω : List ℕ} {f : EndFigures} (stacked : length (tiersOf t) ≡ t .ntiers)
-    (same : (i : ℕ) → i < t .ntiers → getD k i 0 ≡ springOf e)
-    (l : Loaded share factor (t .ntiers) (tiersOf t) ω)
-    (w : EndWorked (t .ntiers) k (tiersOf t) (lashesOf e t) ω f) where
-  moment-at : (i : ℕ) → i ≤ t .ntiers → momentOf k (w .d) (drop i (tiersOf t)) i ≡ momentPart (springOf e) (w .d) (drop i (tiersOf t)) i
-  moment-at i h =
-      moment-same (springOf e) (t .ntiers) k (w .d) same (drop i (tiersOf t)) i (omega (arith, length-drop i (tiersOf t)))
+-- today's springs do not depend on the tier
+pub door-springs : (ts : List Tier) → replicate 10 3730 ≡ springsOf door ts
+unfolding from
+door-springs ts = refl
 
-  computed : Computed e t (w .d) f
-  unfolding compressionFigure tensionFigure
-  computed =
-      record {
-        racking = λ i h. w .racking .each i h ∙ ap (λ (K : ℕ). rackingFigure (rackingPart K (w .d) i)) (same i h);
-        compression = λ i h. w .compression .each i (omega arith) ∙ rw (moment-at i h) refl;
-        tension = λ i h. w .tension .each i h ∙ rw (moment-at i (omega arith)) refl;
-        pull = w .pull .each;
-        athwart = w .athwart .each;
-        vertical = w .vertical .each;
-      }
+pub closed-springs : (ts : List Tier) → replicate 10 15690 ≡ springsOf closed ts
+unfolding from
+closed-springs ts = refl
 
-  pub worked : Worked share factor e t f
-  worked =
-      record {
-        k = k;
-        κ = w .κ;
-        ω = ω;
-        d = w .d;
-        inputs = record { springs = same; held = w .held; loaded = l .each };
-        promised = w .promised;
-        computed = computed;
-        blank =
-            record {
-              compression = w .compression .rest;
-              tension = w .tension .rest;
-              pull = w .pull .rest;
-              athwart = w .athwart .rest;
-              vertical = w .vertical .rest;
-            };
-      }
-
--- by the class rule and the route, they report the end's forces
-pub reports : {e : End} {t : Sheet} {f : EndFigures} → Facts t → Worked 9 (10 * routePercent (t .head .route)) e t f → EndFigured 9 e t f
-reports h w =
-    end-figured h (w .inputs) (w .promised) (w .computed) (w .blank)
+-- the figures of an end of a sheet, from its springs and loads
+abbrev pub endFigures : End → Sheet → List ℕ → List ℕ → EndFigures
+endFigures e t k ω =
+    figuresAt (t .ntiers) k (tiersOf t) (lashesOf e t) (solved (t .ntiers) k (stiffnessesOf (lashesOf e t)) ω)

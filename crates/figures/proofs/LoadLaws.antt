@@ -9,72 +9,80 @@ use lib.ListN.{length, getD, set, drop, replicate, List·getD-eq-default, drop-o
 use lib.Seq.{drop-cons}
 use Rattle.sheet.specs.Layout.{blankTier}
 use Rattle.sheet.specs.declared.Tier.{Tier}
-use Rattle.statics.specs.inner.WholeNumbers.{push, gust, levelLoad, lifted, halfWeight}
-use Rattle.statics.proofs.Arrays.{Between, between-none, fill-below}
+use Rattle.statics.specs.inner.WholeNumbers.{transverseUnits, windUnits, levelLoad, verticalUnits, halfWeight}
+use Rattle.statics.specs.declared.LoadRule.{LoadRule}
+use Rattle.statics.specs.inner.Computed.{loadsOf}
+use Rattle.statics.proofs.Arrays.{filled-padded, Between, between-none, fill-below}
 
--- a share of one tier's push and the rest of the other's
+-- a share of one tier's transverseUnits and the rest of the other's
 module _ {share factor p q : ℕ} (hs : share ≤ 20) (hf : factor ≤ 1000) (hp : p ≤ 30480 * 1500) (hq : q ≤ 30480 * 1500) where
   pub shares-le : (share * p ≤ share * (30480 * 1500)) × ((20 - share) * q ≤ (20 - share) * (30480 * 1500))
   shares-le = (mul-le-mul-left share hp, mul-le-mul-left (20 - share) hq)
 
-  pub pushed-le : 981 * factor * (share * p + (20 - share) * q) ≤ 981 * 1000 * (20 * (30480 * 1500))
-  pushed-le =
+  pub transverse-le : 981 * factor * (share * p + (20 - share) * q) ≤ 981 * 1000 * (20 * (30480 * 1500))
+  transverse-le =
       let f : 981 * factor ≤ 981 * 1000 = omega arith in
       let s : share * p + (20 - share) * q ≤ 20 * (30480 * 1500) = omega (arith, shares-le) in
       mul-le-mul f s
 
-abbrev Load : ℕ → ℕ → List Tier → ℕ → ℕ → Type 0
-Load share factor ts j x = (x ≡ levelLoad share factor (getD ts j blankTier) (getD ts (suc j) blankTier)) × (x ≤ 2 ^ 46)
+abbrev Load : LoadRule → List Tier → ℕ → ℕ → Type 0
+Load rule ts j x = (x ≡ levelLoad (rule .share) (rule .factor) (getD ts j blankTier) (getD ts (suc j) blankTier)) × (x ≤ 2 ^ 46)
 
 -- what pushes on level i from above, and the loads on the levels over it
-pub record Pushed (share factor n : ℕ) (ts : List Tier) (loads : List ℕ) (p g i : ℕ) : Type 0 where
+pub record LoadedDown (rule : LoadRule) (n : ℕ) (ts : List Tier) (loads : List ℕ) (p g i : ℕ) : Type 0 where
   pub within : i ≤ n
-  pub loaded : Between 0 (Load share factor ts) 10 i n loads
-  pub push-is : p ≡ push (getD ts i blankTier)
-  pub gust-is : g ≡ gust (getD ts i blankTier)
-  pub push-small : p ≤ 30480 * 1500
-  pub gust-small : g ≤ 27 * 12192 * 2896
+  pub loaded : Between 0 (Load rule ts) 10 i n loads
+  pub transverse-is : p ≡ transverseUnits (getD ts i blankTier)
+  pub wind-is : g ≡ windUnits (getD ts i blankTier)
+  pub transverse-small : p ≤ 30480 * 1500
+  pub wind-small : g ≤ 27 * 12192 * 2896
 
-module _ {share factor n : ℕ} {ts : List Tier} where
-  pub pushed-none : length ts ≡ n → Pushed share factor n ts (replicate 10 0) 0 0 n
-  unfolding push gust
-  pushed-none stacked =
+module _ {rule : LoadRule} {n : ℕ} {ts : List Tier} where
+  pub loaded-none : length ts ≡ n → LoadedDown rule n ts (replicate 10 0) 0 0 n
+  unfolding transverseUnits windUnits
+  loaded-none stacked =
       let e : getD ts n blankTier ≡ blankTier = List·getD-eq-default ts blankTier (omega arith) in
       record {
         within = omega arith;
         loaded = between-none 0 _ 10 n;
-        push-is = rw e refl;
-        gust-is = rw e refl;
-        push-small = omega arith;
-        gust-small = omega arith;
+        transverse-is = rw e refl;
+        wind-is = rw e refl;
+        transverse-small = omega arith;
+        wind-small = omega arith;
       }
 
-  pub pushed-more :
+  pub loaded-more :
       {loads : List ℕ} {p g i p′ g′ x : ℕ} →
       n ≤ 10 →
       0 < i →
-      Pushed share factor n ts loads p g i →
-      p′ ≡ push (getD ts (i - 1) blankTier) →
-      g′ ≡ gust (getD ts (i - 1) blankTier) →
+      LoadedDown rule n ts loads p g i →
+      p′ ≡ transverseUnits (getD ts (i - 1) blankTier) →
+      g′ ≡ windUnits (getD ts (i - 1) blankTier) →
       p′ ≤ 30480 * 1500 →
       g′ ≤ 27 * 12192 * 2896 →
-      x ≡ (981 * factor * (share * p′ + (20 - share) * p) + 40000 * (g′ + g)) * 2 ^ 28 / 4000000000 →
+      x ≡ (981 * rule .factor * (rule .share * p′ + (20 - rule .share) * p) + 40000 * (g′ + g)) * 2 ^ 28 / 4000000000 →
       x ≤ 2 ^ 46 →
-      Pushed share factor n ts (set loads (i - 1) x) p′ g′ (i - 1)
+      LoadedDown rule n ts (set loads (i - 1) x) p′ g′ (i - 1)
   unfolding levelLoad
-  pushed-more {loads} {i = i} {x = x} few up s ep eg hp hg ex hx =
+  loaded-more {loads} {i = i} {x = x} few up s ep eg hp hg ex hx =
       let e : i ≡ suc (i - 1) = omega arith in
       record {
         within = omega (arith, s .within);
         loaded =
-            fill-below 0 (Load share factor ts) 10 (i - 1) n loads x (omega (arith, s .within)) (omega (arith, s .within))
-            (rw (← e, ← ep, ← eg, ← s .push-is, ← s .gust-is) ex, hx)
-            (subst (λ (z : ℕ). Between 0 (Load share factor ts) 10 z n loads) e (s .loaded));
-        push-is = ep;
-        gust-is = eg;
-        push-small = hp;
-        gust-small = hg;
+            fill-below 0 (Load rule ts) 10 (i - 1) n loads x (omega (arith, s .within)) (omega (arith, s .within))
+            (rw (← e, ← ep, ← eg, ← s .transverse-is, ← s .wind-is) ex, hx)
+            (subst (λ (z : ℕ). Between 0 (Load rule ts) 10 z n loads) e (s .loaded));
+        transverse-is = ep;
+        wind-is = eg;
+        transverse-small = hp;
+        wind-small = hg;
       }
+
+  pub loaded-all : {loads : List ℕ} {p g i : ℕ} → length ts ≡ n → n ≤ 10 → i ≤ 0 → LoadedDown rule n ts loads p g i → loads ≡ loadsOf rule ts
+  unfolding loadsOf
+  loaded-all {loads} {i = i} stacked few low s =
+      filled-padded (λ j. levelLoad (rule .share) (rule .factor) (getD ts j blankTier) (getD ts (suc j) blankTier)) 0 10 (length ts) loads (omega arith)
+      (record { long = s .loaded .long; each = λ j h. s .loaded .each j (omega arith) (omega arith) .0; rest = λ j h. s .loaded .rest j (omega arith) })
 
 abbrev Weight : (Tier → ℕ) → List Tier → ℕ → ℕ → Type 0
 Weight acceleration ts j x = (x ≡ halfWeight acceleration ts j) × (x ≤ 2 ^ 40)
@@ -83,16 +91,16 @@ Weight acceleration ts j x = (x ≡ halfWeight acceleration ts j) × (x ≤ 2 ^ 
 pub record Carried (acceleration : Tier → ℕ) (n : ℕ) (ts : List Tier) (weights : List ℕ) (sum i : ℕ) : Type 0 where
   pub within : i ≤ n
   pub weighed : Between 0 (Weight acceleration ts) 11 i n weights
-  pub sum-is : sum ≡ lifted acceleration (drop i ts)
+  pub sum-is : sum ≡ verticalUnits acceleration (drop i ts)
   pub sum-small : sum ≤ (n - i) * (30480 * 3000)
 
-lifted-peel : (acceleration : Tier → ℕ) (ts : List Tier) (i : ℕ) → i < length ts → lifted acceleration (drop i ts) ≡ lifted acceleration (drop (suc i) ts) + getD ts i blankTier .mass * acceleration (getD ts i blankTier)
-unfolding lifted
-lifted-peel acceleration ts i h = rw (drop-cons ts i blankTier h) (omega arith)
+units-peel : (acceleration : Tier → ℕ) (ts : List Tier) (i : ℕ) → i < length ts → verticalUnits acceleration (drop i ts) ≡ verticalUnits acceleration (drop (suc i) ts) + getD ts i blankTier .mass * acceleration (getD ts i blankTier)
+unfolding verticalUnits
+units-peel acceleration ts i h = rw (drop-cons ts i blankTier h) (omega arith)
 
-lifted-off : (acceleration : Tier → ℕ) (ts : List Tier) (i : ℕ) → length ts ≤ i → lifted acceleration (drop i ts) ≡ 0
-unfolding lifted
-lifted-off acceleration ts i h = rw (drop-of-length-le ts {i = i} h) refl
+units-off : (acceleration : Tier → ℕ) (ts : List Tier) (i : ℕ) → length ts ≤ i → verticalUnits acceleration (drop i ts) ≡ 0
+unfolding verticalUnits
+units-off acceleration ts i h = rw (drop-of-length-le ts {i = i} h) refl
 
 module _ {acceleration : Tier → ℕ} {n : ℕ} {ts : List Tier} (stacked : length ts ≡ n) where
   pub carried-none : Carried acceleration n ts (replicate 11 0) 0 n
@@ -100,7 +108,7 @@ module _ {acceleration : Tier → ℕ} {n : ℕ} {ts : List Tier} (stacked : len
       record {
         within = omega arith;
         weighed = between-none 0 _ 11 n;
-        sum-is = sym (lifted-off acceleration ts n (omega arith));
+        sum-is = sym (units-off acceleration ts n (omega arith));
         sum-small = omega arith;
       }
 
@@ -117,9 +125,9 @@ module _ {acceleration : Tier → ℕ} {n : ℕ} {ts : List Tier} (stacked : len
   unfolding halfWeight
   carried-more {weights} {sum} {i} {own} {x} few up s eo ho ex hx =
       let e : i ≡ suc (i - 1) = omega arith in
-      let above = ap (λ (z : ℕ). lifted acceleration (drop z ts)) e in
-      let more : sum + own ≡ lifted acceleration (drop (i - 1) ts) =
-      omega (arith, s .sum-is, lifted-peel acceleration ts (i - 1) (omega (arith, s .within))) in
+      let above = ap (λ (z : ℕ). verticalUnits acceleration (drop z ts)) e in
+      let more : sum + own ≡ verticalUnits acceleration (drop (i - 1) ts) =
+      omega (arith, s .sum-is, units-peel acceleration ts (i - 1) (omega (arith, s .within))) in
       record {
         within = omega (arith, s .within);
         weighed =
@@ -136,5 +144,5 @@ module _ {acceleration : Tier → ℕ} {n : ℕ} {ts : List Tier} (stacked : len
   carried-all h s j =
       elim (decLt j n) [
         | yes q ↦ s .weighed .each j (omega arith) q
-        | no ne ↦ rw (s .weighed .rest j (omega arith), lifted-off acceleration ts j (omega arith)) (refl, omega arith)
+        | no ne ↦ rw (s .weighed .rest j (omega arith), units-off acceleration ts j (omega arith)) (refl, omega arith)
       ]

@@ -4,14 +4,15 @@ ghost use Prim.Native.Nat.{_≤_};
 ghost use mathlib.Core.Path.{_≡_};
 ghost use lib.ListN.{length, take};
 ghost use Rattle.sheet.specs.Fits.{Fits};
-ghost use Rattle.statics.specs.Ends.{door, closed};
-ghost use Rattle.statics.specs.Reported.{EndFigured};
-ghost use Rattle.figures.specs.inner.Ends.{Workable, EndWorked, Worked};
+ghost use Rattle.springs.specs.inner.Elimination.{solved};
+ghost use Rattle.statics.specs.inner.Computed.{stiffnessesOf, figuresAt, figuresBy, classLoadRule};
+ghost use Rattle.figures.specs.inner.Ends.{Workable};
 use sheet::Lash;
 use sheet::Sheet;
 use sheet::Tier;
 use statics::EndFigures;
 use statics::Figures;
+use statics::LoadRule;
 
 mod loads; // loads.rt: the loads on the levels and the weights above them
 
@@ -31,12 +32,12 @@ fn end_figures(
     lashes: [Lash; 8],
     m: usize,
     loads: &[u64],
-    most: &[u64],
-    least: &[u64],
+    vmax: &[u64],
+    vmin: &[u64],
 ) -> EndFigures
-    requires { ⌜ Workable n (now k) (take n tiers) m (take m lashes) (now loads) (now most) (now least) ⌝ }
-    requires { ⌜ (length (now k) ≡ 10) × (length (now loads) ≡ 10) × (length (now most) ≡ 11) × (length (now least) ≡ 11) ⌝ }
-    ensures { λ r. ⌜ EndWorked n (now (k .entry)) (take n tiers) (take m lashes) (now (loads .entry)) r ⌝ }
+    requires { ⌜ Workable n (now k) (take n tiers) m (take m lashes) (now loads) (now vmax) (now vmin) ⌝ }
+    requires { ⌜ (length (now k) ≡ 10) × (length (now loads) ≡ 10) × (length (now vmax) ≡ 11) × (length (now vmin) ≡ 11) ⌝ }
+    ensures { λ r. ⌜ r ≡ figuresAt n (now (k .entry)) (take n tiers) (take m lashes) (solved n (now (k .entry)) (stiffnessesOf (take m lashes)) (now (loads .entry))) ⌝ }
 {
     let mut lengths = [0u64; 8];
     let mut stiffnesses = [0u64; 8];
@@ -49,8 +50,8 @@ fn end_figures(
         k,
         tiers,
         &d,
-        most,
-        least,
+        vmax,
+        vmin,
         &pulls.lee,
         &pulls.windward,
     );
@@ -70,31 +71,35 @@ fn end_figures(
     }
 }
 
-// The figures of both ends, with the share of F that a tier's own top takes, in twentieths, and the factor on A_T, in thousandths.
-fn figures_by(s: Sheet, share: u64, factor: u64) -> Figures
-    requires { ⌜ Fits s × (share ≤ 20) × (factor ≤ 1000) ⌝ }
-    ensures { λ r. ⌜ Worked share factor door s (r .door) × Worked share factor closed s (r .closed) ⌝ }
+// The figures of both ends, with what the loads go by.
+pub fn figures_by(s: Sheet, rule: LoadRule) -> Figures
+    requires { ⌜ Fits s × (rule .share ≤ 20) × (rule .factor ≤ 1000) ⌝ }
+    ensures { λ r. ⌜ r ≡ figuresBy rule s ⌝ }
 {
     let n = s.ntiers;
     let tiers = s.tiers;
     let door = s.door;
     let closed = s.closed;
     let mut loads = [0u64; 10];
-    let mut most = [0u64; 11];
-    let mut least = [0u64; 11];
-    loads::loads_of(n, tiers, share, factor, &mut loads, &mut most, &mut least);
+    let mut vmax = [0u64; 11];
+    let mut vmin = [0u64; 11];
+    loads::loads_of(n, tiers, rule, &mut loads, &mut vmax, &mut vmin);
     let k = [DOOR_SPRING; 10];
     let h = [CLOSED_SPRING; 10];
     Figures {
-        door: end_figures(n, &k, tiers, door, s.ndoor, &loads, &most, &least),
-        closed: end_figures(n, &h, tiers, closed, s.nclosed, &loads, &most, &least),
+        door: end_figures(n, &k, tiers, door, s.ndoor, &loads, &vmax, &vmin),
+        closed: end_figures(n, &h, tiers, closed, s.nclosed, &loads, &vmax, &vmin),
     }
 }
 
-// The figures of both ends by the class rule: 0.45 of F on a tier's own top, and the route factor.
-pub fn figures_of(s: Sheet) -> Figures
+// What the loads of a sheet go by: 0.45 of F on a tier's own top, and the route factor.
+pub fn class_rule(s: Sheet) -> LoadRule
     requires { ⌜ Fits s ⌝ }
-    ensures { λ r. ⌜ EndFigured 9 door s (r .door) × EndFigured 9 closed s (r .closed) ⌝ }
+    ensures { λ r. ⌜ (r ≡ classLoadRule s) × (r .share ≤ 20) × (r .factor ≤ 1000) ⌝ }
 {
-    figures_by(s, CLASS_SHARE, 10 * sheet::route_percent(s.head.route))
+    let head = s.head;
+    LoadRule {
+        share: CLASS_SHARE,
+        factor: 10 * sheet::route_percent(head.route),
+    }
 }

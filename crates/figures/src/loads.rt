@@ -5,11 +5,12 @@ ghost use Prim.Native.Nat.{ℕ, _+_, _*_, _-_, _/_, _<_, _≤_, _^_};
 ghost use lib.ListN.{take, getD, replicate};
 ghost use Rattle.sheet.specs.Layout.{blankTier};
 ghost use Rattle.statics.specs.inner.Limits.{TierFacts};
-ghost use Rattle.statics.specs.inner.WholeNumbers.{push, gust};
+ghost use Rattle.statics.specs.inner.WholeNumbers.{transverseUnits, windUnits};
 ghost use Rattle.statics.specs.Loads.{boxLength};
 ghost use Rattle.figures.specs.inner.Ends.{Loaded, Weighed};
 use arith::rounding::scaled;
 use sheet::Tier;
+use statics::LoadRule;
 use statics::NEWTON;
 
 // Length of a box of 20 feet and of 40 feet, mm (CR Table 2-1).
@@ -30,9 +31,9 @@ fn box_length(t: Tier) -> u64
 }
 
 // The wind on a tier: 27 × length × height where it is exposed.
-fn gust_of(t: Tier) -> u64
+fn wind_of(t: Tier) -> u64
     requires { ⌜ TierFacts t ⌝ }
-    ensures { λ r. ⌜ (r ≡ gust t) × (r ≤ 27 * 12192 * 2896) ⌝ }
+    ensures { λ r. ⌜ (r ≡ windUnits t) × (r ≤ 27 * 12192 * 2896) ⌝ }
 {
     if t.wind == 1 {
         return 27 * box_length(t) * (t.height as u64);
@@ -41,38 +42,38 @@ fn gust_of(t: Tier) -> u64
 }
 
 // What a tier pushes with: mass × A_T, and the wind.
-struct Thrust {
-    push: u64,
-    gust: u64,
+struct TierLoad {
+    transverse: u64,
+    wind: u64,
 }
 
-fn thrust_of(t: Tier) -> Thrust
+fn tier_load(t: Tier) -> TierLoad
     requires { ⌜ TierFacts t ⌝ }
-    ensures { λ r. ⌜ (r .push ≡ push t) × (r .push ≤ 30480 * 1500) × (r .gust ≡ gust t) × (r .gust ≤ 27 * 12192 * 2896) ⌝ }
+    ensures { λ r. ⌜ (r .transverse ≡ transverseUnits t) × (r .transverse ≤ 30480 * 1500) × (r .wind ≡ windUnits t) × (r .wind ≤ 27 * 12192 * 2896) ⌝ }
 {
-    Thrust {
-        push: (t.mass as u64) * (t.aT as u64),
-        gust: gust_of(t),
+    TierLoad {
+        transverse: (t.mass as u64) * (t.aT as u64),
+        wind: wind_of(t),
     }
 }
 
 // The load on the level between a tier and the tier over it: share in twentieths, factor in thousandths, all over 4,000,000,000 N.
-fn level_load(share: u64, factor: u64, tier: Thrust, over: Thrust) -> u64
+fn level_load(share: u64, factor: u64, tier: TierLoad, over: TierLoad) -> u64
     requires { ⌜ (share ≤ 20) × (factor ≤ 1000) ⌝ }
-    requires { ⌜ (tier .push ≤ 30480 * 1500) × (tier .gust ≤ 27 * 12192 * 2896) ⌝ }
-    requires { ⌜ (over .push ≤ 30480 * 1500) × (over .gust ≤ 27 * 12192 * 2896) ⌝ }
-    ensures { λ r. ⌜ (r ≡ (981 * factor * (share * tier .push + (20 - share) * over .push) + 40000 * (tier .gust + over .gust)) * 2 ^ 28 / 4000000000) × (r ≤ 2 ^ 46) ⌝ }
+    requires { ⌜ (tier .transverse ≤ 30480 * 1500) × (tier .wind ≤ 27 * 12192 * 2896) ⌝ }
+    requires { ⌜ (over .transverse ≤ 30480 * 1500) × (over .wind ≤ 27 * 12192 * 2896) ⌝ }
+    ensures { λ r. ⌜ (r ≡ (981 * factor * (share * tier .transverse + (20 - share) * over .transverse) + 40000 * (tier .wind + over .wind)) * 2 ^ 28 / 4000000000) × (r ≤ 2 ^ 46) ⌝ }
 {
-    let shared = share * tier.push + (20 - share) * over.push;
+    let shared = share * tier.transverse + (20 - share) * over.transverse;
     scaled(
-        981 * factor * shared + 40000 * (tier.gust + over.gust),
+        981 * factor * shared + 40000 * (tier.wind + over.wind),
         FINE_NEWTON,
         4000000000,
     )
 }
 
 // Mass × acceleration.
-fn lift(mass: u16, acceleration: u16) -> u64
+fn mass_by(mass: u16, acceleration: u16) -> u64
     requires { ⌜ (mass ≤ 30480) × (acceleration ≤ 3000) ⌝ }
     ensures { λ r. ⌜ (r ≡ mass * acceleration) × (r ≤ 30480 * 3000) ⌝ }
 {
@@ -80,41 +81,40 @@ fn lift(mass: u16, acceleration: u16) -> u64
 }
 
 // Half of V, from mass × acceleration of the tiers above.
-fn half_weight(lifted: u64) -> u64
-    requires { ⌜ lifted ≤ 10 * (30480 * 3000) ⌝ }
-    ensures { λ r. ⌜ (r ≡ 981 * lifted * 2 ^ 18 / 400000) × (r ≤ 2 ^ 40) ⌝ }
+fn half_weight(units: u64) -> u64
+    requires { ⌜ units ≤ 10 * (30480 * 3000) ⌝ }
+    ensures { λ r. ⌜ (r ≡ 981 * units * 2 ^ 18 / 400000) × (r ≤ 2 ^ 40) ⌝ }
 {
-    981 * lifted * NEWTON / 400000
+    981 * units * NEWTON / 400000
 }
 
 // The loads on levels 1 to n, and half of V above levels 0 to n, with A_Vmax and with A_Vmin.
 pub fn loads_of(
     n: usize,
     tiers: [Tier; 10],
-    share: u64,
-    factor: u64,
+    rule: LoadRule,
     loads: &mut [u64],
-    most: &mut [u64],
-    least: &mut [u64],
+    vmax: &mut [u64],
+    vmin: &mut [u64],
 )
-    requires { ⌜ (n ≤ 10) × (share ≤ 20) × (factor ≤ 1000) ⌝ }
+    requires { ⌜ (n ≤ 10) × (rule .share ≤ 20) × (rule .factor ≤ 1000) ⌝ }
     requires { ⌜ ((i : ℕ) → i < n → TierFacts (getD (take n tiers) i blankTier)) ⌝ }
-    requires { ⌜ (now loads ≡ replicate 10 0) × (now most ≡ replicate 11 0) × (now least ≡ replicate 11 0) ⌝ }
-    ensures { λ _. ⌜ Loaded share factor n (take n tiers) (now (loads .exit)) × Weighed (take n tiers) (now (most .exit)) (now (least .exit)) ⌝ }
+    requires { ⌜ (now loads ≡ replicate 10 0) × (now vmax ≡ replicate 11 0) × (now vmin ≡ replicate 11 0) ⌝ }
+    ensures { λ _. ⌜ Loaded rule n (take n tiers) (now (loads .exit)) × Weighed (take n tiers) (now (vmax .exit)) (now (vmin .exit)) ⌝ }
 {
-    let mut over = Thrust { push: 0, gust: 0 };
-    let mut most_lifted = 0;
-    let mut least_lifted = 0;
+    let mut over = TierLoad { transverse: 0, wind: 0 };
+    let mut vmax_units = 0;
+    let mut vmin_units = 0;
     let mut i = n;
     while 0 < i {
         i -= 1;
         let t = tiers[i];
-        let tier = thrust_of(t);
-        loads[i] = level_load(share, factor, tier, over);
+        let tier = tier_load(t);
+        loads[i] = level_load(rule.share, rule.factor, tier, over);
         over = tier;
-        most_lifted += lift(t.mass, t.aVmax);
-        least_lifted += lift(t.mass, t.aVmin);
-        most[i] = half_weight(most_lifted);
-        least[i] = half_weight(least_lifted);
+        vmax_units += mass_by(t.mass, t.aVmax);
+        vmin_units += mass_by(t.mass, t.aVmin);
+        vmax[i] = half_weight(vmax_units);
+        vmin[i] = half_weight(vmin_units);
     }
 }

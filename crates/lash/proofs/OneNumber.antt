@@ -1,5 +1,5 @@
 -- The two numbers of a check, told apart again from the one that they make.
-use Prim.Native.Nat.{ℕ, _+_, _*_, _≤_}
+use Prim.Native.Nat.{ℕ, _+_, _*_, _<_, _^_}
 use mathlib.Core.List.{List}
 use mathlib.Core.Path.{_≡_, subst}
 use native.Mathlib.Omega.{arith}
@@ -13,8 +13,8 @@ module _ {margin : ℕ} {s before after : List ℕ} {o q : Outcome} (is : o ≡ 
   small : Numbers q
   small = subst Numbers is (numbers c)
 
-  pub fitting : (number q ≤ 13) × (second q ≤ 834)
-  fitting = (small .first, small .next)
+  pub fitting : (number q < 256) × (second q < 2 ^ 56)
+  fitting = (omega (arith, small .first), omega (arith, small .next))
 
   pub called : (r : ℕ) → r ≡ number q + 256 * second q → Called margin s before after r
   called r e =

@@ -2,20 +2,22 @@
 use mathlib.Core.Path.{_≡_, refl, sym, ap, ap₂, _∙_}
 use mathlib.Core.List.{List, map}
 use Prim.Native.Nat.{ℕ, zero, suc, _+_, _-_, _<_, _≤_}
-use native.Mathlib.Nat.{add-zero, add-suc, suc-add, zero-add, not-suc-le-zero}
+use native.Mathlib.Nat.{zero-add}
 use native.Mathlib.Omega.{arith}
 use lib.IntN.{pos}
 use lib.ListN.{length, getD}
 use Rattle.arith.specs.Fractions.{Frac, nat, _+q_, _*q_, _/q_, _≈_}
+use Rattle.arith.specs.Lists.{below}
+use Rattle.arith.proofs.Arrays.{length-entries, entry}
 use Rattle.arith.proofs.Rationals.{ℚ, mk, _+ℚ_, _-ℚ_, _*ℚ_, _/ℚ_}
 use Rattle.arith.proofs.FractionLaws.{≈-refl, ⊑-refl, ⊑-antisym, *q-cong-r}
 use Rattle.arith.proofs.FractionsInRationals.{mk-int, mk-add, mk-mul, mk-div, of-≈, to-≈}
-use Rattle.springs.specs.Equations.{Tier, Lash, tierAt, shift, athwart, racking, Solves, Stiff, Agree}
-use Rattle.springs.specs.Promise.{stiffnessAt, loadAt}
-use Rattle.springs.proofs.Chain.{numbers, load-same}
+use Rattle.springs.specs.Equations.{Tier, Lash, tierAt, shift, athwart, stiffnessAt, loadAt, racking, Solves, Stiff, Agree}
+use Rattle.springs.specs.Theorems.{Determined, OneSolution, Heavier}
+use Rattle.springs.proofs.Chain.{load-same}
 use Rattle.springs.proofs.Elimination as E
 use Rattle.springs.proofs.Levels.{springs, lashes, loads, shifts, mk-stiffness, mk-load, mk-racking, no-spring, spring-pos, spring-nn, lashes-nn, solves}
-use Rattle.springs.proofs.Growth.{Heavier, growth}
+use Rattle.springs.proofs.Growth.{growth}
 
 -- elimination from the top down: what m tiers from tier i + 1 on, with the lashes over them, hand down to level i, stiffness and load
 unfoldable pub handedStiffness : List Tier → List Lash → ℕ → ℕ → Frac
@@ -36,7 +38,7 @@ shiftOf ts ls n (suc i) =
 
 -- the shifts of levels 1 to n
 unfoldable pub solution : List Tier → List Lash → List Frac
-solution ts ls = map (λ i. shiftOf ts ls (length ts) (suc i)) (numbers 0 (length ts))
+solution ts ls = map (λ i. shiftOf ts ls (length ts) (suc i)) (below (length ts))
 
 -- the same over ℚ
 module _ (ts : List Tier) (ls : List Lash) where
@@ -46,8 +48,8 @@ module _ (ts : List Tier) (ls : List Lash) where
   abbrev loadℚ : ℕ → ℕ → ℚ
   loadℚ i m = E.handed-load (springs ts) (lashes ls) (loads ts) i m
 
-  abbrev solvedℚ : ℕ → ℕ → ℚ
-  solvedℚ n i = E.solved (springs ts) (lashes ls) (loads ts) n i
+  abbrev eliminatedℚ : ℕ → ℕ → ℚ
+  eliminatedℚ n i = E.eliminated (springs ts) (lashes ls) (loads ts) n i
 
   mk-handed : (i m : ℕ) → mk (handedStiffness ts ls i m) ≡ stiffnessℚ i m
   unfolding handedStiffness
@@ -69,7 +71,7 @@ module _ (ts : List Tier) (ls : List Lash) where
       let c = tierAt ts i .K +q (stiffnessAt ls (suc i) +q handedStiffness ts ls (suc i) m) in
       mk-div (tierAt ts i .K *q a) c ∙ ap₂ _/ℚ_ (mk-mul (tierAt ts i .K) a ∙ ap (λ z. springs ts i *ℚ z) (mk-add (loadAt ts i) (handedLoad ts ls (suc i) m) ∙ ap₂ _+ℚ_ (mk-load ts i) (mk-loaded (suc i) m))) (mk-divisor i m)
 
-  mk-shift : (n i : ℕ) → mk (shiftOf ts ls n i) ≡ solvedℚ n i
+  mk-shift : (n i : ℕ) → mk (shiftOf ts ls n i) ≡ eliminatedℚ n i
   unfolding shiftOf
   mk-shift n zero = mk-int (pos 0)
   mk-shift n (suc i) =
@@ -79,30 +81,21 @@ module _ (ts : List Tier) (ls : List Lash) where
       mk-div (a +q tierAt ts i .K *q shiftOf ts ls n i) c ∙ ap₂ _/ℚ_ (mk-add a (tierAt ts i .K *q shiftOf ts ls n i) ∙ ap₂ _+ℚ_ (mk-add (loadAt ts i) (handedLoad ts ls (suc i) m) ∙ ap₂ _+ℚ_ (mk-load ts i) (mk-loaded (suc i) m)) (mk-mul (tierAt ts i .K) (shiftOf ts ls n i) ∙ ap (λ z. springs ts i *ℚ z) (mk-shift n i))) (mk-divisor i m)
 
   -- the list
-  length-numbers : (f : ℕ → Frac) (i m : ℕ) → length (map f (numbers i m)) ≡ m
-  length-numbers f i zero = refl
-  length-numbers f i (suc m) = ap suc (length-numbers f (suc i) m)
-
-  getD-numbers : (f : ℕ → Frac) (d : Frac) (i m j : ℕ) → j < m → getD (map f (numbers i m)) j d ≡ f (i + j)
-  getD-numbers f d i zero j h = absurd (not-suc-le-zero h)
-  getD-numbers f d i (suc m) zero h = ap f (sym (add-zero i))
-  getD-numbers f d i (suc m) (suc j) h = getD-numbers f d (suc i) m j (omega arith) ∙ ap f (suc-add i j ∙ sym (add-suc i j))
-
   length-solution : length (solution ts ls) ≡ length ts
   unfolding solution
-  length-solution = length-numbers (λ i. shiftOf ts ls (length ts) (suc i)) 0 (length ts)
+  length-solution = length-entries (λ i. shiftOf ts ls (length ts) (suc i)) (nat 0) (length ts)
 
-  shift-solution : (i : ℕ) → i ≤ length ts → shifts (solution ts ls) i ≡ solvedℚ (length ts) i
+  shift-solution : (i : ℕ) → i ≤ length ts → shifts (solution ts ls) i ≡ eliminatedℚ (length ts) i
   unfolding solution shift
   shift-solution zero h = mk-int (pos 0)
-  shift-solution (suc i) h = ap mk (getD-numbers (λ j. shiftOf ts ls (length ts) (suc j)) (nat 0) 0 (length ts) i h ∙ ap (λ (j : ℕ). shiftOf ts ls (length ts) (suc j)) (zero-add i)) ∙ mk-shift (length ts) (suc i)
+  shift-solution (suc i) h = ap mk (entry (λ j. shiftOf ts ls (length ts) (suc j)) (nat 0) 0 (length ts) i h ∙ ap (λ (j : ℕ). shiftOf ts ls (length ts) (suc j)) (zero-add i)) ∙ mk-shift (length ts) (suc i)
 
 pub exists : (ts : List Tier) (ls : List Lash) → Stiff ts ls → Solves ts ls (solution ts ls)
 exists ts ls s =
     let n = length ts in
     let top = no-spring ts n (omega arith) in
     solves ts ls (solution ts ls) (length-solution ts ls)
-    (λ i h. load-same (springs ts) (lashes ls) (shifts (solution ts ls)) (solvedℚ ts ls n) n top (shift-solution ts ls) i h ∙ E.solved-balance (springs ts) (lashes ls) (loads ts) n (spring-pos ts ls s) (spring-nn ts ls s) (lashes-nn ts ls s) top i (n - suc i) (omega arith))
+    (λ i h. load-same (springs ts) (lashes ls) (shifts (solution ts ls)) (eliminatedℚ ts ls n) n top (shift-solution ts ls) i h ∙ E.eliminated-balance (springs ts) (lashes ls) (loads ts) n (spring-pos ts ls s) (spring-nn ts ls s) (lashes-nn ts ls s) top i (n - suc i) (omega arith))
 
 pub unique : (ts : List Tier) (ls : List Lash) (Ds Es : List Frac) → Stiff ts ls → Solves ts ls Ds → Solves ts ls Es → Agree Ds Es
 unique ts ls Ds Es s d e = record {
@@ -112,6 +105,9 @@ unique ts ls Ds Es s d e = record {
   where
     self : Heavier ts ts
     self = record { tiers = refl; springs = λ i h. ≈-refl (tierAt ts i .K); loads = λ i h. ⊑-refl (loadAt ts i) }
+
+pub one-solution : OneSolution
+one-solution ts ls s = record { shifts = solution ts ls; exists = exists ts ls s; unique = λ Ds d. unique ts ls Ds (solution ts ls) s d (exists ts ls s) }
 
 -- where two lists of shifts agree, so do the rackings and the athwart parts
 pub same-racking : (ts : List Tier) (Ds Es : List Frac) → Agree Ds Es → (i : ℕ) → racking ts Ds i ≈ racking ts Es i

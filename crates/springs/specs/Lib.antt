@@ -1,3 +1,4 @@
 pub mod Equations
+pub mod Theorems
 pub mod Promise
 pub mod inner

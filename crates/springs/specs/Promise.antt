@@ -2,10 +2,9 @@
 use mathlib.Core.List.{List}
 use mathlib.Core.Path.{_≡_}
 use Prim.Native.Nat.{ℕ, suc, _+_, _*_, _<_, _≤_, _^_}
-use lib.Dec.{eqb}
 use lib.ListN.{length, getD}
 use Rattle.arith.specs.Fractions.{Frac, nat, _-q_, _*q_, _/q_, absq, _≈_, _⊑_, sumq}
-use Rattle.springs.specs.Equations.{Tier, Lash, tierAt, shift, given, racking, Solves, Stiff}
+use Rattle.springs.specs.Equations.{doorSpring, closedSpring, Tier, Lash, tierAt, shift, stiffnessAt, loadAt, racking, Solves, Stiff}
 
 -- the scales: stiffnesses in 2^-22 N/mm, loads in 2^-28 N, shifts in 2^-28 mm
 abbrev pub stiffnessScale : ℕ
@@ -22,15 +21,8 @@ pub record Rounded (scale slack x : ℕ) (y : Frac) : Type 0 where
   pub low : nat x ⊑ nat scale *q y
   pub high : nat scale *q y ⊑ nat (x + slack)
 
--- the stiffness of all lashes at level i, and the load on it: Q of the tier under it less Q of the tier over it
-abbrev pub stiffnessAt : List Lash → ℕ → Frac
-stiffnessAt ls i = sumq (λ l. given (eqb i (l .level)) (l .stiffness)) ls
-
-abbrev pub loadAt : List Tier → ℕ → Frac
-loadAt ts i = tierAt ts i .Q -q tierAt ts (suc i) .Q
-
--- an exact chain that the solver's inputs stand for: n tiers of springs k; of each level over them the lashes' stiffness κ and the load ω, each a sum of
--- at most four numbers rounded down
+-- an exact chain that the solver's inputs stand for: n tiers of springs k; of each level over them the lashes' stiffness κ and the load ω, each a
+-- sum of at most four numbers rounded down
 pub record Near (n : ℕ) (k κ ω : List ℕ) (ts : List Tier) (ls : List Lash) : Type 0 where
   pub tiers : length ts ≡ n
   pub stiff : Stiff ts ls
@@ -42,15 +34,8 @@ pub record Near (n : ℕ) (k κ ω : List ℕ) (ts : List Tier) (ls : List Lash)
 abbrev pub found : List ℕ → ℕ → Frac
 found d i = nat (getD d i 0) /q nat shiftScale
 
--- document 01's two springs, in N/mm
-abbrev pub softest : ℕ
-softest = 3730
-
-abbrev pub stiffest : ℕ
-stiffest = 15690
-
--- the most that its limits allow at a level, rounded up: lashes of 620,000 N/mm (four of 153,960) and a load of 2^18 N (243,323); and the farthest shift
--- then, 2^12 mm (3,262)
+-- the most that document 01's limits allow at a level, rounded up: lashes of 620,000 N/mm (four of 153,960) and a load of 2^18 N (243,323); and
+-- the farthest shift then, 2^12 mm (3,262)
 abbrev pub mostHeld : ℕ
 mostHeld = 620000 * stiffnessScale
 
@@ -63,7 +48,7 @@ farthest = 2 ^ 12 * shiftScale
 -- when the solver may be called
 pub record Solvable (n : ℕ) (k κ ω : List ℕ) : Type 0 where
   pub few : n ≤ 10
-  pub springs : (i : ℕ) → i < n → (softest ≤ getD k i 0) × (getD k i 0 ≤ stiffest)
+  pub springs : (i : ℕ) → i < n → (doorSpring ≤ getD k i 0) × (getD k i 0 ≤ closedSpring)
   pub held : (i : ℕ) → i < n → getD κ i 0 ≤ mostHeld
   pub loaded : (i : ℕ) → i < n → getD ω i 0 ≤ mostLoaded
 

@@ -1,14 +1,14 @@
--- The answer's bytes as the code writes them: two ends, the findings behind their count, then the verdict in front.
+-- The answer's bytes as the code writes them: the verdict, the two ends, the findings behind their count.
 use mathlib.Core.Path.{_≡_, refl, ap, _∙_}
 use mathlib.Core.Bool.{cond}
 use mathlib.Core.List.{List, [], _∷_, flatMap}
-use Prim.Native.Nat.{ℕ, _+_, _-_, _≤_}
+use Prim.Native.Nat.{ℕ, suc, _+_, _-_, _*_, _≤_}
 use native.Mathlib.Numerals.{add-one}
 use native.Mathlib.Omega.{arith}
-use borrow.Author.Tests.{eq-eqb, ne-eqb}
+use borrow.Author.Tests.{ne-eqb}
 use lib.Dec.{eqb}
 use lib.ListN.{length, take, replicate, length-append, length-take, length-replicate}
-use lib.Seq.{sets}
+use lib.Seq.{sets, take-at}
 use Rattle.sheet.specs.declared.Lash.{Lash}
 use Rattle.sheet.specs.declared.Sheet.{Sheet}
 use Rattle.sheet.specs.Layout.{blankLash}
@@ -19,35 +19,55 @@ use Rattle.statics.specs.declared.Figures.{Figures}
 use Rattle.statics.specs.Ends.{End, door, closed, lashesOf}
 use Rattle.answer.specs.Findings.{Finding, findings, verdict}
 use Rattle.answer.specs.Answers.{endBytes, answerBytes, findingBytes}
-use Rattle.answer_findings.specs.inner.Findings.{Wrote, Sized, findingsBytes}
-use Rattle.stack_check.specs.inner.Encoding.{endBytesOf}
+use Rattle.answer_findings.specs.declared.Found.{Found}
+use Rattle.answer_findings.specs.inner.Findings.{Sized, found}
+use Rattle.stack_check.specs.inner.Encoding.{Wrote, endBytesOf}
 use Rattle.answer.proofs.ReadBack.{bytes-length}
-use Rattle.answer_findings.proofs.Stores.{then, in-front}
+use Rattle.stack_check.proofs.Stores.{run, then}
 
 -- an end's bytes, by its counts
 pub end-is : (t : Sheet) (e : End) (f : EndFigures) (m : ℕ) → length (lashesOf e t) ≡ m → endBytes t e f ≡ endBytesOf (t .ntiers) m f
 unfolding endBytes endBytesOf
 end-is t e f m few = rw (few, add-one (t .ntiers)) refl
 
--- the verdict, by the place behind the findings
-verdict-is : (fs : List Finding) (first end : ℕ) → end ≡ first + length (flatMap findingBytes fs) → cond (eqb end first) 0 1 ≡ verdict fs
-unfolding flatMap
-verdict-is [] first end e =
-    let z : end ≡ first = omega arith in
-    rw (eq-eqb end first z) refl
-verdict-is (x ∷ xs) first end e = rw (ne-eqb end first apart) refl
+-- the verdict, by the count of findings
+verdict-is : (fs : List Finding) → cond (eqb (length fs) 0) 0 1 ≡ verdict fs
+verdict-is [] = refl
+verdict-is (x ∷ xs) = rw (ne-eqb (suc (length xs)) 0 some) refl
   where
-    apart : end ≡ first → ⊥
-    apart q = omega (arith, bytes-length xs)
+    some : suc (length xs) ≡ 0 → ⊥
+    some e = omega arith
 
-module _ (t : Sheet) (f : Figures) (s : Sized t) where
-  pub whole : {l m k j z : List ℕ} {p q end v : ℕ} → Wrote l 1 (endBytesOf (t .ntiers) (t .ndoor) (f .door)) m p → Wrote m p (endBytesOf (t .ntiers) (t .nclosed) (f .closed)) k q → Wrote k q (findingsBytes t f) j end → z ≡ sets j 0 (v ∷ []) → v ≡ cond (eqb end (q + 1)) 0 1 → Wrote l 0 (answerBytes t f) z end
-  unfolding answerBytes findingsBytes
-  whole {l} {m} {k} {j} {z} {p} {q} {end} {v} a b d e g =
-      let h : end ≡ q + 1 + length (flatMap findingBytes (findings t f)) = omega (arith, d .place) in
-      let u = g ∙ verdict-is (findings t f) (q + 1) end h in
-      rw (end-is t door (f .door) (t .ndoor) (s .door-lashes), end-is t closed (f .closed) (t .nclosed) (s .closed-lashes), ← u)
-      (in-front v (then (then a b) d) e)
+-- the first bytes of the findings' array are the findings
+pub found-bytes : (t : Sheet) (f : Figures) → take (3 * length (findings t f)) (found t f .bytes) ≡ flatMap findingBytes (findings t f)
+found-bytes t f =
+    let bytes = flatMap findingBytes (findings t f) in
+    take-at bytes (replicate (387 - length bytes) 0) (3 * length (findings t f)) (bytes-length (findings t f))
+
+module _ (t : Sheet) (f : Figures) (s : Sized t) {r : Found} (is : r ≡ found t f) where
+  count-is : r .count ≡ length (findings t f)
+  count-is = ap (λ (x : Found). x .count) is
+
+  bytes-are : take (3 * r .count) (r .bytes) ≡ flatMap findingBytes (findings t f)
+  bytes-are = ap (λ (x : Found). take (3 * x .count) (x .bytes)) is ∙ found-bytes t f
+
+  -- the verdict, the two ends, the count and the findings, one behind another
+  pub whole :
+      {l k m n o z : List ℕ} {p q v : ℕ} →
+      k ≡ sets l 0 (v ∷ []) →
+      v ≡ cond (eqb (r .count) 0) 0 1 →
+      Wrote k 1 (endBytesOf (t .ntiers) (t .ndoor) (f .door)) m p →
+      Wrote m p (endBytesOf (t .ntiers) (t .nclosed) (f .closed)) n q →
+      o ≡ sets n q (r .count ∷ []) →
+      Wrote o (q + 1) (take (3 * r .count) (r .bytes)) z (q + 1 + 3 * r .count) →
+      Wrote l 0 (answerBytes t f) z (q + 1 + 3 * r .count)
+  unfolding answerBytes
+  whole {v = v} e g a b d h =
+      let u : v ≡ verdict (findings t f) = g ∙ ap (λ (x : ℕ). cond (eqb x 0) 0 1) count-is ∙ verdict-is (findings t f) in
+      let mark = run {bytes = verdict (findings t f) ∷ []} {next = 1} (rw u at e) refl in
+      let count = run {bytes = length (findings t f) ∷ []} (rw count-is at d) refl in
+      rw (end-is t door (f .door) (t .ndoor) (s .door-lashes), end-is t closed (f .closed) (t .nclosed) (s .closed-lashes))
+      (then (then (then mark a) b) (then count (rw bytes-are at h)))
 
 -- an end has as many lashes as are counted
 lashes-full : (ls : List Lash) (n : ℕ) → ls ≡ padded 8 blankLash (take n ls) → n ≤ 8 → length (take n ls) ≡ n

@@ -2,7 +2,6 @@
 use mathlib.Core.Path.{_≡_, refl, sym, ap, subst, _∙_}
 use mathlib.Core.List.{List, _++_}
 use Prim.Native.Nat.{ℕ, _≤_, _<_}
-use lib.Dec.{lit≤}
 use lib.ListN.{drop, length}
 use Rattle.sheet.specs.declared.Reading.{Reading}
 use Rattle.sheet.specs.declared.Reading.the-variants.{Taken, Refused}
@@ -17,14 +16,13 @@ use Rattle.statics.specs.declared.Figures.{Figures}
 use Rattle.statics.specs.Ends.{End, door, closed}
 use Rattle.statics.specs.Reported.{EndFigured}
 use Rattle.statics.specs.inner.Limits.{Facts}
-use Rattle.statics.proofs.Margins.{figured-wider}
 use Rattle.statics.proofs.OneSolution as S
 use Rattle.statics.proofs.Taken.{facts}
 use Rattle.answer.specs.declared.Outcome.{Outcome}
 use Rattle.answer.specs.declared.Outcome.the-variants as O
 use Rattle.answer.specs.Findings.{figuresOf}
 use Rattle.answer.specs.Answers.{answerBytes}
-use Rattle.answer.specs.Checked.{OneSolution, Answered, CheckedAs, Checked, kept, demanded}
+use Rattle.answer.specs.Checked.{OneSolution, Answered, CheckedAs, Checked}
 use Rattle.answer_findings.specs.inner.Findings.{Sized}
 use Rattle.stack_check.proofs.AnswerLaws.{sized}
 
@@ -45,13 +43,13 @@ module _ (s before : List ℕ) (d : Decoded) (is : d ≡ decoded s) where
   pub refused : {n p : ℕ} → d .reading ≡ Refused n p → (margin : ℕ) → Checked margin s before before (O.Refused n p)
   refused {n} {p} e margin =
       checked-as margin s before before (O.Refused n p) (Refused n p) (sheet-refused s (length before) (reading-is e))
-      (record { first = refl; next = refl; untouched = refl })
+      (record { refused = refl; untouched = refl })
 
   module _ (e : d .reading ≡ Taken) where
     pub short-room : length before < 834 → (margin : ℕ) → Checked margin s before before (O.Refused 13 834)
     short-room h margin =
         checked-as margin s before before (O.Refused 13 834) (Refused 13 834) (room-short s (length before) (reading-is e) h)
-        (record { first = refl; next = refl; untouched = refl })
+        (record { refused = refl; untouched = refl })
 
     same : d .sheet ≡ sheetOf s
     same = ap (λ (x : Decoded). x .sheet) is ∙ decoded-sheet s (reading-is e)
@@ -62,26 +60,29 @@ module _ (s before : List ℕ) (d : Decoded) (is : d ≡ decoded s) where
     pub taken-sized : Sized (d .sheet)
     taken-sized = sized (d .sheet) taken-fits (rw same (sheet-padded s))
 
-    module _ (f : Figures) (n : ℕ) (after : List ℕ) (room : 834 ≤ length before) (size : n ≡ length (answerBytes (d .sheet) f)) (written : after ≡ answerBytes (d .sheet) f ++ drop (length (answerBytes (d .sheet) f)) before) where
-      pub taken : {margin : ℕ} → EndFigured margin door (d .sheet) (f .door) → EndFigured margin closed (d .sheet) (f .closed) → Checked margin s before after (O.Taken n)
-      taken {margin} a b =
-          checked-as margin s before after (O.Taken n) Taken (all-taken s (length before) (reading-is e) room)
-          (subst (λ (t : Sheet). Answered margin t before after (O.Taken n)) same answer)
-        where
-          told : (e : End) → EndFigured margin e (d .sheet) (figuresOf e f)
-          told door = a
-          told closed = b
+    module _
+        {f : Figures} {n : ℕ} {after : List ℕ}
+        (room : 834 ≤ length before) (size : n ≡ length (answerBytes (d .sheet) f))
+        (written : after ≡ answerBytes (d .sheet) f ++ drop (length (answerBytes (d .sheet) f)) before)
+      where
+        pub taken :
+            {margin : ℕ} →
+            EndFigured margin door (d .sheet) (f .door) →
+            EndFigured margin closed (d .sheet) (f .closed) →
+            Checked margin s before after (O.Taken n)
+        taken {margin} a b =
+            checked-as margin s before after (O.Taken n) Taken (all-taken s (length before) (reading-is e) room)
+            (subst (λ (t : Sheet). Answered margin t before after (O.Taken n)) same answered)
+          where
+            reports : (e : End) → EndFigured margin e (d .sheet) (figuresOf e f)
+            reports door = a
+            reports closed = b
 
-          answer : Answered margin (d .sheet) before after (O.Taken n)
-          answer =
-              record {
-                figures = f;
-                taken = refl;
-                size = size;
-                written = written;
-                told = told;
-                one = one-solution (facts taken-fits);
-              }
-
-      pub taken-both : EndFigured kept door (d .sheet) (f .door) → EndFigured kept closed (d .sheet) (f .closed) → Checked kept s before after (O.Taken n) × Checked demanded s before after (O.Taken n)
-      taken-both a b = (taken a b, taken (figured-wider (lit≤ tt) a) (figured-wider (lit≤ tt) b))
+            answered : Answered margin (d .sheet) before after (O.Taken n)
+            answered =
+                record {
+                  bytes = answerBytes (d .sheet) f;
+                  answer = record { figures = f; encoded = refl; reports = reports; one = one-solution (facts taken-fits) };
+                  taken = ap O.Taken size;
+                  written = written;
+                }

@@ -6,13 +6,13 @@ ghost use mathlib.Core.List.{_++_};
 ghost use Prim.Native.Nat.{ℕ, _+_, _*_, _<_, _≤_};
 ghost use lib.IntN.{pos};
 ghost use lib.Dec.{eqb};
-ghost use lib.ListN.{length, getD, drop};
+ghost use lib.ListN.{length, getD, take, drop};
 ghost use Rattle.arith.specs.Bytes.{bytes4, twos};
 ghost use Rattle.statics.specs.Reported.{Fitting};
 ghost use Rattle.answer.specs.Answers.{counted, answerBytes};
-ghost use Rattle.answer_findings.specs.inner.Findings.{Wrote, Sized};
-ghost use Rattle.stack_check.specs.inner.Encoding.{lashBytes, endBytesOf};
-use answer_findings::write_findings;
+ghost use Rattle.answer_findings.specs.inner.Findings.{Sized};
+ghost use Rattle.stack_check.specs.inner.Encoding.{Wrote, lashBytes, endBytesOf};
+use answer_findings::findings_of;
 use arith::bytes::write_signed;
 use arith::bytes::write1;
 use arith::bytes::write4;
@@ -99,25 +99,43 @@ fn write_end(answer: &mut [u8], at: usize, n: usize, m: usize, f: EndFigures) ->
     write_lashes(answer, s, &f.pull, &f.athwart, &f.vertical, m)
 }
 
-// 0 accepted, 1 not: findings stand from `first` to `end`.
-fn verdict_of(first: usize, end: usize) -> u64
-    ensures { λ r. ⌜ (r ≡ cond (eqb end first) 0 1) × (r ≤ 1) ⌝ }
+// The first n bytes found, into the answer at `at`.
+fn write_found(answer: &mut [u8], at: usize, found: &[u8], n: usize)
+    requires { ⌜ (n ≤ length (now found)) × (at + n ≤ length (now answer)) ⌝ }
+    ensures { λ r. ⌜ Wrote (now (answer .entry)) at (take n (now (found .entry))) (now (answer .exit)) (at + n) ⌝ }
 {
-    if end == first {
+    let mut i = 0;
+    while i < n {
+        answer[at + i] = found[i];
+        i += 1;
+    }
+}
+
+// 0 accepted, with no findings; 1 not.
+fn verdict_of(findings: usize) -> u64
+    ensures { λ r. ⌜ (r ≡ cond (eqb findings 0) 0 1) × (r ≤ 1) ⌝ }
+{
+    if findings == 0 {
         return 0;
     }
     1
 }
 
-// The answer to a sheet, from its figures: its length. The verdict is stored last, since the findings decide it.
+// The answer to a sheet, from its figures: its length. The findings go through a buffer of their own, since bytes are stored behind
+// the last of them too.
 pub fn write_answer(answer: &mut [u8], t: Sheet, f: Figures) -> usize
     requires { ⌜ Sized t × Fitting (f .door) × Fitting (f .closed) × (834 ≤ length (now answer)) ⌝ }
     ensures { λ r. ⌜ (r ≡ length (answerBytes t f)) × (now (answer .exit) ≡ answerBytes t f ++ drop (length (answerBytes t f)) (now (answer .entry))) ⌝ }
 {
+    let found = findings_of(t, f);
+    let count = found.count;
     let n = t.ntiers;
+    write1(answer, 0, verdict_of(count));
     let p = write_end(answer, 1, n, t.ndoor, f.door);
     let q = write_end(answer, p, n, t.nclosed, f.closed);
-    let end = write_findings(answer, q, t, f);
-    write1(answer, 0, verdict_of(q + 1, end));
-    end
+    write1(answer, q, count as u64);
+    let first = q + 1;
+    let size = 3 * count;
+    write_found(answer, first, &found.bytes, size);
+    first + size
 }

@@ -2,14 +2,13 @@
 
 mod encode; // encode.rt: the answer's bytes
 
-ghost use Rattle.answer.specs.Checked.{Checked, demanded, kept};
+ghost use Rattle.answer.specs.Checked.{Checked, kept};
 use answer::Outcome;
 use sheet::Reading;
 
 // The check of a stack sheet. A taken sheet's answer is written from the buffer's start; a refusal leaves the buffer as it was.
 pub fn check(sheet: &[u8], answer: &mut [u8]) -> Outcome
-    ensures within { λ r. ⌜ Checked kept (now (sheet .entry)) (now (answer .entry)) (now (answer .exit)) r ⌝ }
-    ensures asked { λ r. ⌜ Checked demanded (now (sheet .entry)) (now (answer .entry)) (now (answer .exit)) r ⌝ }
+    ensures { λ r. ⌜ Checked kept (now (sheet .entry)) (now (answer .entry)) (now (answer .exit)) r ⌝ }
 {
     let decoded = sheet_decode::decode(sheet);
     let reading = decoded.reading;

@@ -1,11 +1,14 @@
 -- Arrays that a loop fills entry by entry, and lists that it reads entry by entry.
 use Prim.Native.Nat.{ℕ, zero, suc, zero-le, _+_, _-_, _<_, _≤_}
-use mathlib.Core.Path.{_≡_, refl, sym, ap, _∙_}
-use mathlib.Core.List.{List, [], _∷_}
-use native.Mathlib.Decide.{ℕ-discrete}
+use mathlib.Core.Path.{_≡_, refl, sym, ap, subst, _∙_}
+use mathlib.Core.List.{List, [], _∷_, _++_, map}
+use native.Mathlib.Decide.{ℕ-discrete, decLt}
+use native.Mathlib.Nat.{add-zero, add-suc, suc-add, zero-add}
 use native.Mathlib.Omega.{arith}
-use lib.ListN.{length, getD, set, take, drop, replicate, length-set, length-replicate}
-use lib.Seq.{drop-cons, drop-length, getD-set-same, getD-set-other, getD-take, length-take-le}
+use lib.ListN.{length, getD, set, take, drop, replicate, length-set, length-replicate, length-append}
+use lib.Seq.{ext-getD, getD-append-add, drop-cons, drop-length, getD-set-same, getD-set-other, getD-take, length-take-le}
+use Rattle.arith.specs.Lists.{from, below, padded}
+use Rattle.arith.proofs.Arrays as Entries
 use Rattle.statics.specs.inner.WholeNumbers.{Filled}
 
 module _ {A : Type 0} where
@@ -71,8 +74,8 @@ module _ {A : Type 0} where
             | no ne ↦ rw (getD-set-other r hi i v blank ne) (b .each i l (omega arith))
           ]
 
-  pub filled : {blank : A} {f : ℕ → A} {size hi : ℕ} {r : List A} → Between blank (λ i x. x ≡ f i) size 0 hi r → Filled blank hi f r
-  filled b = record { each = λ i h. b .each i zero-le h; rest = b .rest }
+  pub filled : {blank : A} {f : ℕ → A} {size hi : ℕ} {r : List A} → Between blank (λ i x. x ≡ f i) size 0 hi r → Filled size blank hi f r
+  filled b = record { long = b .long; each = λ i h. b .each i zero-le h; rest = b .rest }
 
   -- the first m entries, from entry i on
   pub peel : (l : List A) (m i : ℕ) (z : A) → i < m → m ≤ length l → drop i (take m l) ≡ getD l i z ∷ drop (suc i) (take m l)
@@ -82,3 +85,36 @@ module _ {A : Type 0} where
 
   pub peeled-off : (l : List A) (m : ℕ) → m ≤ length l → drop m (take m l) ≡ []
   peeled-off l m room = ap (λ (k : ℕ). drop k (take m l)) (sym (length-take-le m l room)) ∙ drop-length (take m l)
+
+-- an array made by name: an entry, an entry behind the count, and an array that a loop has filled so
+module _ {A : Type 0} (f : ℕ → A) (b : A) where
+  from-at : (i n k : ℕ) → k < n → getD (map f (from i n)) k b ≡ f (i + k)
+  unfolding from
+  from-at i zero k h = absurd (omega (arith, h))
+  from-at i (suc n) zero h = ap f (sym (add-zero i))
+  from-at i (suc n) (suc k) h = from-at (suc i) n k (omega (arith, h)) ∙ ap f (suc-add i k ∙ sym (add-suc i k))
+
+  pub entry-at : (n k : ℕ) → k < n → getD (map f (below n)) k b ≡ f k
+  entry-at n k h = from-at 0 n k h ∙ ap f (zero-add k)
+
+  module _ (size n : ℕ) where
+    pub padded-at : (k : ℕ) → k < n → getD (padded size b (map f (below n))) k b ≡ f k
+    padded-at k h = Entries.held f b n size k h
+
+    pub padded-behind : (k : ℕ) → n ≤ k → getD (padded size b (map f (below n))) k b ≡ b
+    padded-behind k h =
+        let blanks = replicate (size - length (map f (below n))) b in
+        subst (λ (z : ℕ). getD (map f (below n) ++ blanks) z b ≡ b) {x = length (map f (below n)) + (k - n)} {y = k}
+        (rw (Entries.length-entries f b n) (omega arith))
+        (getD-append-add (map f (below n)) blanks (k - n) b ∙ blank-entry b (size - length (map f (below n))) (k - n))
+
+    pub filled-padded : (r : List A) → n ≤ size → Filled size b n f r → r ≡ padded size b (map f (below n))
+    filled-padded r room h =
+        ext-getD b r (padded size b (map f (below n))) (h .long ∙ sym whole)
+        (λ k q. elim (decLt k n) [
+          | yes l ↦ h .each k l ∙ sym (padded-at k l)
+          | no l ↦ h .rest k (omega arith) ∙ sym (padded-behind k (omega arith))
+        ])
+      where
+        whole : length (padded size b (map f (below n))) ≡ size
+        whole = simp (length-append, length-replicate, Entries.length-entries f b n) (omega arith)

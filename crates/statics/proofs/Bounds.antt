@@ -20,49 +20,48 @@ use Rattle.springs.proofs.Levels.{springs, shifts, mk-racking, deck, spring-nn}
 use Rattle.sheet.specs.declared.Tier.{Tier}
 use Rattle.sheet.specs.declared.Lash.{Lash}
 use Rattle.sheet.specs.declared.Sheet.{Sheet}
-use Rattle.sheet.specs.Routes.{routePercent}
 use Rattle.statics.specs.declared.EndFigures.{EndFigures}
-use Rattle.statics.specs.Loads.{classShare}
+use Rattle.statics.specs.declared.LoadRule.{LoadRule}
+use Rattle.statics.specs.Loads.{Rule, StandsFor}
 use Rattle.statics.specs.Lashes.{pull, athwartPart, verticalPart}
-use Rattle.statics.specs.Ends.{End, EndSolved, tiersOf, lashesOf, routeFactor}
+use Rattle.statics.specs.Ends.{End, EndSolved, tiersOf, lashesOf, endTiers, endLashes}
 use Rattle.statics.specs.Posts.{athwartOf, moment, weightAbove, verticals, inCompression, inTension, onLee, onWindward, lee, windward, compression, tension, greater, lower, atMost}
-use Rattle.statics.specs.inner.WholeNumbers.{Blank}
-use Rattle.statics.specs.Reported.{forceOf, EndReported, Fitting, EndFigured}
+use Rattle.statics.specs.Forces as F
+use Rattle.statics.specs.Forces.{lashForce}
+use Rattle.statics.specs.Reported.{reportedSize, EndReported, Fitting, EndFigured}
 use Rattle.statics.specs.inner.Limits.{TierFacts, Facts}
-use Rattle.statics.proofs.EndChain.{percent-most, tier-facts, end-each, endTiers, endLashes, end-length, end-stiff, share-is, factor-is}
+use Rattle.statics.proofs.EndChain.{tier-facts, end-each, end-length, end-stiff}
 use Rattle.statics.proofs.OneSolution.{solutionOf, exists, leeward}
+use Rattle.statics.proofs.LoadsGrow.{stands-proper}
 use Rattle.statics.proofs.Within.{UpTo, Within, up-none, up-more, within-up, within-less, within-neg, within-sum, within-more, within-same, within-over, within-choice, reported-below}
 use Rattle.statics.proofs.LoadBounds.{each-drop, weight-up, tier-up, turning-up}
 use Rattle.statics.proofs.LashBounds.{part-up, all-least, one-part, from-part, all-from, pull-part, vertical-part, verticals-part, arms-part, keeps-lee, keeps-windward}
 
-module _ (e : End) {t : Sheet} (f : Facts t) where
+module _ {rule : Rule} {c : LoadRule} (stands : StandsFor c rule) (e : End) {t : Sheet} (f : Facts t) where
   few : length (tiersOf t) ≤ 10
   few = omega (arith, f .tiers, f .few)
 
-  factor-small : 10 * routePercent (t .head .route) ≤ 1000
-  factor-small = omega (arith, percent-most f)
-
-  load-up : (i : ℕ) → UpTo 2440000 (S.tierAt (endTiers e t) i .Q)
+  load-up : (i : ℕ) → UpTo 2440000 (S.tierAt (endTiers rule e t) i .Q)
   load-up i =
       up-more (omega (arith, few))
-      (tier-up classShare (routeFactor t) 9 (10 * routePercent (t .head .route)) (omega arith) factor-small share-is (factor-is t) e (tiersOf t) (tier-facts f) i)
+      (tier-up rule c stands e (tiersOf t) (tier-facts f) i)
 
-  module _ {Ds : List Frac} (s : EndSolved e t Ds) where
+  module _ {Ds : List Frac} (s : EndSolved rule e t Ds) where
     lee-q : (i : ℕ) → natℚ 0 ≤ℚ mk (S.shift Ds i)
-    lee-q i = rw (mk-int (pos 0)) at (of-⊑ (nat 0) (S.shift Ds i) (leeward e f s i))
+    lee-q i = rw (mk-int (pos 0)) at (of-⊑ (nat 0) (S.shift Ds i) (leeward rule e f (stands-proper stands) Ds s i))
 
     abbrev parts : Frac
     parts = sumq (athwartOf Ds) (lashesOf e t)
 
-    balance : (i : ℕ) → i < t .ntiers → mk (S.racking (endTiers e t) Ds i) ≡ mk (S.tierAt (endTiers e t) i .Q -q S.athwartFrom (endLashes e t) Ds (suc i))
-    balance i h = of-≈ (S.racking (endTiers e t) Ds i) (S.tierAt (endTiers e t) i .Q -q S.athwartFrom (endLashes e t) Ds (suc i)) (s .solves .balance i (omega (arith, end-length e t f)))
+    balance : (i : ℕ) → i < t .ntiers → mk (S.racking (endTiers rule e t) Ds i) ≡ mk (S.tierAt (endTiers rule e t) i .Q -q S.athwartFrom (endLashes e t) Ds (suc i))
+    balance i h = of-≈ (S.racking (endTiers rule e t) Ds i) (S.tierAt (endTiers rule e t) i .Q -q S.athwartFrom (endLashes e t) Ds (suc i)) (s .solves .balance i (omega (arith, end-length rule e t f)))
 
     -- the lashes hold no more than the load of the lowest tier
     pub parts-up : UpTo 2440000 parts
     parts-up =
         record {
           least = all-least (t .ntiers) Ds lee-q (lashesOf e t) (end-each e f);
-          most = rw (all-from (t .ntiers) Ds lee-q (lashesOf e t) (end-each e f)) (go (springs (endTiers e t) 0) (shifts Ds 1) (shifts Ds 0) (mk (S.tierAt (endTiers e t) 0 .Q)) (mk (S.athwartFrom (endLashes e t) Ds 1)) (sym (mk-racking (endTiers e t) Ds 0) ∙ balance 0 (f .some) ∙ mk-sub (S.tierAt (endTiers e t) 0 .Q) (S.athwartFrom (endLashes e t) Ds 1)) (spring-nn (endTiers e t) (endLashes e t) (end-stiff e t f) 0) (lee-q 1) (deck Ds) (load-up 0 .most));
+          most = rw (all-from (t .ntiers) Ds lee-q (lashesOf e t) (end-each e f)) (go (springs (endTiers rule e t) 0) (shifts Ds 1) (shifts Ds 0) (mk (S.tierAt (endTiers rule e t) 0 .Q)) (mk (S.athwartFrom (endLashes e t) Ds 1)) (sym (mk-racking (endTiers rule e t) Ds 0) ∙ balance 0 (f .some) ∙ mk-sub (S.tierAt (endTiers rule e t) 0 .Q) (S.athwartFrom (endLashes e t) Ds 1)) (spring-nn (endTiers rule e t) (endLashes e t) (end-stiff rule e t f) 0) (lee-q 1) (deck Ds) (load-up 0 .most));
         }
       where
         go : (K d p Q A : ℚ) →
@@ -74,26 +73,26 @@ module _ (e : End) {t : Sheet} (f : Facts t) where
             A ≤ℚ natℚ 2440000
         go = ∀₅ ℚR _ λ ρ. simp qq λ e k d p h. by-cert (to h ⊞ to k ⊠ to d ⊞ times (kn 0) e ⊞ times (⊖ v 0) p) tt
 
-    pub racking-within : (i : ℕ) → i < t .ntiers → Within 2440000 (S.racking (endTiers e t) Ds i)
+    pub racking-within : (i : ℕ) → i < t .ntiers → Within 2440000 (S.racking (endTiers rule e t) Ds i)
     racking-within i h =
         within-same (balance i h)
         (within-less (load-up i) (part-up parts-up (from-part (t .ntiers) Ds lee-q (lashesOf e t) (end-each e f) (suc i))))
 
     module _ (j : ℕ) (h : j < length (lashesOf e t)) where
-      pub athwart-up : UpTo 2440000 (forceOf athwartPart (lashesOf e t) Ds j)
+      pub athwart-up : UpTo 2440000 (lashForce athwartPart (lashesOf e t) Ds j)
       athwart-up = part-up parts-up (one-part (t .ntiers) Ds lee-q (lashesOf e t) (end-each e f) j h)
 
-      pub pull-up : UpTo (42 * 2440000) (forceOf pull (lashesOf e t) Ds j)
+      pub pull-up : UpTo (42 * 2440000) (lashForce pull (lashesOf e t) Ds j)
       pull-up = part-up athwart-up (pull-part (t .ntiers) Ds lee-q (getD (lashesOf e t) j blankLash) (f .ends e .each j h))
 
-      pub vertical-up : UpTo (40 * 2440000) (forceOf verticalPart (lashesOf e t) Ds j)
+      pub vertical-up : UpTo (40 * 2440000) (lashForce verticalPart (lashesOf e t) Ds j)
       vertical-up = part-up athwart-up (vertical-part (t .ntiers) Ds lee-q (getD (lashesOf e t) j blankLash) (f .ends e .each j h))
 
-    pub moment-within : (i : ℕ) → Within (28960 * 2440000) (moment classShare (routeFactor t) (tiersOf t) (lashesOf e t) Ds i)
+    pub moment-within : (i : ℕ) → Within (28960 * 2440000) (moment rule (tiersOf t) (lashesOf e t) Ds i)
     unfolding moment
     moment-within i =
         within-less
-        (turning-up classShare (routeFactor t) 9 (10 * routePercent (t .head .route)) (omega arith) factor-small share-is (factor-is t) (drop i (tiersOf t)) (each-drop (tiersOf t) (tier-facts f) i) (omega (arith, few, length-drop i (tiersOf t))))
+        (turning-up rule c stands (drop i (tiersOf t)) (each-drop (tiersOf t) (tier-facts f) i) (omega (arith, few, length-drop i (tiersOf t))))
         (part-up parts-up (arms-part (t .ntiers) Ds lee-q (tiersOf t) (tier-facts f) few i (lashesOf e t) (end-each e f)))
 
     -- the two sums at a level, and the greater or lower of them
@@ -101,15 +100,15 @@ module _ (e : End) {t : Sheet} (f : Facts t) where
       weight-within : Within 2300000 (weightAbove acceleration (tiersOf t) i /q nat 2)
       weight-within = within-over 2 (omega arith) (within-up (weight-up acceleration limit (tiersOf t) (tier-facts f) few i))
 
-      turned-within : Within 31300000 (moment classShare (routeFactor t) (tiersOf t) (lashesOf e t) Ds i /q nat 2259)
+      turned-within : Within 31300000 (moment rule (tiersOf t) (lashesOf e t) Ds i /q nat 2259)
       turned-within = within-over 2259 (omega arith) (within-more (omega arith) (moment-within i))
 
-      lee-within : Within 200000000 (lee classShare (routeFactor t) (tiersOf t) (lashesOf e t) Ds i acceleration counts)
+      lee-within : Within 200000000 (lee rule (tiersOf t) (lashesOf e t) Ds i acceleration counts)
       lee-within =
           within-more (omega arith)
           (within-sum (within-sum weight-within turned-within) (within-up (part-up parts-up (verticals-part (t .ntiers) Ds lee-q onLee keeps-lee (counts i) (lashesOf e t) (end-each e f)))))
 
-      windward-within : Within 200000000 (windward classShare (routeFactor t) (tiersOf t) (lashesOf e t) Ds i acceleration counts)
+      windward-within : Within 200000000 (windward rule (tiersOf t) (lashesOf e t) Ds i acceleration counts)
       windward-within =
           within-more (omega arith)
           (within-sum (within-sum weight-within (within-neg turned-within)) (within-up (part-up parts-up (verticals-part (t .ntiers) Ds lee-q onWindward keeps-windward (counts i) (lashesOf e t) (end-each e f)))))
@@ -124,45 +123,48 @@ module _ (e : End) {t : Sheet} (f : Facts t) where
     lower-within {x} {y} u w = within-choice (atMost x y) u w
 
     pub compression-within : (i : ℕ) →
-        Within 200000000 (compression classShare (routeFactor t) (tiersOf t) (lashesOf e t) Ds i)
+        Within 200000000 (compression rule (tiersOf t) (lashesOf e t) Ds i)
     unfolding compression
     compression-within i =
         greater-within {x = nat 0} nothing
         (greater-within (lee-within (λ u. u .aVmax) (λ u h. h .aVmax) inCompression i) (windward-within (λ u. u .aVmax) (λ u h. h .aVmax) inCompression i))
 
     pub tension-within : (i : ℕ) →
-        Within 200000000 (tension classShare (routeFactor t) (tiersOf t) (lashesOf e t) Ds i)
+        Within 200000000 (tension rule (tiersOf t) (lashesOf e t) Ds i)
     unfolding tension
     tension-within i =
         greater-within {x = nat 0} nothing
         (within-neg (lower-within (lee-within (λ u. u .aVmin) (λ u h. omega (arith, h .aVmin)) inTension i) (windward-within (λ u. u .aVmin) (λ u h. omega (arith, h .aVmin)) inTension i)))
 
+    -- every exact force is within 200,000,000 N
+    force-within : (x : F.Force) (i : ℕ) → i < F.entryCount x e t → Within 200000000 (F.exactForce x rule e t Ds i)
+    force-within F.racking i h = within-more (omega arith) (racking-within i h)
+    force-within F.compression i h = compression-within i
+    force-within F.tension i h = tension-within i
+    force-within F.lashTension j h = within-more (omega arith) (within-up (pull-up j h))
+    force-within F.lashAthwart j h = within-more (omega arith) (within-up (athwart-up j h))
+    force-within F.lashVertical j h = within-more (omega arith) (within-up (vertical-up j h))
+
     -- figures that report these forces, with 0 behind the counts, fit four bytes
-    pub fitting : {m : ℕ} {g : EndFigures} → m ≤ 100 → EndReported m e t Ds g → Blank e t g → Fitting g
-    fitting {m} {g} m100 r b =
-        record {
-          compression = λ i. go (suc (t .ntiers)) (g .compression) i (λ h. reported-below (compression-within i) (r .compressions i (omega arith))) (b .compression i);
-          tension = λ i. go (t .ntiers) (g .tension) i (λ h. reported-below (tension-within i) (r .tensions i h)) (b .tension i);
-          pull = λ j. go (length (lashesOf e t)) (g .pull) j (λ h. reported-below (within-more (omega arith) (within-up (pull-up j h))) (r .pulls j h)) (b .pull j);
-          athwart = λ j. go (length (lashesOf e t)) (g .athwart) j (λ h. reported-below (within-more (omega arith) (within-up (athwart-up j h))) (r .athwarts j h)) (b .athwart j);
-          vertical = λ j. go (length (lashesOf e t)) (g .vertical) j (λ h. reported-below (within-more (omega arith) (within-up (vertical-up j h))) (r .verticals j h)) (b .vertical j);
-        }
+    pub fitting : {m : ℕ} {g : EndFigures} →
+        m ≤ 100 →
+        EndReported m rule e t Ds g →
+        ((x : F.Force) (i : ℕ) → F.entryCount x e t ≤ i → reportedSize x g i ≡ 0) →
+        Fitting g
+    fitting {m} {g} m100 r blank = record { small = λ x i. at x i (decLt i (F.entryCount x e t)) }
       where
-        go : (n : ℕ) (xs : List ℕ) (i : ℕ) →
-            (i < n → getD xs i 0 < 200000000 + m) →
-            (n ≤ i → getD xs i 0 ≡ 0) →
-            getD xs i 0 < 2 ^ 32
-        go n xs i under behind = at (decLt i n)
-          where
-            at : Dec (i < n) → getD xs i 0 < 2 ^ 32
-            at (yes h) = omega (arith, under h, m100)
-            at (no h) = omega (arith, behind (omega arith))
+        at : (x : F.Force) (i : ℕ) → Dec (i < F.entryCount x e t) → reportedSize x g i < 2 ^ 31
+        at x i (yes h) = omega (arith, reported-below (force-within x i h) (r .forces x i h), m100)
+        at x i (no h) = omega (arith, blank x i (omega arith))
 
 -- the figures of an end, from what they report at every solution: there is one
-pub figured : (e : End) {t : Sheet} (f : Facts t) {m : ℕ} {g : EndFigures} →
+pub figured : {rule : Rule} {c : LoadRule} (stands : StandsFor c rule) (e : End) {t : Sheet} (f : Facts t) {m : ℕ} {g : EndFigures} →
     m ≤ 100 →
-    ((Ds : List Frac) → EndSolved e t Ds → EndReported m e t Ds g) →
-    Blank e t g →
-    EndFigured m e t g
-figured e {t} f m100 told b =
-    record { told = told; fits = fitting e f (exists e f) m100 (told (solutionOf e t) (exists e f)) b }
+    ((Ds : List Frac) → EndSolved rule e t Ds → EndReported m rule e t Ds g) →
+    ((x : F.Force) (i : ℕ) → F.entryCount x e t ≤ i → reportedSize x g i ≡ 0) →
+    EndFigured m rule e t g
+figured {rule} stands e {t} f m100 reports blank =
+    record {
+      reports = reports;
+      fits = fitting stands e f (exists rule e f) m100 (reports (solutionOf rule e t) (exists rule e f)) blank;
+    }

@@ -7,23 +7,20 @@ use native.Mathlib.Omega.{arith}
 use lib.ListN.{getD, length, List·getD-eq-default}
 use lib.IntN.{pos}
 use Rattle.sheet.specs.Layout.{blankTier}
-use Rattle.arith.specs.Fractions.{Frac, nat, recip, _*q_, _≈_, _⊑_, _⊏_}
-use Rattle.arith.proofs.Rings.{∀₂, part, to, _⊞_}
-use Rattle.arith.proofs.Rationals.{ℚR, ℚ, mk, _*ℚ_, _≤ℚ_, nn-int, to-⊑}
-use Rattle.arith.proofs.RationalTerms.{qq}
-use Rattle.arith.proofs.FractionsInRationals.{mk-int}
+use Rattle.arith.specs.Fractions.{nat, recip, _⊏_}
 use Rattle.springs.specs.Equations as S
-use Rattle.springs.specs.Promise.{Rounded, loadAt}
-use Rattle.springs.proofs.Chain.{natℚ}
-use Rattle.springs.proofs.Inputs.{rounded-low}
+use Rattle.springs.specs.Equations.{loadAt}
+use Rattle.springs.specs.Promise.{Rounded}
 use Rattle.sheet.specs.declared.Tier.{Tier}
 use Rattle.sheet.specs.declared.Lash.{Lash}
 use Rattle.sheet.specs.declared.Sheet.{Sheet}
 use Rattle.sheet.specs.Routes.{routePercent}
 use Rattle.sheet.proofs.Routes.{percent-range}
-use Rattle.statics.specs.Loads.{classShare}
-use Rattle.statics.specs.Ends.{End, door, closed, springOf, tiersOf, lashesOf, chainTiers, chainLash, chainLashes, routeFactor}
+use Rattle.statics.specs.declared.LoadRule.{LoadRule}
+use Rattle.statics.specs.Loads.{Rule, classRule, StandsFor}
+use Rattle.statics.specs.Ends.{End, door, closed, springOf, tiersOf, lashesOf, chainTiers, chainLash, chainLashes, endTiers, endLashes}
 use Rattle.statics.specs.inner.WholeNumbers.{levelLoad}
+use Rattle.statics.specs.inner.Computed.{classLoadRule}
 use Rattle.statics.specs.inner.Limits.{TierFacts, Facts}
 use Rattle.statics.proofs.LashStiffness.{stiffness-above}
 use Rattle.statics.proofs.EachLash.{Each, each-first, each-rest}
@@ -45,15 +42,15 @@ tier-facts {t} f i = go (decLt i (t .ntiers))
     go (no h) = subst TierFacts (sym (List·getD-eq-default (tiersOf t) blankTier (omega (arith, f .tiers)))) none
 
 -- the chain's tiers and lashes, entry by entry
-module _ (e : End) (share factor : Frac) where
-  pub chain-length : (ts : List Tier) → length (chainTiers e share factor ts) ≡ length ts
+module _ (rule : Rule) (e : End) where
+  pub chain-length : (ts : List Tier) → length (chainTiers rule e ts) ≡ length ts
   unfolding chainTiers
   chain-length [] = refl
   chain-length (t ∷ ts) = ap suc (chain-length ts)
 
   chain-spring : (ts : List Tier) (i : ℕ) →
       i < length ts →
-      S.tierAt (chainTiers e share factor ts) i .K ≡ nat (springOf e)
+      S.tierAt (chainTiers rule e ts) i .K ≡ nat (springOf e (getD ts i blankTier))
   unfolding chainTiers
   chain-spring [] i h = absurd (off h)
     where
@@ -78,58 +75,46 @@ chain-stiff [] f j h = absurd (off h)
 chain-stiff (l ∷ ls) f zero h = stiffness-above l (each-first f)
 chain-stiff (l ∷ ls) f (suc j) h = chain-stiff ls (each-rest f) j (omega arith)
 
-spring-above : (e : End) → nat 0 ⊏ nat (springOf e)
-spring-above door = record { cross = record { lt = tt } }
-spring-above closed = record { cross = record { lt = tt } }
+spring-above : (e : End) (u : Tier) → nat 0 ⊏ nat (springOf e u)
+spring-above door u = record { cross = record { lt = tt } }
+spring-above closed u = record { cross = record { lt = tt } }
 
 pub end-each : (e : End) {t : Sheet} → Facts t → Each (t .ntiers) (lashesOf e t)
 end-each e f = record { at = f .ends e .each }
 
 -- the exact chain of an end
-module _ (e : End) (t : Sheet) where
-  abbrev pub endTiers : List S.Tier
-  endTiers = chainTiers e classShare (routeFactor t) (tiersOf t)
-
-  abbrev pub endLashes : List S.Lash
-  endLashes = chainLashes (lashesOf e t)
-
+module _ (rule : Rule) (e : End) (t : Sheet) where
   module _ (f : Facts t) where
-    pub end-length : length endTiers ≡ t .ntiers
-    end-length = chain-length e classShare (routeFactor t) (tiersOf t) ∙ f .tiers
+    pub end-length : length (endTiers rule e t) ≡ t .ntiers
+    end-length = chain-length rule e (tiersOf t) ∙ f .tiers
 
-    pub end-spring : (i : ℕ) → i < t .ntiers → S.tierAt endTiers i .K ≡ nat (springOf e)
-    end-spring i h = chain-spring e classShare (routeFactor t) (tiersOf t) i (omega (arith, f .tiers))
+    pub end-spring : (i : ℕ) → i < t .ntiers → S.tierAt (endTiers rule e t) i .K ≡ nat (springOf e (getD (tiersOf t) i blankTier))
+    end-spring i h = chain-spring rule e (tiersOf t) i (omega (arith, f .tiers))
 
-    pub end-stiff : S.Stiff endTiers endLashes
+    pub end-stiff : S.Stiff (endTiers rule e t) (endLashes e t)
     end-stiff =
         record {
-          springs = λ i h. subst (λ z. nat 0 ⊏ z) (sym (end-spring i (omega (arith, h, end-length)))) (spring-above e);
+          springs =
+              λ i h.
+              subst (λ z. nat 0 ⊏ z) (sym (end-spring i (omega (arith, h, end-length)))) (spring-above e (getD (tiersOf t) i blankTier));
           lashes = chain-stiff (lashesOf e t) (end-each e f);
         }
 
--- the share is 9 twentieths, and the factor ten times as many thousandths as percents
-pub share-is : nat 20 *q classShare ≈ nat 9
+-- the class rule: 9 twentieths are 0.45, and the factor has ten times as many thousandths as the route has percents
+pub class-stands : {t : Sheet} → Facts t → StandsFor (classLoadRule t) (classRule t)
 unfolding recip
-share-is = record { cross = refl }
-
-pub factor-is : (t : Sheet) → nat 1000 *q routeFactor t ≈ nat (10 * routePercent (t .head .route))
-unfolding recip
-factor-is t = record { cross = ap pos (omega arith) }
+class-stands {t} f =
+    record {
+      share = record { cross = refl };
+      factor = record { cross = ap pos (omega arith) };
+      share-most = omega arith;
+      factor-most = omega (arith, percent-most f);
+    }
 
 -- the load on a level of an end
-module _ (e : End) (t : Sheet) where
+module _ (rule : Rule) (c : LoadRule) (stands : StandsFor c rule) (e : End) (t : Sheet) where
   abbrev wholeLoad : ℕ → ℕ
-  wholeLoad i =
-      levelLoad 9 (10 * routePercent (t .head .route)) (getD (tiersOf t) i blankTier) (getD (tiersOf t) (suc i) blankTier)
+  wholeLoad i = levelLoad (c .share) (c .factor) (getD (tiersOf t) i blankTier) (getD (tiersOf t) (suc i) blankTier)
 
-  pub end-loaded : (i : ℕ) → Rounded (2 ^ 28) 1 (wholeLoad i) (loadAt (endTiers e t) i)
-  end-loaded i =
-      load-rounded classShare (routeFactor t) 9 (10 * routePercent (t .head .route)) (omega arith) share-is (factor-is t) e (tiersOf t) i
-
-  pub end-pushed : (i : ℕ) → nat 0 ⊑ loadAt (endTiers e t) i
-  end-pushed i =
-      to-⊑ (nat 0) (loadAt (endTiers e t) i)
-      (rw (mk-int (pos 0)) (go (natℚ (wholeLoad i)) (mk (loadAt (endTiers e t) i)) (nn-int (wholeLoad i)) (rounded-low (2 ^ 28) 1 (wholeLoad i) (loadAt (endTiers e t) i) (end-loaded i))))
-    where
-      go : (x y : ℚ) → natℚ 0 ≤ℚ x → x ≤ℚ natℚ (2 ^ 28) *ℚ y → natℚ 0 ≤ℚ y
-      go = ∀₂ ℚR _ λ ρ. simp qq λ h l. part (2 ^ 28 - 1) (to h ⊞ to l) tt
+  pub end-loaded : (i : ℕ) → Rounded (2 ^ 28) 1 (wholeLoad i) (loadAt (endTiers rule e t) i)
+  end-loaded i = load-rounded rule c stands e (tiersOf t) i

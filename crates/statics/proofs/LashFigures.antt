@@ -26,7 +26,7 @@ use Rattle.statics.specs.inner.Limits.{LashFacts}
 use Rattle.statics.proofs.LashLength.{length-above, length-ratio, vertical-ratio}
 use Rattle.statics.proofs.Errors.{Off, off-more, off-share}
 use Rattle.statics.proofs.Scales.{found-times, newtons, newtons-times, newtons-nn, share-nn, share-most, share-off}
-use Rattle.statics.proofs.Pads.{shiftErrorBound, partError, verticalError, lash-pad, lash-lift, turned-lift}
+use Rattle.statics.proofs.Pads.{shiftErrorBound, partError, verticalError, lash-pad, lash-over, turned-over}
 use Rattle.statics.proofs.Covers.{covers-reported, padded-covers, turned-covers}
 use Rattle.statics.proofs.LashForces.{stiffness, stiffness-low, stiffness-high, stiffness-nn, athwart-is, pull-is, vertical-is}
 
@@ -123,18 +123,18 @@ module _ {n : ℕ} (d : List ℕ) (l : Lash) (D : Frac) (f : LashFacts n l) (far
     pub athwart-reported : Reported m (athwartPart l D) (athwartFigure d l)
     unfolding athwartFigure
     athwart-reported =
-        covers-reported {b = 2} m (athwartPart l D) (omega arith) (rw athwart-is (padded-covers (F.part d l) lashPad off lash-pad lash-lift))
+        covers-reported {b = 2} m (athwartPart l D) (omega arith) (rw athwart-is (padded-covers (F.part d l) lashPad off lash-pad lash-over))
 
     pub pull-reported : Reported m (pull l D) (pullFigure d l)
     unfolding pullFigure
     pull-reported =
         covers-reported m (pull l D) margin
         (rw (pull-is l (length-above f) wide D)
-        (turned-covers (F.part d l) lashPad off lash-pad (lashLength l) (l .ly) wide (length-ratio f) turned-lift))
+        (turned-covers (F.part d l) lashPad off lash-pad (lashLength l) (l .ly) wide (length-ratio f) turned-over))
 
     pub vertical-reported : Reported m (verticalPart l D) (verticalFigure d l)
     unfolding verticalFigure
     vertical-reported =
         covers-reported m (verticalPart l D) margin
         (rw (vertical-is l (length-above f) wide D)
-        (turned-covers (F.part d l) lashPad off lash-pad (l .lz) (l .ly) wide steep turned-lift))
+        (turned-covers (F.part d l) lashPad off lash-pad (l .lz) (l .ly) wide steep turned-over))

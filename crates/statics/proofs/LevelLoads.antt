@@ -15,56 +15,57 @@ use Rattle.arith.proofs.Rings.{∀₂, ∀₄, ∀₅, ∀₁₂, by-ring, by-e
 use Rattle.arith.proofs.Rationals.{ℚR, ℚ, mk, int, _+ℚ_, _-ℚ_, _*ℚ_}
 use Rattle.arith.proofs.RationalTerms.{qq}
 use Rattle.arith.proofs.FractionsInRationals.{mk-int, mk-sub}
-use Rattle.springs.specs.Equations.{given}
-use Rattle.springs.specs.Promise.{Rounded, loadAt}
+use Rattle.springs.specs.Equations.{given, loadAt}
+use Rattle.springs.specs.Promise.{Rounded}
 use Rattle.springs.proofs.Chain.{natℚ}
 use Rattle.springs.proofs.Inputs.{rounded-quotient, rounded-same}
 use Rattle.sheet.specs.declared.Tier.{Tier}
-use Rattle.statics.specs.Loads.{half, thousandths, weight, transverse, boxLength, wind, load}
+use Rattle.statics.specs.declared.LoadRule.{LoadRule}
+use Rattle.statics.specs.Loads.{half, thousandths, weight, transverse, boxLength, wind, load, Rule, StandsFor}
 use Rattle.statics.specs.Ends.{End, chainTiers}
-use Rattle.statics.specs.inner.WholeNumbers.{push, gust, levelLoad}
+use Rattle.statics.specs.inner.WholeNumbers.{transverseUnits, windUnits, levelLoad}
 use Rattle.statics.specs.inner.Limits.{TierFacts}
 use Rattle.statics.proofs.WholeNumbers.{nat-times, nat-plus, times-q, quotient-is}
 
 -- F of a tier is the factor × 981 × mass × A_T / 200,000, and P 27 × length × height / 50,000
-push-frac : (t : Tier) (a : ℕ) → nat 200000 *q (half *q weight t *q thousandths a) ≈ nat (981 * (t .mass * a))
+transverse-frac : (t : Tier) (a : ℕ) → nat 200000 *q (half *q weight t *q thousandths a) ≈ nat (981 * (t .mass * a))
 unfolding weight recip
-push-frac t a = record { cross = ap pos (omega arith) }
+transverse-frac t a = record { cross = ap pos (omega arith) }
 
-gust-frac : (t : Tier) → nat 50000 *q wind t ≈ nat (gust t)
-unfolding wind gust recip
-gust-frac t = go (eqb (t .wind) 1)
+wind-frac : (t : Tier) → nat 50000 *q wind t ≈ nat (windUnits t)
+unfolding wind windUnits recip
+wind-frac t = go (eqb (t .wind) 1)
   where
     go : (c : Bool) → nat 50000 *q given c (half *q nat 1080 *q thousandths (boxLength t) *q thousandths (t .height)) ≈ nat (cond c (27 * boxLength t * t .height) 0)
     go true = record { cross = ap pos (omega arith) }
     go false = record { cross = refl }
 
-pub wind-times : (t : Tier) → natℚ 50000 *ℚ mk (wind t) ≡ natℚ (gust t)
-wind-times t = times-q 50000 (gust t) (wind t) (gust-frac t)
+pub wind-times : (t : Tier) → natℚ 50000 *ℚ mk (wind t) ≡ natℚ (windUnits t)
+wind-times t = times-q 50000 (windUnits t) (wind t) (wind-frac t)
 
 -- half of a tier's weight × an acceleration
 pub half-weight-times : (t : Tier) (a : ℕ) →
     natℚ 200000 *ℚ mk (half *q weight t *q thousandths a) ≡ natℚ (981 * (t .mass * a))
-half-weight-times t a = times-q 200000 (981 * (t .mass * a)) (half *q weight t *q thousandths a) (push-frac t a)
+half-weight-times t a = times-q 200000 (981 * (t .mass * a)) (half *q weight t *q thousandths a) (transverse-frac t a)
 
-transverse-mk : (factor : Frac) (t : Tier) →
+pub transverse-mk : (factor : Frac) (t : Tier) →
     mk (transverse factor t) ≡ mk (half *q weight t *q thousandths (t .aT)) *ℚ mk factor
 unfolding transverse _*ℚ_
 transverse-mk factor t = refl
 
 transverse-times : (factor : Frac) (t : Tier) →
-    natℚ 200000 *ℚ mk (transverse factor t) ≡ natℚ (981 * push t) *ℚ mk factor
-unfolding push
+    natℚ 200000 *ℚ mk (transverse factor t) ≡ natℚ (981 * transverseUnits t) *ℚ mk factor
+unfolding transverseUnits
 transverse-times factor t =
     ap (λ z. natℚ 200000 *ℚ z) (transverse-mk factor t)
-    ∙ law (natℚ 200000) (mk (half *q weight t *q thousandths (t .aT))) (mk factor) (natℚ (981 * push t)) (half-weight-times t (t .aT))
+    ∙ law (natℚ 200000) (mk (half *q weight t *q thousandths (t .aT))) (mk factor) (natℚ (981 * transverseUnits t)) (half-weight-times t (t .aT))
   where
     law : (c b f p : ℚ) → c *ℚ b ≡ p → c *ℚ (b *ℚ f) ≡ p *ℚ f
     law = ∀₄ ℚR _ λ ρ. simp qq λ e. by-eqs (mul-eq (v 2) e) tt
 
 -- no tier, no load
 no-transverse : (factor : Frac) → mk (transverse factor blankTier) ≡ natℚ 0
-unfolding push
+unfolding transverseUnits
 no-transverse factor = law (mk (transverse factor blankTier)) (mk factor) (transverse-times factor blankTier)
   where
     law : (x f : ℚ) → natℚ 200000 *ℚ x ≡ natℚ 0 *ℚ f → x ≡ natℚ 0
@@ -75,18 +76,18 @@ unfolding wind int
 no-wind = refl
 
 -- the load on a level between a tier and the tier over it
-module _ (share factor : Frac) where
+module _ (rule : Rule) where
   -- what the tier itself puts on its own top, and all that it puts on the tiers under it
-  abbrev own : Tier → ℚ
-  own t = mk share *ℚ mk (transverse factor t) +ℚ mk half *ℚ mk (wind t)
+  abbrev pub own : Tier → ℚ
+  own t = mk (rule .share) *ℚ mk (transverse (rule .factor) t) +ℚ mk half *ℚ mk (wind t)
 
   abbrev pub passed : Tier → ℚ
-  passed t = mk (transverse factor t) +ℚ mk (wind t)
+  passed t = mk (transverse (rule .factor) t) +ℚ mk (wind t)
 
   abbrev pub above : List Tier → Frac
-  above ts = sumq (λ u. transverse factor u +q wind u) ts
+  above ts = sumq (λ u. transverse (rule .factor) u +q wind u) ts
 
-  load-mk : (t : Tier) (ts : List Tier) → mk (load share factor t ts) ≡ own t +ℚ mk (above ts)
+  load-mk : (t : Tier) (ts : List Tier) → mk (load rule t ts) ≡ own t +ℚ mk (above ts)
   unfolding load _*ℚ_ _+ℚ_
   load-mk t ts = refl
 
@@ -98,26 +99,26 @@ module _ (share factor : Frac) where
   unfolding sumq _+ℚ_
   above-mk t ts = refl
 
-  unfoldable between : Tier → Tier → ℚ
+  unfoldable pub between : Tier → Tier → ℚ
   between t u = own t +ℚ (passed u -ℚ own u)
 
   -- Q of a tier less Q of the next
-  load-between : (e : End) (ts : List Tier) (i : ℕ) →
-      mk (loadAt (chainTiers e share factor ts) i) ≡ between (getD ts i blankTier) (getD ts (suc i) blankTier)
+  pub load-between : (e : End) (ts : List Tier) (i : ℕ) →
+      mk (loadAt (chainTiers rule e ts) i) ≡ between (getD ts i blankTier) (getD ts (suc i) blankTier)
   unfolding chainTiers between
-  load-between e [] i = mk-sub (nat 0) (nat 0) ∙ ap₂ _-ℚ_ (mk-int (pos 0)) (mk-int (pos 0)) ∙ law (mk share) (mk (transverse factor blankTier)) (mk half) (mk (wind blankTier)) (no-transverse factor) no-wind
+  load-between e [] i = mk-sub (nat 0) (nat 0) ∙ ap₂ _-ℚ_ (mk-int (pos 0)) (mk-int (pos 0)) ∙ law (mk (rule .share)) (mk (transverse (rule .factor) blankTier)) (mk half) (mk (wind blankTier)) (no-transverse (rule .factor)) no-wind
     where
       law : (S F h P : ℚ) → F ≡ natℚ 0 → P ≡ natℚ 0 → natℚ 0 -ℚ natℚ 0 ≡ S *ℚ F +ℚ h *ℚ P +ℚ (F +ℚ P -ℚ (S *ℚ F +ℚ h *ℚ P))
       law = ∀₄ ℚR _ λ ρ. simp qq λ e f. by-eqs (mul-eq (kn 0) e ⊹ mul-eq (kn 0) f) tt
   load-between e (t ∷ []) zero =
-      mk-sub (load share factor t []) (nat 0)
+      mk-sub (load rule t []) (nat 0)
       ∙ ap₂ _-ℚ_ (load-mk t [] ∙ ap (λ z. own t +ℚ z) above-none) (mk-int (pos 0))
-      ∙ law (own t) (mk share) (mk (transverse factor blankTier)) (mk half) (mk (wind blankTier)) (no-transverse factor) no-wind
+      ∙ law (own t) (mk (rule .share)) (mk (transverse (rule .factor) blankTier)) (mk half) (mk (wind blankTier)) (no-transverse (rule .factor)) no-wind
     where
       law : (o S F h P : ℚ) → F ≡ natℚ 0 → P ≡ natℚ 0 → o +ℚ natℚ 0 -ℚ natℚ 0 ≡ o +ℚ (F +ℚ P -ℚ (S *ℚ F +ℚ h *ℚ P))
       law = ∀₅ ℚR _ λ ρ. simp qq λ e f. by-eqs (mul-eq (v 1 ⊖ kp 1) e ⊹ mul-eq (v 3 ⊖ kp 1) f) tt
   load-between e (t ∷ (u ∷ ts)) zero =
-      mk-sub (load share factor t (u ∷ ts)) (load share factor u ts)
+      mk-sub (load rule t (u ∷ ts)) (load rule u ts)
       ∙ ap₂ _-ℚ_ (load-mk t (u ∷ ts) ∙ ap (λ z. own t +ℚ z) (above-mk u ts)) (load-mk u ts)
       ∙ law (own t) (passed u) (own u) (mk (above ts))
     where
@@ -132,10 +133,10 @@ half-times = times-q 2 1 half (record { cross = refl })
 pub transverse-number : (factor : Frac) (f : ℕ) →
     nat 1000 *q factor ≈ nat f →
     (t : Tier) →
-    natℚ 200000000 *ℚ mk (transverse factor t) ≡ natℚ (981 * f * push t)
+    natℚ 200000000 *ℚ mk (transverse factor t) ≡ natℚ (981 * f * transverseUnits t)
 transverse-number factor f factor-is t =
     simp nat-times
-    (law (mk (transverse factor t)) (natℚ (push t)) (mk factor) (natℚ f) (simp nat-times at (transverse-times factor t)) (times-q 1000 f factor factor-is))
+    (law (mk (transverse factor t)) (natℚ (transverseUnits t)) (mk factor) (natℚ f) (simp nat-times at (transverse-times factor t)) (times-q 1000 f factor factor-is))
   where
     law : (F p g f : ℚ) →
         natℚ 200000 *ℚ F ≡ natℚ 981 *ℚ p *ℚ g →
@@ -144,17 +145,23 @@ transverse-number factor f factor-is t =
     law = ∀₄ ℚR _ λ ρ. simp qq λ a b. by-eqs (mul-eq (kp 1000) a ⊹ mul-eq (kp 981 ⊗ v 1) b) tt
 
 -- the load on a level, in whole numbers: share in twentieths, factor in thousandths, all over 4,000,000,000
-module _ (share factor : Frac) (s f : ℕ) (s20 : s ≤ 20) (share-is : nat 20 *q share ≈ nat s) (factor-is : nat 1000 *q factor ≈ nat f) where
+module _ (rule : Rule) (c : LoadRule) (stands : StandsFor c rule) where
+  abbrev s : ℕ
+  s = c .share
+
+  abbrev f : ℕ
+  f = c .factor
+
   between-times : (t u : Tier) →
-      natℚ 4000000000 *ℚ between share factor t u
-      ≡ natℚ (s * (981 * f * push t) + (20 - s) * (981 * f * push u) + 40000 * (gust t + gust u))
+      natℚ 4000000000 *ℚ between rule t u
+      ≡ natℚ (s * (981 * f * transverseUnits t) + (20 - s) * (981 * f * transverseUnits u) + 40000 * (windUnits t + windUnits u))
   unfolding between
   between-times t u =
-      law (mk share) (mk (transverse factor t)) (mk (wind t)) (mk (transverse factor u)) (mk (wind u)) (mk half) (natℚ s) (natℚ (20 - s)) (natℚ (981 * f * push t)) (natℚ (981 * f * push u)) (natℚ (gust t)) (natℚ (gust u)) (times-q 20 s share share-is) (transverse-number factor f factor-is t) (transverse-number factor f factor-is u) (wind-times t) (wind-times u) half-times rest
-      ∙ sym (spread s (20 - s) (981 * f * push t) (981 * f * push u) (gust t) (gust u))
+      law (mk (rule .share)) (mk (transverse (rule .factor) t)) (mk (wind t)) (mk (transverse (rule .factor) u)) (mk (wind u)) (mk half) (natℚ s) (natℚ (20 - s)) (natℚ (981 * f * transverseUnits t)) (natℚ (981 * f * transverseUnits u)) (natℚ (windUnits t)) (natℚ (windUnits u)) (times-q 20 s (rule .share) (stands .share)) (transverse-number (rule .factor) f (stands .factor) t) (transverse-number (rule .factor) f (stands .factor) u) (wind-times t) (wind-times u) half-times rest
+      ∙ sym (spread s (20 - s) (981 * f * transverseUnits t) (981 * f * transverseUnits u) (windUnits t) (windUnits u))
     where
       rest : natℚ s +ℚ natℚ (20 - s) ≡ natℚ 20
-      rest = sym (nat-plus s (20 - s)) ∙ ap natℚ (all s s20)
+      rest = sym (nat-plus s (20 - s)) ∙ ap natℚ (all s (stands .share-most))
         where
           all : (s : ℕ) → s ≤ 20 → s + (20 - s) ≡ 20
           all s h = omega arith
@@ -187,23 +194,23 @@ module _ (share factor : Frac) (s f : ℕ) (s20 : s ≤ 20) (share-is : nat 20 *
 
   -- rounded down
   pub load-rounded : (e : End) (ts : List Tier) (i : ℕ) →
-      Rounded (2 ^ 28) 1 (levelLoad s f (getD ts i blankTier) (getD ts (suc i) blankTier)) (loadAt (chainTiers e share factor ts) i)
+      Rounded (2 ^ 28) 1 (levelLoad s f (getD ts i blankTier) (getD ts (suc i) blankTier)) (loadAt (chainTiers rule e ts) i)
   unfolding levelLoad
   load-rounded e ts i =
       let t = getD ts i blankTier in
       let u = getD ts (suc i) blankTier in
-      let Q = loadAt (chainTiers e share factor ts) i in
-      let exact = ap (λ z. natℚ 4000000000 *ℚ z) (load-between share factor e ts i) ∙ between-times t u in
+      let Q = loadAt (chainTiers rule e ts) i in
+      let exact = ap (λ z. natℚ 4000000000 *ℚ z) (load-between rule e ts i) ∙ between-times t u in
       rounded-same (2 ^ 28) 1 (levelLoad s f t u) _ Q (quotient-is 4000000000 _ Q (omega arith) (exact ∙ ap natℚ (omega arith))) (rounded-quotient _ (2 ^ 28) 4000000000 (omega arith))
 
 -- pushes and gusts of a tier within its limits
-pub push-most : {t : Tier} → TierFacts t → push t ≤ 45720000
-unfolding push
-push-most tf = mul-le-mul (tf .mass) (tf .aT)
+pub transverse-most : {t : Tier} → TierFacts t → transverseUnits t ≤ 45720000
+unfolding transverseUnits
+transverse-most tf = mul-le-mul (tf .mass) (tf .aT)
 
-pub gust-most : {t : Tier} → TierFacts t → gust t ≤ 953316864
-unfolding gust boxLength
-gust-most {t} tf = exposed (eqb (t .wind) 1) (eqb (t .size) 20) (t .height) (tf .height)
+pub wind-most : {t : Tier} → TierFacts t → windUnits t ≤ 953316864
+unfolding windUnits boxLength
+wind-most {t} tf = exposed (eqb (t .wind) 1) (eqb (t .size) 20) (t .height) (tf .height)
   where
     exposed : (c d : Bool) (h : ℕ) → h ≤ 2896 → cond c (27 * cond d 6058 12192 * h) 0 ≤ 953316864
     exposed false d h l = omega arith
@@ -213,5 +220,5 @@ gust-most {t} tf = exposed (eqb (t .wind) 1) (eqb (t .size) 20) (t .height) (tf 
 pub load-most : (s f : ℕ) (t u : Tier) → s ≤ 20 → f ≤ 1000 → TierFacts t → TierFacts u → levelLoad s f t u ≤ 2 ^ 46
 unfolding levelLoad
 load-most s f t u s20 f1 tf uf =
-    let shares : s * push t + (20 - s) * push u ≤ 914400000 = omega (arith, mul-le-mul-left s (push-most tf), mul-le-mul-left (20 - s) (push-most uf)) in
-    div-le-of-le-mul 4000000000 (omega (arith, mul-le-mul f1 shares, gust-most tf, gust-most uf))
+    let shares : s * transverseUnits t + (20 - s) * transverseUnits u ≤ 914400000 = omega (arith, mul-le-mul-left s (transverse-most tf), mul-le-mul-left (20 - s) (transverse-most uf)) in
+    div-le-of-le-mul 4000000000 (omega (arith, mul-le-mul f1 shares, wind-most tf, wind-most uf))

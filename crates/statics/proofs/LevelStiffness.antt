@@ -6,8 +6,8 @@ use native.Mathlib.Omega.{arith}
 use lib.Dec.{eqb}
 use Rattle.sheet.specs.Lashings.{levelOf, atLevel}
 use Rattle.arith.specs.Fractions.{nat, sumq}
-use Rattle.springs.specs.Equations.{given}
-use Rattle.springs.specs.Promise.{Rounded, stiffnessAt}
+use Rattle.springs.specs.Equations.{given, stiffnessAt}
+use Rattle.springs.specs.Promise.{Rounded}
 use Rattle.springs.proofs.Inputs.{rounded-none, rounded-sum}
 use Rattle.sheet.specs.declared.Lash.{Lash}
 use Rattle.statics.specs.Lashes.{athwartPart}

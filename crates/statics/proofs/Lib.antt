@@ -9,6 +9,7 @@ pub mod LashStiffness
 pub mod WholeNumbers
 pub mod LevelStiffness
 pub mod LevelLoads
+pub mod LoadsGrow
 pub mod EndChain
 pub mod Inputs
 pub mod OneSolution

@@ -17,13 +17,14 @@ use Rattle.arith.proofs.FractionsInRationals.{mk-int, mk-add}
 use Rattle.springs.specs.Equations as S
 use Rattle.springs.proofs.Chain.{natℚ}
 use Rattle.sheet.specs.declared.Tier.{Tier}
-use Rattle.statics.specs.Loads.{half, transverse, verticalForce, wind, load}
+use Rattle.statics.specs.declared.LoadRule.{LoadRule}
+use Rattle.statics.specs.Loads.{half, transverse, verticalForce, wind, load, Rule, StandsFor}
 use Rattle.statics.specs.Ends.{End, chainTiers}
 use Rattle.statics.specs.Posts.{levelHeight, turning, weightAbove}
-use Rattle.statics.specs.inner.WholeNumbers.{push, gust}
+use Rattle.statics.specs.inner.WholeNumbers.{transverseUnits, windUnits}
 use Rattle.statics.specs.inner.Limits.{TierFacts}
 use Rattle.statics.proofs.WholeNumbers.{nat-plus, times-q}
-use Rattle.statics.proofs.LevelLoads.{above, above-none, above-mk, half-times, half-weight-times, wind-times, transverse-number, push-most, gust-most}
+use Rattle.statics.proofs.LevelLoads.{above, above-none, above-mk, half-times, half-weight-times, wind-times, transverse-number, transverse-most, wind-most}
 use Rattle.statics.proofs.Within.{UpTo, up-none, up-more, up-sum, up-quotient, up-share}
 
 -- the facts of each tier of a list, and of none
@@ -74,22 +75,22 @@ half-up : UpTo 1 half
 half-up = up-quotient 2 1 1 half (omega arith) half-times (omega arith)
 
 wind-up : (t : Tier) → TierFacts t → UpTo 19100 (wind t)
-wind-up t f = up-quotient 50000 (gust t) 19100 (wind t) (omega arith) (wind-times t) (omega (arith, gust-most f))
+wind-up t f = up-quotient 50000 (windUnits t) 19100 (wind t) (omega arith) (wind-times t) (omega (arith, wind-most f))
 
 -- F, P, Q and what turns about a level: share in twentieths, factor in thousandths, at most 1
-module _ (share factor : Frac) (s f : ℕ) (s20 : s ≤ 20) (f1 : f ≤ 1000) (share-is : nat 20 *q share ≈ nat s) (factor-is : nat 1000 *q factor ≈ nat f) where
-  share-up : UpTo 1 share
-  share-up = up-quotient 20 s 1 share (omega arith) (times-q 20 s share share-is) (omega arith)
+module _ (rule : Rule) (c : LoadRule) (stands : StandsFor c rule) where
+  share-up : UpTo 1 (rule .share)
+  share-up = up-quotient 20 (c .share) 1 (rule .share) (omega arith) (times-q 20 (c .share) (rule .share) (stands .share)) (omega (arith, stands .share-most))
 
-  transverse-up : (t : Tier) → TierFacts t → UpTo 224900 (transverse factor t)
+  transverse-up : (t : Tier) → TierFacts t → UpTo 224900 (transverse (rule .factor) t)
   transverse-up t tf =
-      up-quotient 200000000 (981 * f * push t) 224900 (transverse factor t) (omega arith) (transverse-number factor f factor-is t) (omega (arith, mul-le-mul f1 (push-most tf)))
+      up-quotient 200000000 (981 * c .factor * transverseUnits t) 224900 (transverse (rule .factor) t) (omega arith) (transverse-number (rule .factor) (c .factor) (stands .factor) t) (omega (arith, mul-le-mul (stands .factor-most) (transverse-most tf)))
 
   -- F + P of a tier, and of a list of them
-  passed-up : (t : Tier) → TierFacts t → UpTo 244000 (transverse factor t +q wind t)
+  passed-up : (t : Tier) → TierFacts t → UpTo 244000 (transverse (rule .factor) t +q wind t)
   passed-up t tf = up-sum (transverse-up t tf) (wind-up t tf)
 
-  above-up : (ts : List Tier) → EachTier ts → UpTo (244000 * length ts) (above share factor ts)
+  above-up : (ts : List Tier) → EachTier ts → UpTo (244000 * length ts) (above rule ts)
   unfolding sumq
   above-up [] tf = up-none
   above-up (t ∷ ts) tf = up-more (omega arith) (up-sum (passed-up t (tf 0)) (above-up ts (λ j. tf (suc j))))
@@ -97,7 +98,7 @@ module _ (share factor : Frac) (s f : ℕ) (s20 : s ≤ 20) (f1 : f ≤ 1000) (s
   load-up : (t : Tier) (ts : List Tier) →
       TierFacts t →
       EachTier ts →
-      UpTo (244000 * suc (length ts)) (load share factor t ts)
+      UpTo (244000 * suc (length ts)) (load rule t ts)
   unfolding load
   load-up t ts tf uf =
       up-more (omega arith)
@@ -107,22 +108,22 @@ module _ (share factor : Frac) (s f : ℕ) (s20 : s ≤ 20) (f1 : f ≤ 1000) (s
   pub tier-up : (e : End) (ts : List Tier) →
       EachTier ts →
       (i : ℕ) →
-      UpTo (244000 * length ts) (S.tierAt (chainTiers e share factor ts) i .Q)
+      UpTo (244000 * length ts) (S.tierAt (chainTiers rule e ts) i .Q)
   unfolding chainTiers
   tier-up e [] tf i = up-none
   tier-up e (t ∷ ts) tf zero = load-up t ts (tf 0) (λ j. tf (suc j))
   tier-up e (t ∷ ts) tf (suc i) = up-more (omega arith) (tier-up e ts (λ j. tf (suc j)) i)
 
   -- what turns about a level: no arm is longer than the stack is high
-  turning-none : (foot : Frac) → mk (turning share factor foot []) ≡ natℚ 0
+  turning-none : (foot : Frac) → mk (turning rule foot []) ≡ natℚ 0
   unfolding turning int
   turning-none foot = refl
 
   turning-mk : (foot : Frac) (t : Tier) (ts : List Tier) →
-      mk (turning share factor foot (t ∷ ts))
-      ≡ mk (transverse factor t) *ℚ (mk foot +ℚ mk share *ℚ natℚ (t .height))
+      mk (turning rule foot (t ∷ ts))
+      ≡ mk (transverse (rule .factor) t) *ℚ (mk foot +ℚ mk (rule .share) *ℚ natℚ (t .height))
       +ℚ mk (wind t) *ℚ (mk foot +ℚ mk half *ℚ natℚ (t .height))
-      +ℚ mk (turning share factor (foot +q nat (t .height)) ts)
+      +ℚ mk (turning rule (foot +q nat (t .height)) ts)
   unfolding turning int _+ℚ_ _*ℚ_
   turning-mk foot t ts = refl
 
@@ -136,12 +137,12 @@ module _ (share factor : Frac) (s f : ℕ) (s20 : s ≤ 20) (f1 : f ≤ 1000) (s
       EachTier ts →
       (foot : Frac) →
       natℚ 0 ≤ℚ mk foot →
-      natℚ 0 ≤ℚ mk (turning share factor foot ts)
+      natℚ 0 ≤ℚ mk (turning rule foot ts)
   turning-least [] tf foot h = rw turning-none (nn-int 0)
   turning-least (t ∷ ts) tf foot h =
       let next = foot +q nat (t .height) in
       rw turning-mk
-      (go (mk (transverse factor t)) (mk (wind t)) (mk foot) (mk share) (mk half) (natℚ (t .height)) (mk (turning share factor next ts)) (transverse-up t (tf 0) .least) (wind-up t (tf 0) .least) h (share-up .least) (half-up .least) (nn-int (t .height)) (turning-least ts (λ j. tf (suc j)) next (foot-least foot (t .height) h)))
+      (go (mk (transverse (rule .factor) t)) (mk (wind t)) (mk foot) (mk (rule .share)) (mk half) (natℚ (t .height)) (mk (turning rule next ts)) (transverse-up t (tf 0) .least) (wind-up t (tf 0) .least) h (share-up .least) (half-up .least) (nn-int (t .height)) (turning-least ts (λ j. tf (suc j)) next (foot-least foot (t .height) h)))
     where
       go : (F P a S k h T : ℚ) →
           natℚ 0 ≤ℚ F →
@@ -161,14 +162,14 @@ module _ (share factor : Frac) (s f : ℕ) (s20 : s ≤ 20) (f1 : f ≤ 1000) (s
       (foot : Frac) →
       natℚ 0 ≤ℚ mk foot →
       mk foot +ℚ natℚ (2896 * length ts) ≤ℚ natℚ 28960 →
-      mk (turning share factor foot ts) ≤ℚ natℚ 28960 *ℚ mk (above share factor ts)
-  turning-most [] tf foot h room = rw (turning-none foot, above-none share factor) (nothing (natℚ 28960))
+      mk (turning rule foot ts) ≤ℚ natℚ 28960 *ℚ mk (above rule ts)
+  turning-most [] tf foot h room = rw (turning-none foot, above-none rule) (nothing (natℚ 28960))
     where
       nothing : (x : ℚ) → natℚ 0 ≤ℚ x *ℚ natℚ 0
       nothing = ∀₁ ℚR _ λ ρ. simp qq (by-cert (num 0) tt)
   turning-most (t ∷ ts) tf foot h room =
-      rw (turning-mk, above-mk share factor t ts)
-      (go (mk (transverse factor t)) (mk (wind t)) (mk foot) (mk share) (mk half) (natℚ (t .height)) (natℚ (2896 * length ts)) (mk (turning share factor (foot +q nat (t .height)) ts)) (mk (above share factor ts)) (transverse-up t (tf 0) .least) (wind-up t (tf 0) .least) (share-up .most) (half-up .most) (nn-int (t .height)) (nat-q (t .height) 2896 (tf 0 .height)) (nn-int (2896 * length ts)) here (turning-most ts (λ j. tf (suc j)) (foot +q nat (t .height)) (foot-least foot (t .height) h) (rw foot-mk (next (mk foot) (natℚ (t .height)) (natℚ (2896 * length ts)) (nat-q (t .height) 2896 (tf 0 .height)) here))))
+      rw (turning-mk, above-mk rule t ts)
+      (go (mk (transverse (rule .factor) t)) (mk (wind t)) (mk foot) (mk (rule .share)) (mk half) (natℚ (t .height)) (natℚ (2896 * length ts)) (mk (turning rule (foot +q nat (t .height)) ts)) (mk (above rule ts)) (transverse-up t (tf 0) .least) (wind-up t (tf 0) .least) (share-up .most) (half-up .most) (nn-int (t .height)) (nat-q (t .height) 2896 (tf 0 .height)) (nn-int (2896 * length ts)) here (turning-most ts (λ j. tf (suc j)) (foot +q nat (t .height)) (foot-least foot (t .height) h) (rw foot-mk (next (mk foot) (natℚ (t .height)) (natℚ (2896 * length ts)) (nat-q (t .height) 2896 (tf 0 .height)) here))))
     where
       here : mk foot +ℚ (natℚ 2896 +ℚ natℚ (2896 * length ts)) ≤ℚ natℚ 28960
       here = subst (λ z. mk foot +ℚ z ≤ℚ natℚ 28960) (ap natℚ (more (length ts)) ∙ nat-plus 2896 (2896 * length ts)) room
@@ -199,11 +200,11 @@ module _ (share factor : Frac) (s f : ℕ) (s20 : s ≤ 20) (f1 : f ≤ 1000) (s
   pub turning-up : (ts : List Tier) →
       EachTier ts →
       length ts ≤ 10 →
-      UpTo (28960 * 2440000) (turning share factor (nat 0) ts)
+      UpTo (28960 * 2440000) (turning rule (nat 0) ts)
   turning-up ts tf few =
       record {
         least = turning-least ts tf (nat 0) zero-least;
-        most = go (mk (turning share factor (nat 0) ts)) (mk (above share factor ts)) (turning-most ts tf (nat 0) zero-least room) (up-more (omega arith) (above-up ts tf) .most);
+        most = go (mk (turning rule (nat 0) ts)) (mk (above rule ts)) (turning-most ts tf (nat 0) zero-least room) (up-more (omega arith) (above-up ts tf) .most);
       }
     where
       zero-least : natℚ 0 ≤ℚ mk (nat 0)

@@ -11,8 +11,9 @@ use Rattle.arith.proofs.FractionsInRationals.{mk-int, mk-neg, mk-add, of-⊏, t
 use Rattle.springs.proofs.Chain.{natℚ}
 use Rattle.sheet.specs.declared.Sheet.{Sheet}
 use Rattle.statics.specs.declared.EndFigures.{EndFigures}
+use Rattle.statics.specs.Loads.{Rule}
 use Rattle.statics.specs.Ends.{End}
-use Rattle.statics.specs.Reported.{Reported, ReportedRacking, EndReported, EndFigured}
+use Rattle.statics.specs.Reported.{Reported, Directed, EndReported, EndFigured}
 use Rattle.statics.proofs.Errors.{turn-le}
 use mathlib.Core.List.{List}
 
@@ -38,24 +39,16 @@ module _ {m n : ℕ} (wider : m ≤ n) where
   pub reported-wider : {x : Frac} {s : ℕ} → Reported m x s → Reported n x s
   reported-wider {x} {s} r = record { enough = r .enough; close = above (nat s) (absq x) (r .close) }
 
-  pub racking-wider : {x : Frac} {s : ℤ} → ReportedRacking m x s → ReportedRacking n x s
-  racking-wider {x} {s} r =
+  pub directed-wider : {x : Frac} {s : ℤ} → Directed m x s → Directed n x s
+  directed-wider {x} {s} r =
       record {
-        size = reported-wider (r .size);
         leeward = λ h. r .leeward (⊑-trans (nat m) (nat n) x wide h);
         windward = λ h. r .windward (⊑-trans x (negq (nat n)) (negq (nat m)) h wide-back);
       }
 
-  pub end-wider : {e : End} {t : Sheet} {Ds : List Frac} {f : EndFigures} → EndReported m e t Ds f → EndReported n e t Ds f
-  end-wider r =
-      record {
-        rackings = λ i h. racking-wider (r .rackings i h);
-        compressions = λ i h. reported-wider (r .compressions i h);
-        tensions = λ i h. reported-wider (r .tensions i h);
-        pulls = λ j h. reported-wider (r .pulls j h);
-        athwarts = λ j h. reported-wider (r .athwarts j h);
-        verticals = λ j h. reported-wider (r .verticals j h);
-      }
+  module _ {rule : Rule} {e : End} {t : Sheet} {f : EndFigures} where
+    pub end-wider : {Ds : List Frac} → EndReported m rule e t Ds f → EndReported n rule e t Ds f
+    end-wider r = record { forces = λ x i h. reported-wider (r .forces x i h); ways = λ i h. directed-wider (r .ways i h) }
 
-  pub figured-wider : {e : End} {t : Sheet} {f : EndFigures} → EndFigured m e t f → EndFigured n e t f
-  figured-wider r = record { told = λ Ds s. end-wider (r .told Ds s); fits = r .fits }
+    pub figured-wider : EndFigured m rule e t f → EndFigured n rule e t f
+    figured-wider r = record { reports = λ Ds s. end-wider (r .reports Ds s); fits = r .fits }

@@ -17,7 +17,7 @@ use Rattle.springs.proofs.Chain.{natℚ}
 use Rattle.springs.proofs.Lashes.{givenℚ}
 use Rattle.sheet.specs.declared.Tier.{Tier}
 use Rattle.sheet.specs.declared.Lash.{Lash}
-use Rattle.statics.specs.Loads.{half, transverse, wind, load}
+use Rattle.statics.specs.Loads.{half, transverse, wind, load, Rule}
 use Rattle.statics.specs.Lashes.{athwartPart}
 use Rattle.statics.specs.Ends.{End, chainTiers, chainLash, chainLashes}
 use Rattle.statics.specs.Posts.{levelHeight, turning, athwartOf, moment}
@@ -35,9 +35,9 @@ unfolding int
 mk-given true x = refl
 mk-given false x = refl
 
-module _ (share factor : Frac) (Ds : List Frac) where
+module _ (rule : Rule) (Ds : List Frac) where
   F : Tier → ℚ
-  F t = mk (transverse factor t)
+  F t = mk (transverse (rule .factor) t)
 
   P : Tier → ℚ
   P t = mk (wind t)
@@ -47,11 +47,11 @@ module _ (share factor : Frac) (Ds : List Frac) where
 
   -- document 01's sums in ℚ
   turning-q :
-      (foot : Frac) (ts : List Tier) → mk (turning share factor foot ts) ≡ turns F P athwart (mk share) (mk half) (mk foot) ts
+      (foot : Frac) (ts : List Tier) → mk (turning rule foot ts) ≡ turns F P athwart (mk (rule .share)) (mk half) (mk foot) ts
   unfolding turning turns F P _+ℚ_ _*ℚ_ int
   turning-q foot [] = refl
   turning-q foot (t ∷ above) =
-      let own = transverse factor t *q (foot +q share *q nat (t .height)) +q wind t *q (foot +q half *q nat (t .height)) in
+      let own = transverse (rule .factor) t *q (foot +q rule .share *q nat (t .height)) +q wind t *q (foot +q half *q nat (t .height)) in
       ap (λ y. mk own +ℚ y) (turning-q (foot +q nat (t .height)) above)
 
   turned : List Tier → ℕ → Lash → Frac
@@ -68,19 +68,19 @@ module _ (share factor : Frac) (Ds : List Frac) where
 
   moment-q :
       (ts : List Tier) (ls : List Lash) (i : ℕ) →
-      mk (moment share factor ts ls Ds i)
-      ≡ turns F P athwart (mk share) (mk half) (natℚ 0) (drop i ts) -ℚ turned-back F P athwart (mk share) (mk half) ls ts i
+      mk (moment rule ts ls Ds i)
+      ≡ turns F P athwart (mk (rule .share)) (mk half) (natℚ 0) (drop i ts) -ℚ turned-back F P athwart (mk (rule .share)) (mk half) ls ts i
   unfolding moment turned-back turned int
   moment-q ts ls i =
-      mk-sub (turning share factor (nat 0) (drop i ts)) (sumq (turned ts i) ls)
+      mk-sub (turning rule (nat 0) (drop i ts)) (sumq (turned ts i) ls)
       ∙ ap₂ _-ℚ_ (turning-q (nat 0) (drop i ts)) (mk-sum (turned ts i) ls ∙ ap (λ f. sumℚ f ls) (fun-ext (turned-q ts i)))
 
-  load-q : (t : Tier) (above : List Tier) → mk (load share factor t above) ≡ Q F P athwart (mk share) (mk half) t above
+  load-q : (t : Tier) (above : List Tier) → mk (load rule t above) ≡ Q F P athwart (mk (rule .share)) (mk half) t above
   unfolding load Q F P _+ℚ_ _*ℚ_
   load-q t above =
-      ap (λ y. mk (share *q transverse factor t +q half *q wind t) +ℚ y) (mk-sum (λ u. transverse factor u +q wind u) above)
+      ap (λ y. mk (rule .share *q transverse (rule .factor) t +q half *q wind t) +ℚ y) (mk-sum (λ u. transverse (rule .factor) u +q wind u) above)
 
-  held-q : (ls : List Lash) (i : ℕ) → mk (S.athwartFrom (chainLashes ls) Ds i) ≡ held F P athwart (mk share) (mk half) ls i
+  held-q : (ls : List Lash) (i : ℕ) → mk (S.athwartFrom (chainLashes ls) Ds i) ≡ held F P athwart (mk (rule .share)) (mk half) ls i
   unfolding held athwart sumq sumℚ chainLash int
   held-q [] i = refl
   held-q (l ∷ ls) i =
@@ -97,47 +97,47 @@ module _ (share factor : Frac) (Ds : List Frac) where
         (j k : ℕ) →
         i + j ≡ k →
         j < length ts →
-        mk (R k) ≡ mk (S.tierAt (chainTiers e share factor ts) j .Q -q S.athwartFrom (chainLashes ls) Ds (suc k))
+        mk (R k) ≡ mk (S.tierAt (chainTiers rule e ts) j .Q -q S.athwartFrom (chainLashes ls) Ds (suc k))
 
-    racked-q : (ts : List Tier) (i : ℕ) → Balanced ts i → racked F P athwart (mk share) (mk half) ls ts i ≡ mk (rackingMoment R ts i)
+    racked-q : (ts : List Tier) (i : ℕ) → Balanced ts i → racked F P athwart (mk (rule .share)) (mk half) ls ts i ≡ mk (rackingMoment R ts i)
     unfolding Balanced racked rackingMoment chainTiers int
     racked-q [] i b = refl
     racked-q (t ∷ ts) i b =
         let h = nat (t .height) in
         let A = S.athwartFrom (chainLashes ls) Ds (suc i) in
         let rest = rackingMoment R ts (suc i) in
-        let own = b 0 i (omega arith) (omega arith) ∙ mk-sub (load share factor t ts) A ∙ ap₂ _-ℚ_ (load-q t ts) (held-q ls (suc i)) in
+        let own = b 0 i (omega arith) (omega arith) ∙ mk-sub (load rule t ts) A ∙ ap₂ _-ℚ_ (load-q t ts) (held-q ls (suc i)) in
         ap₂ (λ x y. natℚ (t .height) *ℚ x +ℚ y) (sym own) (racked-q ts (suc i) (λ j k e h. b (suc j) k (omega arith) (omega arith)))
         ∙ sym (mk-add (h *q R i) rest ∙ ap (λ y. y +ℚ mk rest) (mk-mul h (R i)))
 
-module _ (e : End) (share factor : Frac) where
-  chain-drop : (i : ℕ) (ts : List Tier) → chainTiers e share factor (drop i ts) ≡ drop i (chainTiers e share factor ts)
+module _ (rule : Rule) (e : End) where
+  chain-drop : (i : ℕ) (ts : List Tier) → chainTiers rule e (drop i ts) ≡ drop i (chainTiers rule e ts)
   unfolding chainTiers
   chain-drop zero ts = refl
   chain-drop (suc i) [] = refl
   chain-drop (suc i) (t ∷ ts) = chain-drop i ts
 
   module _
-      (ts : List Tier) (ls : List Lash) (Ds : List Frac) (s : S.Solves (chainTiers e share factor ts) (chainLashes ls) Ds) (i : ℕ) where
+      (ts : List Tier) (ls : List Lash) (Ds : List Frac) (s : S.Solves (chainTiers rule e ts) (chainLashes ls) Ds) (i : ℕ) where
     abbrev chain : List S.Tier
-    chain = chainTiers e share factor ts
+    chain = chainTiers rule e ts
 
-    above : Balanced share factor Ds e ls (S.racking chain Ds) (drop i ts) i
+    above : Balanced rule Ds e ls (S.racking chain Ds) (drop i ts) i
     unfolding Balanced
     above j k h l =
         of-≈ (S.racking chain Ds k) (S.tierAt chain k .Q -q S.athwartFrom (chainLashes ls) Ds (suc k)) (s .balance k inside)
         ∙ ap (λ (t : S.Tier). mk (t .Q -q S.athwartFrom (chainLashes ls) Ds (suc k))) (sym here)
       where
         inside : k < length chain
-        inside = rw (chain-length e share factor ts) (omega (arith, rw length-drop at l))
+        inside = rw (chain-length rule e ts) (omega (arith, rw length-drop at l))
 
-        here : S.tierAt (chainTiers e share factor (drop i ts)) j ≡ S.tierAt chain k
+        here : S.tierAt (chainTiers rule e (drop i ts)) j ≡ S.tierAt chain k
         here = ap (λ c. S.tierAt c j) (chain-drop i ts) ∙ getD-drop i chain j S.noTier ∙ ap (S.tierAt chain) h
 
     -- M of a level, at any solution of an end's equations and for any share
-    pub moment-is : moment share factor ts ls Ds i ≈ rackingMoment (S.racking (chainTiers e share factor ts) Ds) (drop i ts) i
+    pub moment-is : moment rule ts ls Ds i ≈ rackingMoment (S.racking (chainTiers rule e ts) Ds) (drop i ts) i
     moment-is =
-        to-≈ (moment share factor ts ls Ds i) (rackingMoment (S.racking chain Ds) (drop i ts) i)
-        (moment-q share factor Ds ts ls i
-        ∙ balance (F share factor Ds) (P share factor Ds) (athwart share factor Ds) (mk share) (mk half) i ts ls
-        ∙ racked-q share factor Ds e ls (S.racking chain Ds) (drop i ts) i above)
+        to-≈ (moment rule ts ls Ds i) (rackingMoment (S.racking chain Ds) (drop i ts) i)
+        (moment-q rule Ds ts ls i
+        ∙ balance (F rule Ds) (P rule Ds) (athwart rule Ds) (mk (rule .share)) (mk half) i ts ls
+        ∙ racked-q rule Ds e ls (S.racking chain Ds) (drop i ts) i above)

@@ -4,23 +4,30 @@ use Prim.Native.Nat.{ℕ}
 use Rattle.arith.specs.Fractions.{Frac, nat, _⊑_}
 use Rattle.springs.specs.Equations as S
 use Rattle.springs.proofs.OneSolution as O
-use Rattle.springs.proofs.Growth.{windward}
+use Rattle.springs.proofs.Growth.{no-shift-to-windward}
 use Rattle.sheet.specs.declared.Sheet.{Sheet}
-use Rattle.statics.specs.Ends.{End, EndSolved}
+use Rattle.statics.specs.Loads.{Rule}
+use Rattle.statics.specs.Ends.{End, tiersOf, endTiers, endLashes, EndSolved}
+use Rattle.statics.specs.Theorems.{Proper, NoWindwardShift, OneSolution}
 use Rattle.statics.specs.inner.Limits.{Facts}
-use Rattle.statics.proofs.EndChain.{endTiers, endLashes, end-stiff, end-pushed}
+use Rattle.statics.proofs.EndChain.{end-stiff}
+use Rattle.statics.proofs.LoadsGrow.{loads-leeward}
 
 -- the shifts of the levels of an end, by elimination
-abbrev pub solutionOf : End → Sheet → List Frac
-solutionOf e t = O.solution (endTiers e t) (endLashes e t)
+abbrev pub solutionOf : Rule → End → Sheet → List Frac
+solutionOf rule e t = O.solution (endTiers rule e t) (endLashes e t)
 
-module _ (e : End) {t : Sheet} (f : Facts t) where
-  pub exists : EndSolved e t (solutionOf e t)
-  exists = record { solves = O.exists (endTiers e t) (endLashes e t) (end-stiff e t f) }
+module _ (rule : Rule) (e : End) {t : Sheet} (f : Facts t) where
+  pub exists : EndSolved rule e t (solutionOf rule e t)
+  exists = record { solves = O.exists (endTiers rule e t) (endLashes e t) (end-stiff rule e t f) }
 
-  module _ {Ds : List Frac} (s : EndSolved e t Ds) where
-    pub unique : {Es : List Frac} → EndSolved e t Es → S.Agree Ds Es
-    unique {Es} r = O.unique (endTiers e t) (endLashes e t) Ds Es (end-stiff e t f) (s .solves) (r .solves)
+  pub unique : {Ds Es : List Frac} → EndSolved rule e t Ds → EndSolved rule e t Es → S.Agree Ds Es
+  unique {Ds} {Es} s r = O.unique (endTiers rule e t) (endLashes e t) Ds Es (end-stiff rule e t f) (s .solves) (r .solves)
 
-    pub leeward : (i : ℕ) → nat 0 ⊑ S.shift Ds i
-    leeward i = windward (endTiers e t) (endLashes e t) Ds (end-stiff e t f) (s .solves) (λ j h. end-pushed e t j) i
+  pub one-solution : OneSolution rule e t
+  one-solution =
+      record { shifts = solutionOf rule e t; exists = exists; unique = λ Ds Es s r. unique s r .same }
+
+  pub leeward : Proper rule → NoWindwardShift rule e t
+  leeward p Ds s i =
+      no-shift-to-windward (endTiers rule e t) (endLashes e t) Ds (end-stiff rule e t f) (s .solves) (λ j h. loads-leeward rule p e (tiersOf t) j) i

@@ -58,26 +58,26 @@ pub lash-pad : partError shiftErrorBound ≤ℚ newtons (pos lashPad)
 unfolding leℚ _+ℚ_ _*ℚ_ recipℚ recip int
 lash-pad = record { le = tt }
 
-pub lash-lift : partError shiftErrorBound +ℚ newtons (pos lashPad) ≤ℚ natℚ 1
+pub lash-over : partError shiftErrorBound +ℚ newtons (pos lashPad) ≤ℚ natℚ 1
 unfolding leℚ _+ℚ_ _*ℚ_ recipℚ recip int
-lash-lift = record { le = tt }
+lash-over = record { le = tt }
 
-pub turned-lift : natℚ 42 *ℚ (partError shiftErrorBound +ℚ newtons (pos lashPad)) +ℚ newtons (pos 1) ≤ℚ natℚ 5
+pub turned-over : natℚ 42 *ℚ (partError shiftErrorBound +ℚ newtons (pos lashPad)) +ℚ newtons (pos 1) ≤ℚ natℚ 5
 unfolding leℚ _+ℚ_ _*ℚ_ recipℚ recip int
-turned-lift = record { le = tt }
+turned-over = record { le = tt }
 
 pub racking-pad : roundedRackingError ≤ℚ newtons (pos rackingPad)
 unfolding leℚ _*ℚ_ recipℚ recip int
 racking-pad = record { le = tt }
 
-pub racking-lift : roundedRackingError +ℚ newtons (pos rackingPad) ≤ℚ natℚ 1
+pub racking-over : roundedRackingError +ℚ newtons (pos rackingPad) ≤ℚ natℚ 1
 unfolding leℚ _+ℚ_ _*ℚ_ recipℚ recip int
-racking-lift = record { le = tt }
+racking-over = record { le = tt }
 
 pub post-pad : postError ≤ℚ newtons (pos postPad)
 unfolding leℚ _*ℚ_ recipℚ recip int
 post-pad = record { le = tt }
 
-pub post-lift : postError +ℚ newtons (pos postPad) ≤ℚ natℚ 7
+pub post-over : postError +ℚ newtons (pos postPad) ≤ℚ natℚ 7
 unfolding leℚ _+ℚ_ _*ℚ_ recipℚ recip int
-post-lift = record { le = tt }
+post-over = record { le = tt }

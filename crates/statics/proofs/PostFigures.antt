@@ -21,7 +21,7 @@ use Rattle.statics.specs.inner.WholeNumbers.{postPad, notBelow, postFigu
 use Rattle.statics.specs.Reported.{Reported}
 use Rattle.statics.proofs.Errors.{turn-le, Off, off-neg}
 use Rattle.statics.proofs.Scales.{newtons, newtons-add, newtons-neg, newtons-zero, newtons-le}
-use Rattle.statics.proofs.Pads.{postError, post-pad, post-lift}
+use Rattle.statics.proofs.Pads.{postError, post-pad, post-over}
 use Rattle.statics.proofs.Covers.{Covers, covers-reported, ceil-low, ceil-high}
 
 -- the test of two fractions, by cases
@@ -115,7 +115,7 @@ module _ {A : ℚ} (x : ℤ) (o : Off postError (newtons x) A) where
   unfolding padded
   room X X0 AX =
       within (x +ℤ pos postPad) (X +ℚ natℚ 7) (above X X0)
-      (rw (newtons-add x (pos postPad)) (go A X (newtons x) (newtons (pos postPad)) postError (o .above) AX post-lift))
+      (rw (newtons-add x (pos postPad)) (go A X (newtons x) (newtons (pos postPad)) postError (o .above) AX post-over))
     where
       above : (X : ℚ) → natℚ 0 ≤ℚ X → natℚ 0 ≤ℚ X +ℚ natℚ 7
       above = ∀₁ ℚR _ λ ρ. simp qq λ h. by-cert (to h) tt

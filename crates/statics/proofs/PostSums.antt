@@ -44,20 +44,20 @@ tier-off h low r R o =
     go = ∀₂ ℚR _ λ ρ. simp qq λ z h. by-cert (to z ⊠ to h) tt
 
 -- the tiers from number i + 1 on, j of them passed being tier k + 1
-module _ (K : ℕ) (d : List ℕ) (R : ℕ → Frac) where
+module _ (k d : List ℕ) (R : ℕ → Frac) where
   pub moment-off :
       (ts : List Tier) (i : ℕ) →
       ((j : ℕ) → j < length ts → getD ts j blankTier .height ≤ 2896) →
-      ((j k : ℕ) → i + j ≡ k → j < length ts → Off roundedRackingError (newtons (rackingPart K d k)) (mk (R k))) →
-      Off (natℚ (length ts) *ℚ tierError) (newtons (momentPart K d ts i)) (mk (rackingMoment R ts i))
+      ((j m : ℕ) → i + j ≡ m → j < length ts → Off roundedRackingError (newtons (rackingPart (getD k m 0) d m)) (mk (R m))) →
+      Off (natℚ (length ts) *ℚ tierError) (newtons (momentPart k d ts i)) (mk (rackingMoment R ts i))
   unfolding momentPart rackingMoment
   moment-off [] i low o = nothing-off (nn-times (natℚ 0) tierError (nn-int 0) tier-error-nn)
   moment-off (t ∷ ts) i low o =
-      let own = pos (t .height) *ℤ rackingPart K d i in
-      rw (newtons-add own (momentPart K d ts (suc i)), mk-add (nat (t .height) *q R i) (rackingMoment R ts (suc i)), one-more)
+      let own = pos (t .height) *ℤ rackingPart (getD k i 0) d i in
+      rw (newtons-add own (momentPart k d ts (suc i)), mk-add (nat (t .height) *q R i) (rackingMoment R ts (suc i)), one-more)
       (off-add
-      (tier-off (t .height) (low 0 (omega arith)) (rackingPart K d i) (R i) (o 0 i (omega arith) (omega arith)))
-      (moment-off ts (suc i) (λ j h. low (suc j) (omega arith)) (λ j k e h. o (suc j) k (omega arith) (omega arith))))
+      (tier-off (t .height) (low 0 (omega arith)) (rackingPart (getD k i 0) d i) (R i) (o 0 i (omega arith) (omega arith)))
+      (moment-off ts (suc i) (λ j h. low (suc j) (omega arith)) (λ j m e h. o (suc j) m (omega arith) (omega arith))))
     where
       join : (n e : ℚ) → (n +ℚ natℚ 1) *ℚ e ≡ e +ℚ n *ℚ e
       join = ∀₂ ℚR _ λ ρ. simp qq (by-ring tt)

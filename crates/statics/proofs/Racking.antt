@@ -4,7 +4,7 @@ use mathlib.Core.List.{List}
 use Prim.Native.Nat.{ℕ, zero, suc, _+_, _*_, _^_, _≤_, _<_}
 use native.Mathlib.Omega.{arith}
 use lib.Dec.{lit≤, lt→ltb}
-use lib.IntN.{ℤ, pos, negsuc, negℤ, _-ℤ_}
+use lib.IntN.{ℤ, pos, negsuc, negℤ, _-ℤ_, natAbs}
 use lib.ListN.{getD}
 use lib.Signed.{_<ℤ_}
 use Rattle.arith.specs.Rounding.{roundedUp}
@@ -22,10 +22,10 @@ use Rattle.arith.proofs.FractionsInRationals.{mk-int, mk-neg}
 use Rattle.springs.specs.Promise.{found}
 use Rattle.springs.proofs.Chain.{natℚ}
 use Rattle.statics.specs.inner.WholeNumbers.{rackingPart, rackingPad, rackingFigure}
-use Rattle.statics.specs.Reported.{ReportedRacking}
+use Rattle.statics.specs.Reported.{Reported, Directed}
 use Rattle.statics.proofs.Errors.{turn-le, Off, off-abs, off-neg, off-more, off-trans}
 use Rattle.statics.proofs.Scales.{found-times, newtons, newtons-nn, newtons-neg, quot-off}
-use Rattle.statics.proofs.Pads.{forceBound, roundedRackingError, racking-room, racking-pad, racking-lift}
+use Rattle.statics.proofs.Pads.{forceBound, roundedRackingError, racking-room, racking-pad, racking-over}
 use Rattle.statics.proofs.Covers.{covers-reported, back-reported, padded-covers}
 
 module _ (K : ℕ) (d : List ℕ) (i : ℕ) where
@@ -89,7 +89,7 @@ module _ (m : ℕ) (margin : 2 < m) where
   not-back : (n : ℕ) (R : ℚ) → Off roundedRackingError (newtons (pos n)) R → R ≤ℚ negℚ (natℚ m) → ⊥
   not-back n R o h =
       go (newtons (pos n)) R roundedRackingError (newtons (pos rackingPad)) (natℚ m)
-      (newtons-nn n) (o .above) (newtons-nn rackingPad) racking-lift h (nat-q 3 m (omega arith))
+      (newtons-nn n) (o .above) (newtons-nn rackingPad) racking-over h (nat-q 3 m (omega arith))
     where
       go :
           (x R e p m : ℚ) →
@@ -102,22 +102,29 @@ module _ (m : ℕ) (margin : 2 < m) where
           ⊥
       go = ∀₅ ℚR _ λ ρ. simp qq λ z o p e h l. contra (to z ⊞ to o ⊞ to p ⊞ to e ⊞ to h ⊞ to l) tt
 
+  -- a racking's figure: its size, and the way it points
   pub racking-reported :
       (r : ℤ) (R : Frac) →
-      Off roundedRackingError (newtons r) (mk R) → ReportedRacking m R (rackingFigure r)
+      Off roundedRackingError (newtons r) (mk R) → Reported m R (natAbs (rackingFigure r))
   unfolding rackingFigure padded
-  racking-reported (pos n) R o =
+  racking-reported (pos n) R o = covers-reported m R margin (padded-covers n rackingPad o racking-pad racking-over)
+  racking-reported (negsuc n) R o =
+      let back = rw (← newtons-neg (negsuc n)) at (off-neg o) in
+      rw (natAbs-neg (pos (padded (suc n))))
+      (back-reported m R margin (padded-covers (suc n) rackingPad back racking-pad racking-over))
+
+  pub racking-directed :
+      (r : ℤ) (R : Frac) →
+      Off roundedRackingError (newtons r) (mk R) → Directed m R (rackingFigure r)
+  unfolding rackingFigure padded
+  racking-directed (pos n) R o =
       record {
-        size = covers-reported m R margin (padded-covers n rackingPad o racking-pad racking-lift);
         leeward = λ l. above-zero (padded n) (padded-above n);
         windward = λ l. absurd (not-back n (mk R) o (rw (mk-neg (nat m), mk-int (pos m)) at (of-⊑ R (negq (nat m)) l)));
       }
-  racking-reported (negsuc n) R o =
+  racking-directed (negsuc n) R o =
       let back = rw (← newtons-neg (negsuc n)) at (off-neg o) in
       record {
-        size =
-            rw (natAbs-neg (pos (padded (suc n))))
-            (back-reported m R margin (padded-covers (suc n) rackingPad back racking-pad racking-lift));
         leeward =
             λ l. absurd (not-back (suc n) (negℚ (mk R)) back (turn-le (natℚ m) (mk R) (rw (mk-int (pos m)) at (of-⊑ (nat m) R l))));
         windward = λ l. below-zero (padded (suc n)) (padded-above (suc n));

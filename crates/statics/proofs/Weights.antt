@@ -17,7 +17,7 @@ use Rattle.springs.proofs.Chain.{natℚ}
 use Rattle.sheet.specs.declared.Tier.{Tier}
 use Rattle.statics.specs.Loads.{weight, verticalForce}
 use Rattle.statics.specs.Posts.{weightAbove}
-use Rattle.statics.specs.inner.WholeNumbers.{lifted, halfWeight}
+use Rattle.statics.specs.inner.WholeNumbers.{verticalUnits, halfWeight}
 use Rattle.statics.proofs.Errors.{Off}
 use Rattle.statics.proofs.Scales.{recip-nat, newtons, newtons-whole, quot-off}
 
@@ -43,17 +43,17 @@ module _ (acceleration : Tier → ℕ) where
       go : (h m g a r : ℚ) → h *ℚ (m *ℚ g) *ℚ (a *ℚ r) ≡ m *ℚ a *ℚ (h *ℚ g *ℚ r)
       go = ∀₅ ℚR _ λ ρ. simp qq (by-ring tt)
 
-  lifted-is : (ts : List Tier) → mk (sumq (verticalForce acceleration) ts) ≡ natℚ (lifted acceleration ts) *ℚ unitary
-  unfolding sumq lifted
-  lifted-is [] = mk-int (pos 0) ∙ none unitary
+  units-is : (ts : List Tier) → mk (sumq (verticalForce acceleration) ts) ≡ natℚ (verticalUnits acceleration ts) *ℚ unitary
+  unfolding sumq verticalUnits
+  units-is [] = mk-int (pos 0) ∙ none unitary
     where
       none : (u : ℚ) → natℚ 0 ≡ natℚ 0 *ℚ u
       none = ∀₁ ℚR _ λ ρ. simp qq (by-ring tt)
-  lifted-is (t ∷ ts) =
+  units-is (t ∷ ts) =
       mk-add (verticalForce acceleration t) (sumq (verticalForce acceleration) ts)
-      ∙ ap₂ _+ℚ_ (verticalForce-is t) (lifted-is ts)
-      ∙ join (natℚ (t .mass * acceleration t)) (natℚ (lifted acceleration ts)) unitary
-      ∙ ap (λ z. z *ℚ unitary) (sym (int-plus (pos (t .mass * acceleration t)) (pos (lifted acceleration ts))))
+      ∙ ap₂ _+ℚ_ (verticalForce-is t) (units-is ts)
+      ∙ join (natℚ (t .mass * acceleration t)) (natℚ (verticalUnits acceleration ts)) unitary
+      ∙ ap (λ z. z *ℚ unitary) (sym (int-plus (pos (t .mass * acceleration t)) (pos (verticalUnits acceleration ts))))
     where
       join : (x y u : ℚ) → x *ℚ u +ℚ y *ℚ u ≡ (x +ℚ y) *ℚ u
       join = ∀₃ ℚR _ λ ρ. simp qq (by-ring tt)
@@ -62,12 +62,12 @@ module _ (acceleration : Tier → ℕ) where
   half-is :
       (ts : List Tier) →
       mk (sumq (verticalForce acceleration) ts) /ℚ natℚ 2
-      ≡ newtons (pos (981 * lifted acceleration ts * 2 ^ 18)) /ℚ natℚ 400000
+      ≡ newtons (pos (981 * verticalUnits acceleration ts * 2 ^ 18)) /ℚ natℚ 400000
   unfolding unitary
   half-is ts =
-      let L = lifted acceleration ts in
+      let L = verticalUnits acceleration ts in
       div-eq (mk (sumq (verticalForce acceleration) ts) /ℚ natℚ 2) (newtons (pos (981 * L * 2 ^ 18))) (natℚ 400000) (above-0 400000 (lit≤ tt))
-      (ap (λ z. z /ℚ natℚ 2 *ℚ natℚ 400000) (lifted-is ts)
+      (ap (λ z. z /ℚ natℚ 2 *ℚ natℚ 400000) (units-is ts)
       ∙ go (natℚ L) (recipℚ (natℚ 2)) (recipℚ (natℚ 100)) (recipℚ (natℚ 1000)) (recip-nat 2 (lit≤ tt)) (recip-nat 100 (lit≤ tt)) (recip-nat 1000 (lit≤ tt))
       ∙ sym (newtons-whole (981 * L) ∙ int-times (pos 981) (pos L)))
     where
@@ -87,4 +87,4 @@ module _ (acceleration : Tier → ℕ) where
       (ts : List Tier) (i : ℕ) →
       Off (newtons (pos 1)) (newtons (pos (halfWeight acceleration ts i))) (mk (weightAbove acceleration ts i) /ℚ natℚ 2)
   unfolding halfWeight
-  weight-off ts i = rw (half-is (drop i ts)) (quot-off 400000 (lit≤ tt) (pos (981 * lifted acceleration (drop i ts) * 2 ^ 18)))
+  weight-off ts i = rw (half-is (drop i ts)) (quot-off 400000 (lit≤ tt) (pos (981 * verticalUnits acceleration (drop i ts) * 2 ^ 18)))

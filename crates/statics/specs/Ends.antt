@@ -1,25 +1,24 @@
 -- Document 01, "The springs": the equations of one end of a decoded sheet.
 use mathlib.Core.List.{List, [], _∷_, map}
-use Prim.Native.Nat.{ℕ, zero, suc}
+use Prim.Native.Nat.{ℕ}
 use lib.ListN.{take}
 use Rattle.sheet.specs.Lashings.{levelOf}
-use Rattle.arith.specs.Fractions.{Frac, nat, _/q_}
+use Rattle.arith.specs.Fractions.{Frac, nat}
 use Rattle.springs.specs.Equations as S
 use Rattle.sheet.specs.declared.Tier.{Tier}
 use Rattle.sheet.specs.declared.Lash.{Lash}
 use Rattle.sheet.specs.declared.Sheet.{Sheet}
-use Rattle.sheet.specs.Routes.{routePercent}
-use Rattle.statics.specs.Loads.{load, classShare}
+use Rattle.statics.specs.Loads.{Rule, load}
 use Rattle.statics.specs.Lashes.{athwartPart}
 
 pub data End : Type 0 where
   door : End
   closed : End
 
--- K of a tier, N/mm (CR Table 2-4)
-abbrev pub springOf : End → ℕ
-springOf door = 3730
-springOf closed = 15690
+-- K of a tier at an end, N/mm (CR Table 2-4)
+abbrev pub springOf : End → Tier → ℕ
+springOf door t = S.doorSpring
+springOf closed t = S.closedSpring
 
 -- the tiers of a sheet, bottom first, and the lashes of an end, in sheet order
 abbrev pub tiersOf : Sheet → List Tier
@@ -30,9 +29,9 @@ lashesOf door t = take (t .ndoor) (t .door)
 lashesOf closed t = take (t .nclosed) (t .closed)
 
 -- each tier's spring and load
-unfoldable pub chainTiers : End → Frac → Frac → List Tier → List S.Tier
-chainTiers e share factor [] = []
-chainTiers e share factor (t ∷ above) = record { K = nat (springOf e); Q = load share factor t above } ∷ chainTiers e share factor above
+unfoldable pub chainTiers : Rule → End → List Tier → List S.Tier
+chainTiers rule e [] = []
+chainTiers rule e (t ∷ above) = record { K = nat (springOf e t); Q = load rule t above } ∷ chainTiers rule e above
 
 -- each lash's level, and its athwart part at a shift of 1 mm
 unfoldable pub chainLash : Lash → S.Lash
@@ -41,10 +40,13 @@ chainLash l = record { level = levelOf l; stiffness = athwartPart l (nat 1) }
 abbrev pub chainLashes : List Lash → List S.Lash
 chainLashes ls = map chainLash ls
 
--- the route factor of a sheet (CR 5.2.4(c))
-abbrev pub routeFactor : Sheet → Frac
-routeFactor t = nat (routePercent (t .head .route)) /q nat 100
+-- the chain of an end of a sheet
+abbrev pub endTiers : Rule → End → Sheet → List S.Tier
+endTiers rule e t = chainTiers rule e (tiersOf t)
 
--- the equations of an end, by the class rule
-pub record EndSolved (e : End) (t : Sheet) (Ds : List Frac) : Type 0 where
-  pub solves : S.Solves (chainTiers e classShare (routeFactor t) (tiersOf t)) (chainLashes (lashesOf e t)) Ds
+abbrev pub endLashes : End → Sheet → List S.Lash
+endLashes e t = chainLashes (lashesOf e t)
+
+-- Ds are shifts of the levels that solve the equations of an end
+pub record EndSolved (rule : Rule) (e : End) (t : Sheet) (Ds : List Frac) : Type 0 where
+  pub solves : S.Solves (endTiers rule e t) (endLashes e t) Ds

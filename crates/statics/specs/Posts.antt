@@ -13,7 +13,7 @@ use Rattle.sheet.specs.declared.Lash.{Lash}
 use Rattle.sheet.specs.declared.Lashing.{Lashing}
 use Rattle.sheet.specs.declared.Lashing.the-variants.{Cross, Side}
 use Rattle.sheet.specs.Lashings.{lashingOf, levelOf}
-use Rattle.statics.specs.Loads.{half, transverse, wind, verticalForce}
+use Rattle.statics.specs.Loads.{half, transverse, wind, verticalForce, Rule}
 use Rattle.statics.specs.Lashes.{athwartPart, verticalPart}
 
 -- the height of level i over the deck, mm
@@ -23,21 +23,21 @@ levelHeight [] (suc i) = 0
 levelHeight (t ∷ ts) (suc i) = t .height + levelHeight ts i
 
 -- F at 45% of its box's height and P at half of it, each × its height over a level; the first box stands `foot` over the level
-unfoldable pub turning : Frac → Frac → Frac → List Tier → Frac
-turning share factor foot [] = nat 0
-turning share factor foot (t ∷ above) =
-    transverse factor t *q (foot +q share *q nat (t .height))
+unfoldable pub turning : Rule → Frac → List Tier → Frac
+turning rule foot [] = nat 0
+turning rule foot (t ∷ above) =
+    transverse (rule .factor) t *q (foot +q rule .share *q nat (t .height))
     +q wind t *q (foot +q half *q nat (t .height))
-    +q turning share factor (foot +q nat (t .height)) above
+    +q turning rule (foot +q nat (t .height)) above
 
 -- the athwart part of a lash, by the shifts of the levels
 abbrev pub athwartOf : List Frac → Lash → Frac
 athwartOf Ds l = athwartPart l (shift Ds (levelOf l))
 
 -- M at level i: of all F and P of the tiers above, less athwart lash parts hooked above the level, each × its height over the level
-unfoldable pub moment : Frac → Frac → List Tier → List Lash → List Frac → ℕ → Frac
-moment share factor ts ls Ds i =
-    turning share factor (nat 0) (drop i ts)
+unfoldable pub moment : Rule → List Tier → List Lash → List Frac → ℕ → Frac
+moment rule ts ls Ds i =
+    turning rule (nat 0) (drop i ts)
     -q sumq (λ l. given (ltb i (levelOf l)) (athwartOf Ds l *q (nat (levelHeight ts (levelOf l)) -q nat (levelHeight ts i)))) ls
 
 -- V: F_V of the tiers above level i
@@ -85,15 +85,15 @@ greater x y = cond (atMost x y) y x
 abbrev pub lower : Frac → Frac → Frac
 lower x y = cond (atMost x y) x y
 
-module _ (share factor : Frac) (ts : List Tier) (ls : List Lash) (Ds : List Frac) (i : ℕ) where
+module _ (rule : Rule) (ts : List Tier) (ls : List Lash) (Ds : List Frac) (i : ℕ) where
   -- the two sums at level i, with the acceleration and the lashes that count
   abbrev pub lee : (Tier → ℕ) → (ℕ → Lash → Bool) → Frac
   lee acceleration counts =
-      leeSum (weightAbove acceleration ts i) (moment share factor ts ls Ds i) (verticals onLee (counts i) ls Ds)
+      leeSum (weightAbove acceleration ts i) (moment rule ts ls Ds i) (verticals onLee (counts i) ls Ds)
 
   abbrev pub windward : (Tier → ℕ) → (ℕ → Lash → Bool) → Frac
   windward acceleration counts =
-      windwardSum (weightAbove acceleration ts i) (moment share factor ts ls Ds i) (verticals onWindward (counts i) ls Ds)
+      windwardSum (weightAbove acceleration ts i) (moment rule ts ls Ds i) (verticals onWindward (counts i) ls Ds)
 
   -- compression: the greatest of 0 and the two sums
   unfoldable pub compression : Frac

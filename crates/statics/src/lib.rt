@@ -16,6 +16,12 @@ pub struct Figures {
     pub closed: EndFigures,
 }
 
+// What the loads go by: the share of F that a tier's own top takes, in twentieths, and the factor on A_T, in thousandths.
+pub struct LoadRule {
+    pub share: u64,
+    pub factor: u64,
+}
+
 // Vertical parts of lashes on the two posts.
 pub struct PostParts {
     pub lee: u64,

@@ -39,7 +39,7 @@ loop-less c = search needs
 loop-again : tie.Need-loop-again Inv-loop μ-loop
 loop-again c =
     let l = c .before .before .before .before .before .before .loop in
-    (omega arith, omega arith, over-more _ _ _ _ _ (l .k) (l .inv .2) refl (c .before .before .put-where .ensures .0))
+    (omega arith, omega arith, over-more _ _ _ _ _ (l .k) (l .inv .2) refl (c .before .before .put-where .ensures .0 .0))
 
 same-length : tie.Need-same-length Inv-loop μ-loop
 same-length c = search needs

@@ -45,7 +45,7 @@ loop-again : tie.Need-loop-again Inv-loop μ-loop
 loop-again c =
     let w = c .before .before in
     let l = w .before .before .before .before .before .before .loop in
-    let v = rw (w .before .before .before .safe-load .ensures) at (w .put-where .ensures .0) in
+    let v = rw (w .before .before .before .safe-load .ensures) at (w .put-where .ensures .0 .0) in
     (omega arith, omega arith, over-more _ _ _ _ _ (l .j) (l .inv .2) (omega arith) v)
 
 same-length : tie.Need-same-length Inv-loop μ-loop

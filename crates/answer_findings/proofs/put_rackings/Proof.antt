@@ -52,7 +52,7 @@ loop-again c =
     let g : SFits w32 (getD xs (l .k) (pos 0)) = search needs in
     let b : l .k ≡ 1 + l .k - 1 = omega arith in
     let e = (rw (toZ-ofZ w32 _ g) at (w .before .size .ensures)) ∙ ap (λ (i : ℕ). natAbs (getD xs i (pos 0))) b in
-    (omega arith, omega arith, over-more _ _ _ _ _ (l .k) (l .inv .2) refl (rw e at (w .put-where .ensures .0)))
+    (omega arith, omega arith, over-more _ _ _ _ _ (l .k) (l .inv .2) refl (rw e at (w .put-where .ensures .0 .0)))
 
 same-length : tie.Need-same-length Inv-loop μ-loop
 same-length c = search needs

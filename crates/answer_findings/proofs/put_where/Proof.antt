@@ -1,6 +1,6 @@
 -- `answer_findings::put_where` stores the three bytes; the place behind them counts them or not.
 use Prim.Native.Nat.{suc, _+_}
-use mathlib.Core.Path.{_≡_}
+use mathlib.Core.Path.{_≡_, refl}
 use mathlib.Core.List.{[], _∷_}
 use native.Mathlib.Omega.{arith}
 use borrow.Author.Needs.{needs}
@@ -45,7 +45,8 @@ returns c =
     let at = a .at in
     let e1 : at + 1 ≡ suc at = omega arith in
     let e2 : at + 2 ≡ suc (suc at) = omega arith in
-    (rw (e1, e2) (stored-where (a .over) _ at (a .end ∷ a .kind ∷ a .index ∷ []) (c .pre .0)), omega (arith, small (a .over)))
+    let bytes = a .end ∷ a .kind ∷ a .index ∷ [] in
+    ((rw (e1, e2) (stored-where _ at bytes refl (c .pre .0) (a .over)), omega (arith, small (a .over))), rw (e1, e2) refl)
 
 pub put-where-spec : {M : Type 1} → statement M
 put-where-spec =

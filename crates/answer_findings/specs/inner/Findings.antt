@@ -5,8 +5,7 @@ use mathlib.Core.List.{List, [], _∷_, _++_, flatMap}
 use Prim.Native.Nat.{ℕ, _+_, _-_, _≤_}
 use lib.Dec.{ltb}
 use lib.IntN.{pos, natAbs}
-use lib.ListN.{getD, length, take}
-use lib.Seq.{sets}
+use lib.ListN.{getD, length, take, drop}
 use Rattle.sheet.specs.Layout.{blankLash}
 use Rattle.sheet.specs.declared.Lash.{Lash}
 use Rattle.sheet.specs.declared.Sheet.{Sheet}
@@ -16,18 +15,14 @@ use Rattle.statics.specs.Ends.{door, closed, lashesOf}
 use Rattle.answer.specs.Limits.{rackingLimit, compressionLimit, cornerTensionLimit, lashVerticalLimit, lashAthwartLimit, safeLoad}
 use Rattle.answer.specs.Findings.{findings}
 use Rattle.answer.specs.Answers.{findingBytes}
-use Rattle.arith.specs.Lists.{below}
+use Rattle.arith.specs.Lists.{below, padded}
+use Rattle.answer_findings.specs.declared.Found.{Found}
 
--- `bytes` stored in a buffer from `at` on, and the place behind them
-pub record Wrote (before : List ℕ) (at : ℕ) (bytes after : List ℕ) (next : ℕ) : Type 0 where
-  pub stored : after ≡ sets before at bytes
-  pub place : next ≡ at + length bytes
-  pub room : length after ≡ length before
-
--- the same of a buffer in which any bytes may follow
+-- `bytes` put into a buffer from `at` on, and the place behind them; up to three bytes behind that place may have changed
 pub record Put (before : List ℕ) (at : ℕ) (bytes after : List ℕ) (next : ℕ) : Type 0 where
   pub stored : take next after ≡ take at before ++ bytes
   pub place : next ≡ at + length bytes
+  pub behind : drop (next + 3) after ≡ drop (next + 3) before
   pub room : length after ≡ length before
 
 -- the counts of a sheet fit its arrays
@@ -64,6 +59,6 @@ lashFindings end ls m f =
     ++ findingsOver end 6 0 (λ j. getD (f .vertical) j 0) (λ j. lashVerticalLimit) m
     ++ findingsOver end 7 0 (λ j. getD (f .athwart) j 0) (λ j. lashAthwartLimit) m
 
--- the bytes of the findings, behind their count
-unfoldable pub findingsBytes : Sheet → Figures → List ℕ
-findingsBytes t f = length (findings t f) ∷ flatMap findingBytes (findings t f)
+-- the findings' bytes, three each, in an array that is zero behind them, and their count
+abbrev pub found : Sheet → Figures → Found
+found t f = record { bytes = padded 387 0 (flatMap findingBytes (findings t f)); count = length (findings t f) }

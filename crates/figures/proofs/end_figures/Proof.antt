@@ -1,10 +1,14 @@
 -- `figures::end_figures`: its steps give the figures of an end (EndLaws).
 use borrow.Author.Needs.{needs}
-use mathlib.Core.Path.{_≡_, refl}
+use mathlib.Core.Path.{_≡_, refl, ap, _∙_}
+use mathlib.Core.List.{List}
+use Prim.Native.Nat.{ℕ}
 use native.Mathlib.Omega.{arith}
 use lib.ListN.{length, take}
 use lib.Seq.{length-take-le}
-use Rattle.figures.proofs.EndLaws.{each-ten, end-solvable, end-measured, end-worked}
+use Rattle.springs.specs.inner.Elimination as S
+use Rattle.statics.specs.inner.Computed.{figuresAt}
+use Rattle.figures.proofs.EndLaws.{each-ten, end-solvable, end-measured, end-named, stiffnesses-named}
 use Rattle.figures.proofs.end_figures.Statement.{statement}
 use Rattle.figures.proofs.end_figures.Tie as tie
 
@@ -64,7 +68,7 @@ lash-figures-requires c κs =
     let b = entered g in
     let long = g .gear-of .kept .1 .1 in (
       (b .pre .0 .few-lashes, each-ten (b .pre .0) (counted b)),
-      ((g .gear-of .ensures .0, s .solve .ensures .far), (long .0, long .1 .0, s .solve .ok .1 .0 .1)),
+      ((g .gear-of .ensures .0, s .solve .ensures .0 .far), (long .0, long .1 .0, s .solve .ok .1 .0 .1)),
     )
 
 slice-aggregate-level-figures : tie.Need-slice-aggregate-level-figures
@@ -76,7 +80,7 @@ level-figures-requires c κs =
     let s = solved p in
     let b = entered (geared s) in
     let posts = p .lash-figures .ensures .1 in (
-      end-measured (b .pre .0) (counted b) (s .solve .ensures) (posts .0) (posts .1),
+      end-measured (b .pre .0) (counted b) (s .solve .ensures .0) (posts .0) (posts .1),
       (b .pre .1 .0, s .solve .ok .1 .0 .1, b .pre .1 .2, b .pre .1 .3),
     )
 
@@ -88,7 +92,10 @@ returns c =
     let g = geared s in
     let b = entered g in
     let posts = p .lash-figures .ensures .1 in
-    end-worked (b .pre .0) (counted b) (g .gear-of .ensures .1) (s .solve .ensures) (p .lash-figures .ensures .0) (posts .0) (posts .1) (v .level-figures .ensures)
+    let κ = stiffnesses-named (take (b .args .m) (b .args .lashes)) (g .gear-of .kept .1 .1 .1 .1 .0) (g .gear-of .ensures .1) in
+    let d = s .solve .ensures .1 ∙ ap (λ (κ : List ℕ). S.solved (b .args .n) (b .args .k .now) κ (b .args .loads .now)) κ in
+    end-named (b .pre .0) (counted b) (p .lash-figures .ensures .0) (posts .0) (posts .1) (v .level-figures .ensures)
+    ∙ ap (λ (d : List ℕ). figuresAt (b .args .n) (b .args .k .now) (take (b .args .n) (b .args .tiers)) (take (b .args .m) (b .args .lashes)) d) d
 
 pub end-figures-spec : {M : Type 1} → statement M
 end-figures-spec =

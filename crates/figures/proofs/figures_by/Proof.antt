@@ -1,9 +1,12 @@
 -- `figures::figures_by`: the figures of both ends, from loads and weights that they share (EndLaws).
 use borrow.Author.Needs.{needs}
-use mathlib.Core.Path.{refl}
-use Rattle.statics.specs.Ends.{door, closed}
+use mathlib.Core.Path.{refl, ap₂, _∙_}
+use Rattle.statics.specs.declared.EndFigures.{EndFigures}
+use Rattle.statics.specs.declared.Figures.{Figures}
+use Rattle.statics.specs.Ends.{door, closed, tiersOf}
+use Rattle.statics.specs.inner.Computed.{figuresBy}
 use Rattle.statics.proofs.Taken.{facts}
-use Rattle.figures.proofs.EndLaws.{spring-at, workable, worked}
+use Rattle.figures.proofs.EndLaws.{workable, door-springs, closed-springs, endFigures}
 use Rattle.figures.proofs.figures_by.Statement.{statement}
 use Rattle.figures.proofs.figures_by.Tie as tie
 
@@ -45,8 +48,8 @@ end-figures-requires c κs =
     let l = c .before .before .before .before .before .before .before in
     let p = entered l .pre .0 in
     let e = l .loads-of .ensures in
-    let long = l .loads-of .kept .1 .1 .1 .1 in
-    (workable (facts p) door _ _ _ _ _ _ (p .door .few) (e .0) (e .1), (refl, long .0, long .1 .0, long .1 .1 .0))
+    let long = l .loads-of .kept .1 .1 .1 in
+    (rw (door-springs (tiersOf (entered l .args .s))) (workable (facts p) door _ _ _ _ _ (p .door .few) (e .0) (e .1)), (refl, long .0, long .1 .0, long .1 .1 .0))
 
 slice-aggregate-end-figures-5 : tie.Need-slice-aggregate-end-figures-5
 slice-aggregate-end-figures-5 c = search needs
@@ -65,19 +68,21 @@ end-figures-requires-2 c κs =
     let l = loaded (c .before .before .before .before) in
     let p = entered l .pre .0 in
     let e = l .loads-of .ensures in
-    let long = l .loads-of .kept .1 .1 .1 .1 in
-    (workable (facts p) closed _ _ _ _ _ _ (p .closed .few) (e .0) (e .1), (refl, long .0, long .1 .0, long .1 .1 .0))
+    let long = l .loads-of .kept .1 .1 .1 in
+    (rw (closed-springs (tiersOf (entered l .args .s))) (workable (facts p) closed _ _ _ _ _ (p .closed .few) (e .0) (e .1)), (refl, long .0, long .1 .0, long .1 .1 .0))
 
 returns : tie.Need-returns
+unfolding figuresBy
 returns c =
     let d = c .before .before .before .before .before in
     let l = loaded d in
     let b = entered l in
-    let h = facts (b .pre .0) in
-    let e = l .loads-of .ensures .0 in (
-      worked door (b .args .s) (h .tiers) (spring-at h door) e (d .end-figures .ensures),
-      worked closed (b .args .s) (h .tiers) (spring-at h closed) e (c .end-figures2 .ensures),
-    )
+    let t = b .args .s in
+    let rule = b .args .rule in
+    let ω = l .loads-of .ensures .0 .named in
+    let door-end = d .end-figures .ensures ∙ ap₂ (endFigures door t) (door-springs (tiersOf t)) ω in
+    let closed-end = c .end-figures2 .ensures ∙ ap₂ (endFigures closed t) (closed-springs (tiersOf t)) ω in
+    ap₂ {C = Figures} (λ (x y : EndFigures). record { door = x; closed = y }) door-end closed-end
 
 pub figures-by-spec : {M : Type 1} → statement M
 figures-by-spec =

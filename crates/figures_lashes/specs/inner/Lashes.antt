@@ -22,8 +22,8 @@ verticalFrom part l = part * l .lz / l .ly
 
 -- lengths and stiffnesses of m lashes
 pub record Geared (m : ℕ) (ls : List Lash) (lengths stiffnesses : List ℕ) : Type 0 where
-  pub long : Filled 0 m (λ j. lashLength (getD ls j blankLash)) lengths
-  pub stiff : Filled 0 m (λ j. stiffnessOf (getD ls j blankLash)) stiffnesses
+  pub long : Filled 8 0 m (λ j. lashLength (getD ls j blankLash)) lengths
+  pub stiff : Filled 8 0 m (λ j. stiffnessOf (getD ls j blankLash)) stiffnesses
 
 -- the stiffness of all lashes at each level over the deck
 abbrev pub Held : List Lash → List ℕ → Type 0
@@ -31,9 +31,9 @@ Held ls levels = (i : ℕ) → getD levels i 0 ≡ levelStiffness ls (suc i)
 
 -- the figures of m lashes at the shifts d
 pub record Pulled (m : ℕ) (ls : List Lash) (d pull athwart vertical : List ℕ) : Type 0 where
-  pub pull-is : Filled 0 m (λ j. pullFigure d (getD ls j blankLash)) pull
-  pub athwart-is : Filled 0 m (λ j. athwartFigure d (getD ls j blankLash)) athwart
-  pub vertical-is : Filled 0 m (λ j. verticalFigure d (getD ls j blankLash)) vertical
+  pub pull-is : Filled 8 0 m (λ j. pullFigure d (getD ls j blankLash)) pull
+  pub athwart-is : Filled 8 0 m (λ j. athwartFigure d (getD ls j blankLash)) athwart
+  pub vertical-is : Filled 8 0 m (λ j. verticalFigure d (getD ls j blankLash)) vertical
 
 -- the vertical parts of the lashes on a post at each level
 pub record Borne (post : Lashing → ℕ → ℕ) (ls : List Lash) (d r : List ℕ) : Type 0 where

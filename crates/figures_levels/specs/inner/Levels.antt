@@ -63,6 +63,6 @@ module _ (n : ℕ) (k : List ℕ) (ts : List Tier) (d most least lee windward : 
       (total (drop (suc i) (take (suc n) windward)))
 
   pub record Levelled (racking : List ℤ) (compression tension : List ℕ) : Type 0 where
-    pub racking-is : Filled (pos 0) n (λ i. rackingFigure (rackingPart (getD k i 0) d i)) racking
-    pub compression-is : Filled 0 (suc n) compressionAt compression
-    pub tension-is : Filled 0 n tensionAt tension
+    pub racking-is : Filled 10 (pos 0) n (λ i. rackingFigure (rackingPart (getD k i 0) d i)) racking
+    pub compression-is : Filled 11 0 (suc n) compressionAt compression
+    pub tension-is : Filled 10 0 n tensionAt tension

@@ -11,13 +11,13 @@ enum-known-outcome : tie.Need-enum-known-outcome
 enum-known-outcome c = search needs
 
 joined-requires : tie.Need-joined-requires
-joined-requires c κs = fitting (c .before .outcome .given .1) (c .before .before .before .before .before .check .ensures .0)
+joined-requires c κs = fitting (c .before .outcome .given .1) (c .before .before .before .before .before .check .ensures)
 
 enum-known-outcome-2 : tie.Need-enum-known-outcome-2
 enum-known-outcome-2 c = search needs
 
 joined-requires-2 : tie.Need-joined-requires-2
-joined-requires-2 c κs = fitting (c .before .outcome2 .given .1) (c .before .before .before .before .before .check .ensures .0)
+joined-requires-2 c κs = fitting (c .before .outcome2 .given .1) (c .before .before .before .before .before .check .ensures)
 
 same-length : tie.Need-same-length
 same-length c = search needs
@@ -25,10 +25,7 @@ same-length c = search needs
 returns : tie.Need-returns
 returns c =
     let is = c .before .before .outcome .given .1 in
-    let checked = c .before .before .before .before .before .before .check .ensures in (
-      called is (checked .0) (c .joined .result) (c .joined .ensures),
-      called is (checked .1) (c .joined .result) (c .joined .ensures),
-    )
+    called is (c .before .before .before .before .before .before .check .ensures) (c .joined .result) (c .joined .ensures)
 
 same-length-2 : tie.Need-same-length-2
 same-length-2 c = search needs
@@ -36,10 +33,7 @@ same-length-2 c = search needs
 returns-2 : tie.Need-returns-2
 returns-2 c =
     let is = c .before .before .outcome2 .given .1 in
-    let checked = c .before .before .before .before .before .before .check .ensures in (
-      called is (checked .0) (c .joined2 .result) (c .joined2 .ensures),
-      called is (checked .1) (c .joined2 .result) (c .joined2 .ensures),
-    )
+    called is (c .before .before .before .before .before .before .check .ensures) (c .joined2 .result) (c .joined2 .ensures)
 
 pub lash-check-spec : {M : Type 1} → statement M
 lash-check-spec =

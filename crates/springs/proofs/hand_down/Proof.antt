@@ -1,8 +1,7 @@
 -- `springs::hand_down` meets its contract: at each turn the levels from i up have what is handed down to them (Loops).
 use Prim.Native.Nat.{_-_}
 use native.Mathlib.Omega.{arith}
-use Rattle.springs.proofs.Ranges.{later}
-use Rattle.springs.proofs.Loops.{Down, down-start, down-ready, down-next}
+use Rattle.springs.proofs.Loops.{later, Down, down-start, down-ready, down-next}
 use borrow.Author.Needs.{needs}
 use Rattle.springs.proofs.hand_down.Statement.{statement}
 use Rattle.springs.proofs.hand_down.Tie as tie

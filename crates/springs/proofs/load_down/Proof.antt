@@ -10,8 +10,8 @@ use borrow.Author.Needs.{needs}
 use Rattle.springs.proofs.load_down.Statement.{statement}
 use Rattle.springs.proofs.load_down.Tie as tie
 
-add-held : tie.Need-add-held
-add-held c = search needs
+add-stiffness : tie.Need-add-stiffness
+add-stiffness c = search needs
 
 add-load : tie.Need-add-load
 add-load c = search needs
@@ -40,7 +40,7 @@ pub load-down-spec : {M : Type 1} → statement M
 load-down-spec =
     tie.close
     (tie.spec
-    add-held
+    add-stiffness
     add-load
     returns
     mul-scaled

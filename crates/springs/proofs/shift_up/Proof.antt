@@ -10,8 +10,8 @@ use borrow.Author.Needs.{needs}
 use Rattle.springs.proofs.shift_up.Statement.{statement}
 use Rattle.springs.proofs.shift_up.Tie as tie
 
-add-held : tie.Need-add-held
-add-held c = search needs
+add-stiffness : tie.Need-add-stiffness
+add-stiffness c = search needs
 
 add-load : tie.Need-add-load
 add-load c = search needs
@@ -49,7 +49,7 @@ pub shift-up-spec : {M : Type 1} → statement M
 shift-up-spec =
     tie.close
     (tie.spec
-    add-held
+    add-stiffness
     add-load
     div-result
     add-result

@@ -10,8 +10,8 @@ use borrow.Author.Needs.{needs}
 use Rattle.springs.proofs.stiffness_down.Statement.{statement}
 use Rattle.springs.proofs.stiffness_down.Tie as tie
 
-add-held : tie.Need-add-held
-add-held c = search needs
+add-stiffness : tie.Need-add-stiffness
+add-stiffness c = search needs
 
 returns : tie.Need-returns
 returns c = let a = c .before .args in sym (stiffness-unheld (a .k) (a .kappa) (a .x) (omega arith) (c .if1 .taken))
@@ -36,4 +36,4 @@ returns-2 c = search needs
 pub stiffness-down-spec : {M : Type 1} → statement M
 stiffness-down-spec =
     tie.close
-    (tie.spec add-held returns mul-scaled mul-scaled-2 add-scaled scaled-requires returns-2)
+    (tie.spec add-stiffness returns mul-scaled mul-scaled-2 add-scaled scaled-requires returns-2)

@@ -1,10 +1,14 @@
--- Contracts of the solver's inner functions, cited by no other crate: elimination from the top down, then the shifts from the deck up, in whole numbers.
-use mathlib.Core.List.{List}
+-- The solver's steps in whole numbers, elimination from the top down and then the shifts from the deck up; and what they give by name, `solved`.
+use mathlib.Core.Bool.{cond}
+use mathlib.Core.List.{List, map}
 use mathlib.Core.Path.{_≡_}
-use Prim.Native.Nat.{ℕ, suc, _+_, _*_, _<_, _≤_}
+use Prim.Native.Nat.{ℕ, zero, suc, _+_, _*_, _-_, _<_, _≤_}
+use lib.Dec.{ltb}
 use lib.ListN.{getD}
+use Rattle.arith.specs.Lists.{below}
 use Rattle.arith.specs.Rounding.{scaledDown}
-use Rattle.springs.specs.Promise.{stiffnessScale, softest, stiffest, mostHeld, mostLoaded}
+use Rattle.springs.specs.Equations.{doorSpring, closedSpring}
+use Rattle.springs.specs.Promise.{stiffnessScale, mostHeld, mostLoaded}
 
 -- a tier of spring k, over it a level of lashes κ and load ω, to which the tiers above hand down the stiffness x and the load y
 abbrev pub divisor : ℕ → ℕ → ℕ → ℕ
@@ -22,33 +26,40 @@ loadDown k κ ω x y = scaledDown (k * (ω + y)) stiffnessScale (divisor k κ x)
 unfoldable pub shiftUp : ℕ → ℕ → ℕ → ℕ → ℕ → ℕ → ℕ
 shiftUp k κ ω x y p = scaledDown (ω + y + k * p) stiffnessScale (divisor k κ x)
 
+-- all levels: what the m tiers over level i, springs k, with the lashes κ and the loads ω of the levels over them, hand down to it: stiffness ..
+unfoldable pub stiffnessTo : List ℕ → List ℕ → ℕ → ℕ → ℕ
+stiffnessTo k κ i zero = 0
+stiffnessTo k κ i (suc m) = stiffnessDown (getD k i 0) (getD κ i 0) (stiffnessTo k κ (suc i) m)
+
+-- .. and load
+unfoldable pub loadTo : List ℕ → List ℕ → List ℕ → ℕ → ℕ → ℕ
+loadTo k κ ω i zero = 0
+loadTo k κ ω i (suc m) = loadDown (getD k i 0) (getD κ i 0) (getD ω i 0) (stiffnessTo k κ (suc i) m) (loadTo k κ ω (suc i) m)
+
+-- the shift of level i, of n: 0 at the deck and behind n
+unfoldable pub shiftAt : ℕ → List ℕ → List ℕ → List ℕ → ℕ → ℕ
+shiftAt n k κ ω zero = 0
+shiftAt n k κ ω (suc i) =
+    cond (ltb i n)
+    (shiftUp (getD k i 0) (getD κ i 0) (getD ω i 0) (stiffnessTo k κ (suc i) (n - suc i)) (loadTo k κ ω (suc i) (n - suc i)) (shiftAt n k κ ω i))
+    0
+
+-- what `solve` returns: the shifts of levels 0 to 10
+unfoldable pub solved : ℕ → List ℕ → List ℕ → List ℕ → List ℕ
+solved n k κ ω = map (shiftAt n k κ ω) (below 11)
+
 -- the ranges of a step
 pub record InRange (k κ x : ℕ) : Type 0 where
-  pub low : softest ≤ k
-  pub high : k ≤ stiffest
+  pub low : doorSpring ≤ k
+  pub high : k ≤ closedSpring
   pub held : κ ≤ mostHeld
-  pub above : x ≤ stiffest * stiffnessScale
+  pub above : x ≤ closedSpring * stiffnessScale
 
 -- the most load of a level with what is handed down to it: that of ten levels
 abbrev pub mostLoad : ℕ
 mostLoad = 10 * mostLoaded
 
--- x and y hold at each level from i up what is handed down to it, and 0 at level n
+-- x and y hold at each level from i up to n what is handed down to it
 pub record HandedDown (i n : ℕ) (k κ ω x y : List ℕ) : Type 0 where
-  pub top-stiffness : getD x n 0 ≡ 0
-  pub top-load : getD y n 0 ≡ 0
-  pub stiffness : (j : ℕ) → i ≤ j → j < n → getD x j 0 ≡ stiffnessDown (getD k j 0) (getD κ j 0) (getD x (suc j) 0)
-  pub load :
-      (j : ℕ) →
-      i ≤ j →
-      j < n →
-      getD y j 0 ≡ loadDown (getD k j 0) (getD κ j 0) (getD ω j 0) (getD x (suc j) 0) (getD y (suc j) 0)
-
--- d holds the shifts of levels 0 to n, and 0 above
-pub record Climbed (n : ℕ) (k κ ω x y d : List ℕ) : Type 0 where
-  pub deck : getD d 0 0 ≡ 0
-  pub shifts :
-      (j : ℕ) →
-      j < n →
-      getD d (suc j) 0 ≡ shiftUp (getD k j 0) (getD κ j 0) (getD ω j 0) (getD x (suc j) 0) (getD y (suc j) 0) (getD d j 0)
-  pub over : (j : ℕ) → n < j → getD d j 0 ≡ 0
+  pub stiffness : (j : ℕ) → i ≤ j → j ≤ n → getD x j 0 ≡ stiffnessTo k κ j (n - j)
+  pub load : (j : ℕ) → i ≤ j → j ≤ n → getD y j 0 ≡ loadTo k κ ω j (n - j)

@@ -1,6 +1,5 @@
 -- `stack_check::check`: the refusals in their order, then the answer.
-use Rattle.answer.specs.Checked.{kept, demanded}
-use Rattle.stack_check.proofs.CheckLaws.{refused, short-room, taken-fits, taken-sized, taken-both}
+use Rattle.stack_check.proofs.CheckLaws.{refused, short-room, taken-fits, taken-sized, taken}
 use borrow.Author.Needs.{needs}
 use Rattle.stack_check.proofs.check.Statement.{statement}
 use Rattle.stack_check.proofs.check.Tie as tie
@@ -19,8 +18,7 @@ returns c =
     let m = c .before in
     let d = m .before .before in
     let a = d .before .before .before .args in
-    let w = short-room (a .sheet .now) (a .answer .now) (d .decode .result) (d .decode .ensures) (m .enum-told .given .1) (c .if1 .taken) in
-    (w kept, w demanded)
+    short-room (a .sheet .now) (a .answer .now) (d .decode .result) (d .decode .ensures) (m .enum-told .given .1) (c .if1 .taken) _
 
 figures-of-requires : tie.Need-figures-of-requires
 figures-of-requires c κs =
@@ -41,8 +39,7 @@ returns-2 : tie.Need-returns-2
 returns-2 c =
     let d = c .before .before .before in
     let a = d .before .before .before .args in
-    let w = refused (a .sheet .now) (a .answer .now) (d .decode .result) (d .decode .ensures) (c .before .reading .given .1) in
-    (w kept, w demanded)
+    refused (a .sheet .now) (a .answer .now) (d .decode .result) (d .decode .ensures) (c .before .reading .given .1) _
 
 same-length : tie.Need-same-length
 same-length c = search needs
@@ -57,7 +54,8 @@ returns-3 c =
     let a = d .before .before .before .args in
     let p = w .write-answer .ensures in
     let g = f .figures-of .ensures in
-    taken-both (a .sheet .now) (a .answer .now) (d .decode .result) (d .decode .ensures) (m .enum-told .given .1) (f .figures-of .result) (w .write-answer .result) (w .write-answer .last .0) (l .if1 .left) (p .0) (p .1) (g .0) (g .1)
+    taken (a .sheet .now) (a .answer .now) (d .decode .result) (d .decode .ensures) (m .enum-told .given .1)
+    (l .if1 .left) (p .0) (p .1) (g .0) (g .1)
 
 pub check-spec : {M : Type 1} → statement M
 check-spec =

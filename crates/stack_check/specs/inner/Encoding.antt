@@ -1,11 +1,19 @@
 -- Contracts of inner functions; nothing here need be believed.
+use mathlib.Core.Path.{_≡_}
 use mathlib.Core.List.{List, _++_}
 use Prim.Native.Nat.{ℕ, _+_}
 use lib.IntN.{pos}
-use lib.ListN.{getD}
+use lib.ListN.{getD, length}
+use lib.Seq.{sets}
 use Rattle.arith.specs.Bytes.{bytes4, twos}
 use Rattle.statics.specs.declared.EndFigures.{EndFigures}
 use Rattle.answer.specs.Answers.{counted}
+
+-- `bytes` stored in a buffer from `at` on, and the place behind them
+pub record Wrote (before : List ℕ) (at : ℕ) (bytes after : List ℕ) (next : ℕ) : Type 0 where
+  pub stored : after ≡ sets before at bytes
+  pub place : next ≡ at + length bytes
+  pub room : length after ≡ length before
 
 -- the bytes of a lash's three forces, and of an end of n tiers and m lashes
 abbrev pub lashBytes : ℕ → ℕ → ℕ → List ℕ

@@ -7,18 +7,18 @@ use native.Mathlib.Omega.{arith}
 use Rattle.sheet.specs.Layout.{blankTier}
 use Rattle.statics.specs.inner.Limits.{TierFacts}
 use borrow.Author.Needs.{needs}
-use Rattle.figures.proofs.LoadLaws.{Pushed, pushed-none, pushed-more, Carried, carried-none, carried-more, carried-all}
+use Rattle.figures.proofs.LoadLaws.{LoadedDown, loaded-none, loaded-more, loaded-all, Carried, carried-none, carried-more, carried-all}
 use Rattle.figures.proofs.loads.loads_of.Statement.{statement}
 use Rattle.figures.proofs.loads.loads_of.Tie as tie
 
 abbrev Inv-loop : tie.InvT-loop
-Inv-loop n share factor loads₀ most₀ least₀ tiers over₀ most-lifted₀ least-lifted₀ i₀ loads most least over most-lifted least-lifted i =
-    Pushed share factor n (take n tiers) loads (over .push) (over .gust) i
-    × Carried (λ t. t .aVmax) n (take n tiers) most most-lifted i
-    × Carried (λ t. t .aVmin) n (take n tiers) least least-lifted i
+Inv-loop n rule loads₀ vmax₀ vmin₀ tiers over₀ most-lifted₀ least-lifted₀ i₀ loads vmax vmin over vmax-units vmin-units i =
+    LoadedDown rule n (take n tiers) loads (over .transverse) (over .wind) i
+    × Carried (λ t. t .aVmax) n (take n tiers) vmax vmax-units i
+    × Carried (λ t. t .aVmin) n (take n tiers) vmin vmin-units i
 
 abbrev μ-loop : tie.MeasureT-loop
-μ-loop n share factor loads₀ most₀ least₀ tiers over₀ most-lifted₀ least-lifted₀ i₀ loads most least over most-lifted least-lifted i =
+μ-loop n rule loads₀ vmax₀ vmin₀ tiers over₀ most-lifted₀ least-lifted₀ i₀ loads vmax vmin over vmax-units vmin-units i =
     i
 
 -- where the loop is entered from
@@ -46,7 +46,7 @@ loop-holds : tie.Need-loop-holds Inv-loop μ-loop
 loop-holds c =
     let b = c .before .before .before in
     let p = b .pre .1 .1 in
-    rw (p .0, p .1, p .2) (pushed-none (stacked b), carried-none (stacked b), carried-none (stacked b))
+    rw (p .0, p .1, p .2) (loaded-none (stacked b), carried-none (stacked b), carried-none (stacked b))
 
 sub-i : tie.Need-sub-i Inv-loop μ-loop
 sub-i c = search needs
@@ -57,15 +57,15 @@ mul-t c = search needs
 array-copy-out-t : tie.Need-array-copy-out-t Inv-loop μ-loop
 array-copy-out-t c = search needs
 
-thrust-of-requires : tie.Need-thrust-of-requires Inv-loop μ-loop
-thrust-of-requires c κs = facts (c .before)
+tier-load-requires : tie.Need-tier-load-requires Inv-loop μ-loop
+tier-load-requires c κs = facts (c .before)
 
 level-load-requires : tie.Need-level-load-requires Inv-loop μ-loop
 level-load-requires c κs =
     let a = c .before .before .before in
     let p = start a .pre .0 in
-    let t = c .thrust-of .ensures in
-    ((p .1, p .2), ((t .1, t .3), (a .loop .inv .0 .push-small, a .loop .inv .0 .gust-small)))
+    let t = c .tier-load .ensures in
+    ((p .1, p .2), ((t .1, t .3), (a .loop .inv .0 .transverse-small, a .loop .inv .0 .wind-small)))
 
 mul-loads : tie.Need-mul-loads Inv-loop μ-loop
 mul-loads c = search needs
@@ -73,43 +73,43 @@ mul-loads c = search needs
 slice-write-loads : tie.Need-slice-write-loads Inv-loop μ-loop
 slice-write-loads c = search needs
 
-lift-requires : tie.Need-lift-requires Inv-loop μ-loop
-lift-requires c κs =
+mass-by-requires : tie.Need-mass-by-requires Inv-loop μ-loop
+mass-by-requires c κs =
     let f = facts (c .before .before .before) in
     (f .mass, f .aVmax)
 
-add-most-lifted : tie.Need-add-most-lifted Inv-loop μ-loop
-add-most-lifted c = search needs
+add-vmax-units : tie.Need-add-vmax-units Inv-loop μ-loop
+add-vmax-units c = search needs
 
-lift-requires-2 : tie.Need-lift-requires-2 Inv-loop μ-loop
-lift-requires-2 c κs =
+mass-by-requires-2 : tie.Need-mass-by-requires-2 Inv-loop μ-loop
+mass-by-requires-2 c κs =
     let f = facts (c .before .before .before .before) in
     (f .mass, omega (arith, f .aVmin))
 
-add-least-lifted : tie.Need-add-least-lifted Inv-loop μ-loop
-add-least-lifted c = search needs
+add-vmin-units : tie.Need-add-vmin-units Inv-loop μ-loop
+add-vmin-units c = search needs
 
 half-weight-requires : tie.Need-half-weight-requires Inv-loop μ-loop
 half-weight-requires c κs =
     let a = c .before .before .before .before .before .before in
-    omega (arith, a .loop .inv .1 .sum-small, start a .pre .0 .0, c .before .lift .ensures .1)
+    omega (arith, a .loop .inv .1 .sum-small, start a .pre .0 .0, c .before .mass-by .ensures .1)
 
-mul-most : tie.Need-mul-most Inv-loop μ-loop
-mul-most c = search needs
+mul-vmax : tie.Need-mul-vmax Inv-loop μ-loop
+mul-vmax c = search needs
 
-slice-write-most : tie.Need-slice-write-most Inv-loop μ-loop
-slice-write-most c = search needs
+slice-write-vmax : tie.Need-slice-write-vmax Inv-loop μ-loop
+slice-write-vmax c = search needs
 
 half-weight-requires-2 : tie.Need-half-weight-requires-2 Inv-loop μ-loop
 half-weight-requires-2 c κs =
     let a = c .before .before .before .before .before .before .before in
-    omega (arith, a .loop .inv .2 .sum-small, start a .pre .0 .0, c .before .lift2 .ensures .1)
+    omega (arith, a .loop .inv .2 .sum-small, start a .pre .0 .0, c .before .mass-by2 .ensures .1)
 
-mul-least : tie.Need-mul-least Inv-loop μ-loop
-mul-least c = search needs
+mul-vmin : tie.Need-mul-vmin Inv-loop μ-loop
+mul-vmin c = search needs
 
-slice-write-least : tie.Need-slice-write-least Inv-loop μ-loop
-slice-write-least c = search needs
+slice-write-vmin : tie.Need-slice-write-vmin Inv-loop μ-loop
+slice-write-vmin c = search needs
 
 loop-less : tie.Need-loop-less Inv-loop μ-loop
 loop-less c = search needs
@@ -123,13 +123,13 @@ loop-again c =
     let b = start (t .before) in
     let few = b .pre .0 .0 in
     let up = t .loop-test .taken in
-    let e = v .before .thrust-of .ensures in
+    let e = v .before .tier-load .ensures in
     let r = v .level-load .ensures in
-    let f = w .before .lift .ensures in
-    let g = w .lift2 .ensures in
+    let f = w .before .mass-by .ensures in
+    let g = w .mass-by2 .ensures in
     let x = c .before .half-weight .ensures in
     let y = c .half-weight2 .ensures in (
-      pushed-more few up (l .inv .0) (rw (own t) (e .0)) (rw (own t) (e .2)) (e .1) (e .3) (r .0) (r .1),
+      loaded-more few up (l .inv .0) (rw (own t) (e .0)) (rw (own t) (e .2)) (e .1) (e .3) (r .0) (r .1),
       carried-more (stacked b) few up (l .inv .1) (rw (own t) (f .0)) (f .1) (x .0) (x .1),
       carried-more (stacked b) few up (l .inv .2) (rw (own t) (g .0)) (g .1) (y .0) (y .1),
     )
@@ -150,10 +150,10 @@ returns c =
     let m = carried-all (stacked b) (c .loop-test .left) (l .inv .1) in
     let k = carried-all (stacked b) (c .loop-test .left) (l .inv .2) in (
       record {
-        each = λ i h. l .inv .0 .loaded .each i (omega arith) h .0;
+        named = loaded-all (stacked b) (b .pre .0 .0) (c .loop-test .left) (l .inv .0);
         small = λ i h. l .inv .0 .loaded .each i (omega arith) h .1;
       },
-      record { most-is = λ i. m i .0; least-is = λ i. k i .0; most-light = λ i. m i .1; least-light = λ i. k i .1 },
+      record { vmax-is = λ i. m i .0; vmin-is = λ i. k i .0; most-light = λ i. m i .1; least-light = λ i. k i .1 },
     )
 
 pub loads-of-spec : {M : Type 1} → statement M
@@ -166,20 +166,20 @@ loads-of-spec =
     sub-i
     mul-t
     array-copy-out-t
-    thrust-of-requires
+    tier-load-requires
     level-load-requires
     mul-loads
     slice-write-loads
-    lift-requires
-    add-most-lifted
-    lift-requires-2
-    add-least-lifted
+    mass-by-requires
+    add-vmax-units
+    mass-by-requires-2
+    add-vmin-units
     half-weight-requires
-    mul-most
-    slice-write-most
+    mul-vmax
+    slice-write-vmax
     half-weight-requires-2
-    mul-least
-    slice-write-least
+    mul-vmin
+    slice-write-vmin
     loop-less
     loop-again
     same-length

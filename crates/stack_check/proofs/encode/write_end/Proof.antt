@@ -1,7 +1,7 @@
 -- `stack_check::encode::write_end` writes the four sections one behind another.
 use native.Mathlib.Omega.{arith}
 use Rattle.stack_check.specs.inner.Encoding.{endBytesOf}
-use Rattle.answer_findings.proofs.Stores.{then}
+use Rattle.stack_check.proofs.Stores.{then}
 use borrow.Author.Needs.{needs}
 use Rattle.stack_check.proofs.encode.write_end.Statement.{statement}
 use Rattle.stack_check.proofs.encode.write_end.Tie as tie

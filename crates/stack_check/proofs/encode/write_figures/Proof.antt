@@ -6,8 +6,8 @@ use native.Mathlib.Omega.{arith}
 use lib.ListN.{getD}
 use Rattle.arith.specs.Bytes.{bytes4}
 use Rattle.arith.specs.Lists.{below}
-use Rattle.answer_findings.specs.inner.Findings.{Wrote}
-use Rattle.answer_findings.proofs.Stores.{run, entries-none, entries-more, counted-all}
+use Rattle.stack_check.specs.inner.Encoding.{Wrote}
+use Rattle.stack_check.proofs.Stores.{run, entries-none, entries-more, counted-all}
 use borrow.Author.Needs.{needs}
 use Rattle.stack_check.proofs.encode.write_figures.Statement.{statement}
 use Rattle.stack_check.proofs.encode.write_figures.Tie as tie

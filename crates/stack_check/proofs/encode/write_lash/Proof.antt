@@ -3,7 +3,7 @@ use Prim.Native.Nat.{_+_}
 use mathlib.Core.Path.{_≡_, refl}
 use native.Mathlib.Omega.{arith}
 use Rattle.arith.specs.Bytes.{bytes4}
-use Rattle.answer_findings.proofs.Stores.{run, then}
+use Rattle.stack_check.proofs.Stores.{run, then}
 use borrow.Author.Needs.{needs}
 use Rattle.stack_check.proofs.encode.write_lash.Statement.{statement}
 use Rattle.stack_check.proofs.encode.write_lash.Tie as tie

@@ -5,9 +5,8 @@ use mathlib.Core.List.{flatMap}
 use native.Mathlib.Omega.{arith}
 use lib.ListN.{getD}
 use Rattle.arith.specs.Lists.{below}
-use Rattle.answer_findings.specs.inner.Findings.{Wrote}
-use Rattle.stack_check.specs.inner.Encoding.{lashBytes}
-use Rattle.answer_findings.proofs.Stores.{entries-none, entries-more, counted-all}
+use Rattle.stack_check.specs.inner.Encoding.{Wrote, lashBytes}
+use Rattle.stack_check.proofs.Stores.{entries-none, entries-more, counted-all}
 use borrow.Author.Needs.{needs}
 use Rattle.stack_check.proofs.encode.write_lashes.Statement.{statement}
 use Rattle.stack_check.proofs.encode.write_lashes.Tie as tie

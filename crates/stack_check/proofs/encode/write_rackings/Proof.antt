@@ -10,8 +10,8 @@ use mir.Val.{SFits}
 use mir.ValLaws.{toZ-ofZ}
 use Rattle.arith.specs.Bytes.{bytes4, twos}
 use Rattle.arith.specs.Lists.{below}
-use Rattle.answer_findings.specs.inner.Findings.{Wrote}
-use Rattle.answer_findings.proofs.Stores.{run, entries-none, entries-more, counted-all}
+use Rattle.stack_check.specs.inner.Encoding.{Wrote}
+use Rattle.stack_check.proofs.Stores.{run, entries-none, entries-more, counted-all}
 use borrow.Author.Needs.{needs}
 use Rattle.stack_check.proofs.encode.write_rackings.Statement.{statement}
 use Rattle.stack_check.proofs.encode.write_rackings.Tie as tie

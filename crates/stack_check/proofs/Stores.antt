@@ -1,16 +1,16 @@
--- Runs of stores in a buffer: one behind another, one in front of another, entry after entry, byte after byte of a copy, and from the
--- buffer's start.
+-- Runs of stores in a buffer: one behind another, entry after entry, byte after byte of a copy, and from the buffer's start.
 use mathlib.Core.Path.{_≡_, refl, sym, ap, _∙_}
-use mathlib.Core.List.{List, [], _∷_, _++_, flatMap, append-nil, append-assoc}
+use mathlib.Core.List.{List, [], _∷_, _++_, flatMap}
 use Prim.Native.Nat.{ℕ, zero, suc, _+_, _<_, _≤_}
 use native.Mathlib.Nat.{add-zero}
 use native.Mathlib.Numerals.{add-one}
 use native.Mathlib.Omega.{arith}
-use lib.ListN.{length, getD, set, take, drop, length-append, length-set}
-use lib.Seq.{sets, sets-eq, set-comm, take-suc, length-sets}
+use lib.ListN.{length, getD, set, take, drop, length-append}
+use lib.Seq.{sets, sets-eq, take-suc, length-sets}
 use Rattle.answer.specs.Answers.{counted}
 use Rattle.arith.specs.Lists.{from, below}
-use Rattle.answer_findings.specs.inner.Findings.{Wrote}
+use Rattle.answer_findings.proofs.Entries.{one-more}
+use Rattle.stack_check.specs.inner.Encoding.{Wrote}
 
 sets-append : (l xs ys : List ℕ) (i : ℕ) → sets l i (xs ++ ys) ≡ sets (sets l i xs) (i + length xs) ys
 sets-append l [] ys i = rw (add-zero i)
@@ -33,23 +33,6 @@ then {l} {m} {n} {at} {p} {q} {xs} {ys} a b =
       room = b .room ∙ a .room;
     }
 
--- a byte stored in front of a run, after it
-set-sets : (l ys : List ℕ) (i j x : ℕ) → i < j → set (sets l j ys) i x ≡ sets (set l i x) j ys
-set-sets l [] i j x h = refl
-set-sets l (y ∷ ys) i j x h =
-    set-sets (set l j y) ys i (suc j) x (omega arith) ∙ ap (λ (m : List ℕ). sets m (suc j) ys) (set-comm l j i y x apart)
-  where
-    apart : j ≡ i → ⊥
-    apart q = omega arith
-
-pub in-front : {l m n : List ℕ} {at q : ℕ} {ys : List ℕ} (x : ℕ) → Wrote l (at + 1) ys m q → n ≡ sets m at (x ∷ []) → Wrote l at (x ∷ ys) n q
-in-front {l} {m} {n} {at} {q} {ys} x w e =
-    record {
-      stored = e ∙ rw (w .stored, add-one at) (set-sets l ys at (suc at) x (omega arith));
-      place = omega arith;
-      room = ap length e ∙ length-set m at x ∙ w .room;
-    }
-
 -- a run from the start
 pub from-start : {l m : List ℕ} {bytes : List ℕ} {next : ℕ} → Wrote l 0 bytes m next → next ≤ length l → m ≡ bytes ++ drop (length bytes) l
 from-start {l} {m} {bytes} {next} w h =
@@ -60,25 +43,13 @@ from-start {l} {m} {bytes} {next} w h =
 
 -- entries one after another: before the first, after one more, and after the last of n
 module _ (entry : ℕ → List ℕ) where
-  last : (i n : ℕ) → flatMap entry (from i (suc n)) ≡ flatMap entry (from i n) ++ entry (i + n)
-  unfolding flatMap from
-  last i zero = rw (add-zero i) (append-nil (entry i))
-  last i (suc n) =
-      let e : i + suc n ≡ suc i + n = omega arith in
-      rw (e, append-assoc) (ap (λ (l : List ℕ). entry i ++ l) (last (suc i) n))
-
-  pub one-more : (i : ℕ) → flatMap entry (below (i + 1)) ≡ flatMap entry (below i) ++ entry i
-  one-more i =
-      let e : 0 + i ≡ i = omega arith in
-      rw (add-one i) (rw e at (last 0 i))
-
   pub entries-none : (l : List ℕ) (at : ℕ) → Wrote l at (flatMap entry (below 0)) l at
   unfolding flatMap from
   entries-none l at = none l at
 
   module _ {l m : List ℕ} {at p : ℕ} (i : ℕ) (w : Wrote l at (flatMap entry (below i)) m p) where
     pub entries-more : {n : List ℕ} {q : ℕ} → Wrote m p (entry i) n q → Wrote l at (flatMap entry (below (i + 1))) n q
-    entries-more v = rw (one-more i) (then w v)
+    entries-more v = rw (one-more entry i) (then w v)
 
     pub entries-all : (n : ℕ) → i ≤ n → n ≤ i → Wrote l at (flatMap entry (below n)) m p
     entries-all n h g =
@@ -86,7 +57,13 @@ module _ (entry : ℕ → List ℕ) where
         rw e w
 
   -- a count stored first, then n entries
-  pub counted-all : {l k m : List ℕ} {at p : ℕ} (i n : ℕ) → k ≡ sets l at (n ∷ []) → Wrote k (at + 1) (flatMap entry (below i)) m p → i ≤ n → n ≤ i → Wrote l at (counted n entry) m p
+  pub counted-all :
+      {l k m : List ℕ} {at p : ℕ} (i n : ℕ) →
+      k ≡ sets l at (n ∷ []) →
+      Wrote k (at + 1) (flatMap entry (below i)) m p →
+      i ≤ n →
+      n ≤ i →
+      Wrote l at (counted n entry) m p
   counted-all i n e w h g = then (run {bytes = n ∷ []} e refl) (entries-all i w n h g)
 
 -- the first bytes of a list copied: none, one more, and n

@@ -1,12 +1,12 @@
--- `answer_findings::write_found`: the bytes passed are stored.
+-- `stack_check::encode::write_found`: the bytes passed are stored.
 use Prim.Native.Nat.{_+_, _≤_, _-_}
 use native.Mathlib.Omega.{arith}
 use lib.ListN.{take}
-use Rattle.answer_findings.specs.inner.Findings.{Wrote}
-use Rattle.answer_findings.proofs.Stores.{copied-none, copied-more, copied-all}
+use Rattle.stack_check.specs.inner.Encoding.{Wrote}
+use Rattle.stack_check.proofs.Stores.{copied-none, copied-more, copied-all}
 use borrow.Author.Needs.{needs}
-use Rattle.answer_findings.proofs.write_found.Statement.{statement}
-use Rattle.answer_findings.proofs.write_found.Tie as tie
+use Rattle.stack_check.proofs.encode.write_found.Statement.{statement}
+use Rattle.stack_check.proofs.encode.write_found.Tie as tie
 
 abbrev Inv-loop : tie.InvT-loop
 Inv-loop answer₀ at found n i₀ answer i = (i ≤ n) × Wrote answer₀ at (take i found) answer (at + i)

@@ -1,0 +1,43 @@
+-- What holds of the loads and of the equations of an end, for any share from 0 to 1 and any factor not below zero. Proved in proofs/.
+use mathlib.Core.Path.{_≡_}
+use mathlib.Core.List.{List}
+use Prim.Native.Nat.{ℕ, _≤_, _<_}
+use lib.ListN.{getD, length}
+use Rattle.arith.specs.Fractions.{Frac, nat, _≈_, _⊑_}
+use Rattle.springs.specs.Equations.{shift, loadAt}
+use Rattle.sheet.specs.declared.Tier.{Tier}
+use Rattle.sheet.specs.declared.Sheet.{Sheet}
+use Rattle.sheet.specs.Layout.{blankTier}
+use Rattle.statics.specs.Loads.{Rule}
+use Rattle.statics.specs.Ends.{End, chainTiers, EndSolved}
+
+pub record Proper (rule : Rule) : Type 0 where
+  pub share-least : nat 0 ⊑ rule .share
+  pub share-most : rule .share ⊑ nat 1
+  pub factor-least : nat 0 ⊑ rule .factor
+
+-- exactly one solution in fractions: there is one, and any two agree up to cross products
+pub record OneSolution (rule : Rule) (e : End) (t : Sheet) : Type 0 where
+  pub shifts : List Frac
+  pub exists : EndSolved rule e t shifts
+  pub unique : (Ds Es : List Frac) → EndSolved rule e t Ds → EndSolved rule e t Es → (i : ℕ) → shift Ds i ≈ shift Es i
+
+-- no level shifts to windward
+abbrev pub NoWindwardShift : Rule → End → Sheet → Type 0
+NoWindwardShift rule e t = (Ds : List Frac) → EndSolved rule e t Ds → (i : ℕ) → nat 0 ⊑ shift Ds i
+
+-- no level's load, Q of the tier under it less Q of the tier over it, is below zero
+abbrev pub NoWindwardLoad : Rule → End → List Tier → Type 0
+NoWindwardLoad rule e ts = (i : ℕ) → nat 0 ⊑ loadAt (chainTiers rule e ts) i
+
+-- the same tier but for its mass, which is no lower
+pub record HeavierTier (t u : Tier) : Type 0 where
+  pub same : u ≡ record { size = t .size; wind = t .wind; height = t .height; mass = u .mass; aT = t .aT; aVmax = t .aVmax; aVmin = t .aVmin }
+  pub mass : t .mass ≤ u .mass
+
+abbrev pub HeavierTiers : List Tier → List Tier → Type 0
+HeavierTiers ts us = (i : ℕ) → HeavierTier (getD ts i blankTier) (getD us i blankTier)
+
+-- under heavier boxes no level's load is less
+abbrev pub LoadsGrow : Rule → End → List Tier → List Tier → Type 0
+LoadsGrow rule e ts us = (i : ℕ) → loadAt (chainTiers rule e ts) i ⊑ loadAt (chainTiers rule e us) i
