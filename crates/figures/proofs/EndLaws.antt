@@ -25,7 +25,7 @@ use Rattle.statics.specs.Ends.{End, door, closed, springOf, tiersOf, lashesOf}
 use Rattle.statics.specs.inner.WholeNumbers.{Filled, levelStiffness, upward, upwards, leePart, windwardPart, rackingPart, rackingFigure, momentPart, compressionFigure, tensionFigure, pullFigure, athwartFigure, verticalFigure}
 use Rattle.statics.specs.inner.Computed.{springsOf, stiffnessesOf, figuresAt}
 use Rattle.figures.specs.inner.Ends.{Loaded, Weighed, Workable}
-use Rattle.figures_levels.specs.inner.Levels.{total, momentOf, Measured, Levelled}
+use Rattle.figures_levels.specs.inner.Levels.{total, Measured, Levelled}
 use Rattle.figures_lashes.specs.inner.Lashes.{Held, Pulled, Borne}
 use Rattle.arith.specs.Lists.{from, below}
 use Rattle.arith.proofs.Arrays.{length-entries}
@@ -129,8 +129,8 @@ module _ {n : ℕ} {k : List ℕ} {ts : List Tier} {m : ℕ} {ls : List Lash} {�
         springs = λ i q. h .springs i q .1;
         heights = h .heights;
         shifts = o .far;
-        most-light = h .weighed .most-light;
-        least-light = h .weighed .least-light;
+        vmax-light = h .weighed .most-light;
+        vmin-light = h .weighed .least-light;
         lee-small = u .small;
         windward-small = v .small;
         lee-long = u .long;
@@ -153,14 +153,14 @@ module _ {n : ℕ} {k : List ℕ} {ts : List Tier} {m : ℕ} {ls : List Lash} {�
         vertical = vertical;
       }
       ≡ figuresAt n k ts ls d
-  unfolding figuresAt compressionFigure tensionFigure momentPart momentOf
+  unfolding figuresAt compressionFigure tensionFigure momentPart
   end-named {d} {lash-tension} {athwart} {vertical} {lee} {windward} {racking} {compression} {tension} u x y l =
       rw (
         filled-padded (λ i. rackingFigure (rackingPart (getD k i 0) d i)) (pos 0) 10 n racking (h .few) (l .racking-is),
         filled-padded (compressionFigure k ts ls d) 0 11 (suc n) compression (omega (arith, h .few))
-        (refilled (λ i q. rw (h .weighed .vmax-is i, lees i (omega arith), windwards i (omega arith)) refl) (l .compression-is)),
+            (refilled (λ i q. rw (h .weighed .vmax-is i, lees i (omega arith), windwards i (omega arith)) refl) (l .compression-is)),
         filled-padded (tensionFigure k ts ls d) 0 10 n tension (h .few)
-        (refilled (λ i q. rw (h .weighed .vmin-is i, lees (suc i) (omega arith), windwards (suc i) (omega arith)) refl) (l .tension-is)),
+            (refilled (λ i q. rw (h .weighed .vmin-is i, lees (suc i) (omega arith), windwards (suc i) (omega arith)) refl) (l .tension-is)),
         filled-padded (λ j. pullFigure d (getD ls j blankLash)) 0 8 (length ls) lash-tension (omega (arith, h .few-lashes)) (rw counted (u .pull-is)),
         filled-padded (λ j. athwartFigure d (getD ls j blankLash)) 0 8 (length ls) athwart (omega (arith, h .few-lashes)) (rw counted (u .athwart-is)),
         filled-padded (λ j. verticalFigure d (getD ls j blankLash)) 0 8 (length ls) vertical (omega (arith, h .few-lashes)) (rw counted (u .vertical-is)),
