@@ -17,7 +17,7 @@ use Rattle.arith.proofs.FractionsInRationals.{mk-int, of-⊏, to-⊏}
 use Rattle.sheet.specs.declared.Sheet.{Sheet}
 use Rattle.statics.specs.declared.EndFigures.{EndFigures}
 use Rattle.statics.specs.declared.Figures.{Figures}
-use Rattle.statics.specs.Ends.{End, door, closed}
+use Rattle.sheet.specs.Ends.{End, door, closed}
 use Rattle.statics.specs.Reported.{Reported, EndReported, EndFigured}
 use Rattle.answer.specs.Findings.{Kind, racking, compression, cornerTension, lockTension, lashTension, lashVertical, lashAthwart, kinds, Finding, endCode, kindCode, figuresOf, firstIndex, indexCount, reportedSize, limitAt, exactForce, findingsFrom, endFindings, findings, verdict}
 use Rattle.answer.specs.Consequences.{CheckedAt, WithinLimits, Justified}

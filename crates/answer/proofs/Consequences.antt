@@ -9,19 +9,20 @@ use lib.IntN.{pos, natAbs}
 use lib.ListN.{getD, length}
 use Rattle.arith.specs.Fractions.{Frac}
 use Rattle.sheet.specs.declared.Reading.{Reading}
-use Rattle.sheet.specs.declared.Reading.the-variants.{Taken, Refused}
+use Rattle.sheet.specs.declared.Reading.the-variants.{Taken}
 use Rattle.sheet.specs.declared.Sheet.{Sheet}
 use Rattle.sheet.specs.Layout.{sheetOf}
-use Rattle.sheet.specs.Refusals.{first, sheetRows, row13, refusal}
-use Rattle.sheet.proofs.Rows.{orElse, first-append}
+use Rattle.sheet.specs.Refusals.{refusal}
+use Rattle.sheet.proofs.Refusal.{sheet-taken}
 use Rattle.sheet.proofs.Taken.{taken-fits}
 use Rattle.statics.specs.declared.EndFigures.{EndFigures}
 use Rattle.statics.specs.declared.Figures.{Figures}
-use Rattle.statics.specs.Ends.{End, door, closed, lashesOf, EndSolved}
+use Rattle.statics.specs.Ends.{EndSolved}
+use Rattle.sheet.specs.Ends.{End, door, closed, lashesOf}
 use Rattle.statics.specs.Reported.{EndReported}
-use Rattle.statics.specs.inner.Limits.{Facts}
+use Rattle.sheet.specs.inner.Limits.{SheetLimits}
 use Rattle.statics.proofs.Bounds.{racking-within}
-use Rattle.statics.proofs.Taken.{facts}
+use Rattle.sheet.proofs.SheetLimits.{sheet-limits}
 use Rattle.statics.proofs.Within.{reported-below}
 use Rattle.answer.specs.declared.Outcome.{Outcome}
 use Rattle.answer.specs.Findings.{Kind, racking, compression, cornerTension, lockTension, lashTension, lashVertical, lashAthwart, kinds, Finding, endCode, kindCode, figuresOf, firstIndex, indexCount, reportedSize, limitAt, findingsFrom, endFindings, findings, verdict}
@@ -47,9 +48,9 @@ made : {A : Type 0} (g : ℕ → A) (d : A) (n i : ℕ) → i < n → getD (map 
 made g d n i h = made-at g d 0 n i h ∙ ap g (omega arith)
 
 -- the rackings of a taken sheet fit 32 bits
-module _ {margin : ℕ} (few : margin ≤ 100) {t : Sheet} (facts : Facts t) (e : End) {f : EndFigures} where
+module _ {margin : ℕ} (few : margin ≤ 100) {t : Sheet} (limits : SheetLimits t) (e : End) {f : EndFigures} where
   signed : (Ds : List Frac) → EndSolved e t Ds → EndReported margin e t Ds f → Signed t f
-  signed Ds s r = record { racking = λ i h. small (reported-below (racking-within e facts s i h) (r .rackings i h .size)) }
+  signed Ds s r = record { racking = λ i h. small (reported-below (racking-within e limits s i h) (r .rackings i h .size)) }
     where
       small : {n : ℕ} → n < 2440000 + margin → n < 2 ^ 31
       small h = omega arith
@@ -172,7 +173,7 @@ module _ (t : Sheet) (f : Figures) (s : List ℕ) (b : ReadBack t f s) where
       ends closed = end-ruled closed
 
 -- what an answer's bytes say, whatever stands behind them
-module _ {margin : ℕ} (few : margin ≤ 100) {t : Sheet} (facts : Facts t) {bytes : List ℕ} (a : AnswerTo margin t bytes) (rest : List ℕ) where
+module _ {margin : ℕ} (few : margin ≤ 100) {t : Sheet} (limits : SheetLimits t) {bytes : List ℕ} (a : AnswerTo margin t bytes) (rest : List ℕ) where
   abbrev f : Figures
   f = a .figures
 
@@ -180,7 +181,7 @@ module _ {margin : ℕ} (few : margin ≤ 100) {t : Sheet} (facts : Facts t) {by
   all-signed e =
       let Ds = a .one e .shifts in
       let s = a .one e .exists in
-      signed few facts e Ds s (a .reports e .told Ds s)
+      signed few limits e Ds s (a .reports e .told Ds s)
 
   pub read-back : ReadBack t f (bytes ++ rest)
   read-back =
@@ -222,5 +223,5 @@ pub answered :
 answered {margin} {s} {before} {after} {r} e c =
     subst (λ (q : Reading). CheckedAs q margin (sheetOf s) before after r) e (c .holds)
 
-pub taken-facts : (s : List ℕ) (room : ℕ) → refusal s room ≡ Taken → Facts (sheetOf s)
-taken-facts s room e = facts (taken-fits s (sheet-taken s room e))
+pub taken-facts : (s : List ℕ) (room : ℕ) → refusal s room ≡ Taken → SheetLimits (sheetOf s)
+taken-facts s room e = limits (taken-fits s (sheet-taken s room e))

@@ -8,7 +8,7 @@ use lib.ListN.{length, length-append}
 use Rattle.sheet.specs.declared.Sheet.{Sheet}
 use Rattle.statics.specs.declared.EndFigures.{EndFigures}
 use Rattle.statics.specs.declared.Figures.{Figures}
-use Rattle.statics.specs.Ends.{End, door, closed, lashesOf}
+use Rattle.sheet.specs.Ends.{End, door, closed, lashesOf}
 use Rattle.answer.specs.Findings.{Kind, racking, compression, cornerTension, lockTension, lashTension, lashVertical, lashAthwart, Finding, endCode, kindCode, figuresOf, limitAt, reportedSize, findingsFrom, endFindings, findings}
 use Rattle.answer.specs.Answers.{answerBytes}
 use Rattle.answer.proofs.ReadBack.{end-length, bytes-length}

@@ -11,11 +11,11 @@ use Rattle.sheet.specs.Layout.{sheetOf}
 use Rattle.sheet.specs.Refusals.{refusal}
 use Rattle.sheet.specs.Fits.{Fits}
 use Rattle.sheet.proofs.Numbers.{check-numbers}
+use Rattle.sheet.proofs.Refusal.{sheet-taken}
 use Rattle.sheet.proofs.Taken.{taken-fits}
-use Rattle.statics.specs.Ends.{End, door, closed, lashesOf}
+use Rattle.sheet.specs.Ends.{End, door, closed, lashesOf}
 use Rattle.answer.specs.declared.Outcome.{Outcome}
 use Rattle.answer.specs.Checked.{number, second, CheckedAs, Checked}
-use Rattle.answer.proofs.Consequences.{sheet-taken}
 use Rattle.answer.proofs.Longest.{answer-most}
 
 pub record Numbers (r : Outcome) : Type 0 where

@@ -13,7 +13,7 @@ use Rattle.arith.proofs.ByteLaws.{getD-behind, le4-back, signed-back}
 use Rattle.sheet.specs.declared.Sheet.{Sheet}
 use Rattle.statics.specs.declared.EndFigures.{EndFigures}
 use Rattle.statics.specs.declared.Figures.{Figures}
-use Rattle.statics.specs.Ends.{End, door, closed, lashesOf}
+use Rattle.sheet.specs.Ends.{End, door, closed, lashesOf}
 use Rattle.statics.specs.Reported.{Fitting}
 use Rattle.answer.specs.Findings.{Finding, figuresOf, findings, verdict}
 use Rattle.answer.specs.Answers.{counted, endBytes, findingBytes, answerBytes}

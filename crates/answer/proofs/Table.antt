@@ -17,11 +17,12 @@ use Rattle.statics.specs.Lashes.{lashLength, pull, athwartPart}
 use Rattle.springs.specs.Equations as S
 use Rattle.springs.specs.Equations.{shift}
 use Rattle.springs.proofs.OneSolution.{handedStiffness, handedLoad, shiftOf, solution, exists, unique, same-racking}
-use Rattle.statics.specs.Ends.{door, tiersOf, lashesOf, chainTiers, chainLash, chainLashes, routeFactor, EndSolved}
+use Rattle.statics.specs.Ends.{chainTiers, chainLash, chainLashes, routeFactor, EndSolved}
+use Rattle.sheet.specs.Ends.{door, tiersOf, lashesOf}
 use Rattle.statics.specs.Posts.{levelHeight, turning, moment, atMost, tension}
 use Rattle.statics.proofs.LashLength.{length-is}
 use Rattle.answer.specs.Limits.{safeLoad}
-use Rattle.answer.specs.Table.{boxB, rodS, rodOf, exposed, sheetWith, alone, pair, held, heldAbove, doorTiers, lowestLoad, Table}
+use Rattle.answer.specs.Table.{boxB, rodS, rodOf, exposedBox, sheetWith, alone, pair, held, heldAbove, doorTiers, lowestLoad, Table}
 use Rattle.answer.specs.Checked.{OneSolution}
 
 -- (a), (b)
@@ -56,11 +57,11 @@ figure-h-wider : lashLength (rodOf 1 1) ≡ 3251
 figure-h-wider = sym (length-is (rodOf 1 1) 3251 (least-root 10562501 3250 (lit≤ tt) (lit≤ tt)))
 
 -- (i), (j)
-figure-i-forty : wind (exposed 40 2896) ≈ nat 1906633728 /q nat 100000
+figure-i-forty : wind (exposedBox 40 2896) ≈ nat 1906633728 /q nat 100000
 unfolding wind boxLength recip
 figure-i-forty = record { cross = refl }
 
-figure-i-twenty : wind (exposed 20 2591) ≈ nat 847599012 /q nat 100000
+figure-i-twenty : wind (exposedBox 20 2591) ≈ nat 847599012 /q nat 100000
 unfolding wind boxLength recip
 figure-i-twenty = record { cross = refl }
 

@@ -10,7 +10,7 @@ use Rattle.sheet.specs.declared.Sheet.{Sheet}
 use Rattle.sheet.specs.Layout.{sheetOf}
 use Rattle.sheet.specs.Refusals.{refusal}
 use Rattle.statics.proofs.Margins.{figured-wider}
-use Rattle.statics.proofs.Taken.{facts}
+use Rattle.sheet.proofs.SheetLimits.{sheet-limits}
 use Rattle.answer.specs.declared.Outcome.{Outcome}
 use Rattle.answer.specs.Checked.{AnswerTo, Answered, CheckedAs, Checked, kept, demanded}
 use Rattle.answer.specs.Consequences.{AnswerSays}
@@ -55,8 +55,8 @@ theorems =
     record {
       answer-wider = λ m n h t bytes a. answer-wider h a;
       checked-wider = λ m n h s before after r c. checked-wider h c;
-      read-back = λ margin few t bytes rest f a. C.read-back few (facts f) a rest;
-      says = λ margin few t bytes rest f a. C.says few (facts f) a rest;
+      read-back = λ margin few t bytes rest f a. C.read-back few (sheet-limits f) a rest;
+      says = λ margin few t bytes rest f a. C.says few (sheet-limits f) a rest;
       demand-three = λ s before after r e c. demand-three e c;
       table = table;
     }

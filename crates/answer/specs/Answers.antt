@@ -8,7 +8,7 @@ use Rattle.arith.specs.Lists.{below}
 use Rattle.sheet.specs.declared.Sheet.{Sheet}
 use Rattle.statics.specs.declared.EndFigures.{EndFigures}
 use Rattle.statics.specs.declared.Figures.{Figures}
-use Rattle.statics.specs.Ends.{End, door, closed, lashesOf}
+use Rattle.sheet.specs.Ends.{End, door, closed, lashesOf}
 use Rattle.answer.specs.Findings.{Finding, figuresOf, findings, verdict}
 
 -- a count, then the bytes of each entry

@@ -11,7 +11,8 @@ use Rattle.sheet.specs.declared.Sheet.{Sheet}
 use Rattle.sheet.specs.Layout.{sheetOf}
 use Rattle.sheet.specs.Refusals.{refusal}
 use Rattle.statics.specs.declared.Figures.{Figures}
-use Rattle.statics.specs.Ends.{End, EndSolved}
+use Rattle.statics.specs.Ends.{EndSolved}
+use Rattle.sheet.specs.Ends.{End}
 use Rattle.statics.specs.Reported.{EndFigured}
 use Rattle.answer.specs.declared.Outcome.{Outcome}
 use Rattle.answer.specs.declared.Outcome.the-variants as O

@@ -4,7 +4,8 @@ use mathlib.Core.List.{List}
 use Prim.Native.Nat.{ℕ, _+_, _≤_, _<_}
 use Rattle.arith.specs.Fractions.{Frac, nat, _+q_, absq, _⊑_, _⊏_}
 use Rattle.sheet.specs.declared.Sheet.{Sheet}
-use Rattle.statics.specs.Ends.{End, EndSolved}
+use Rattle.statics.specs.Ends.{EndSolved}
+use Rattle.sheet.specs.Ends.{End}
 use Rattle.statics.specs.Reported.{EndReported}
 use Rattle.answer.specs.Findings.{Kind, Finding, endCode, kindCode, firstIndex, indexCount, limitAt, exactForce}
 use Rattle.answer.specs.Places.{findingsPlace, ReadBack, reportedIn, figuresIn, findingIn}

@@ -13,7 +13,8 @@ use Rattle.statics.specs.declared.EndFigures.{EndFigures}
 use Rattle.statics.specs.declared.Figures.{Figures}
 use Rattle.statics.specs.Loads.{classShare}
 use Rattle.statics.specs.Lashes as L
-use Rattle.statics.specs.Ends.{End, door, closed, tiersOf, lashesOf, chainTiers, routeFactor}
+use Rattle.statics.specs.Ends.{chainTiers, routeFactor}
+use Rattle.sheet.specs.Ends.{End, door, closed, tiersOf, lashesOf}
 use Rattle.statics.specs.Posts as P
 use Rattle.statics.specs.Reported.{forceOf}
 use Rattle.answer.specs.Limits.{rackingLimit, compressionLimit, cornerTensionLimit, lashVerticalLimit, lashAthwartLimit, safeLoad}

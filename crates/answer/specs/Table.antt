@@ -12,7 +12,8 @@ use Rattle.sheet.specs.Layout.{blankTier, blankLash}
 use Rattle.arith.specs.Lists.{padded}
 use Rattle.statics.specs.Loads.{transverse, wind, classShare}
 use Rattle.statics.specs.Lashes.{lashLength, athwartPart}
-use Rattle.statics.specs.Ends.{door, tiersOf, lashesOf, chainTiers, routeFactor, EndSolved}
+use Rattle.statics.specs.Ends.{chainTiers, routeFactor, EndSolved}
+use Rattle.sheet.specs.Ends.{door, tiersOf, lashesOf}
 use Rattle.statics.specs.Posts.{moment, tension}
 use Rattle.answer.specs.Limits.{safeLoad}
 use Rattle.answer.specs.Checked.{OneSolution}
@@ -34,8 +35,8 @@ abbrev pub rodS : ℕ → Lash
 rodS tier = rodOf 0 tier
 
 -- an exposed box
-abbrev pub exposed : ℕ → ℕ → Tier
-exposed size height = record { size = size; wind = 1; height = height; mass = 20000; aT = 500; aVmax = 1500; aVmin = 800 }
+abbrev pub exposedBox : ℕ → ℕ → Tier
+exposedBox size height = record { size = size; wind = 1; height = height; mass = 20000; aT = 500; aVmax = 1500; aVmin = 800 }
 
 -- a sheet of these tiers, with these lashes at the door end
 abbrev pub sheetWith : ℕ → List Tier → List Lash → Sheet
@@ -86,6 +87,6 @@ pub record Table : Type 0 where
   pub g : safeLoad 1 500000 ≡ 299401
   pub h : lashLength (rodS 1) ≡ 3250
   pub h-wider : lashLength (rodOf 1 1) ≡ 3251
-  pub i-forty : wind (exposed 40 2896) ≈ nat 1906633728 /q nat 100000
-  pub i-twenty : wind (exposed 20 2591) ≈ nat 847599012 /q nat 100000
+  pub i-forty : wind (exposedBox 40 2896) ≈ nat 1906633728 /q nat 100000
+  pub i-twenty : wind (exposedBox 20 2591) ≈ nat 847599012 /q nat 100000
   pub j : transverse (routeFactor (sheetWith 7 (boxB ∷ []) [])) boxB ≈ nat 358065 /q nat 10

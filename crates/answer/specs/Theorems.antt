@@ -8,7 +8,7 @@ use Rattle.sheet.specs.declared.Sheet.{Sheet}
 use Rattle.sheet.specs.Fits.{Fits}
 use Rattle.sheet.specs.Layout.{sheetOf}
 use Rattle.sheet.specs.Refusals.{refusal}
-use Rattle.statics.specs.Ends.{End}
+use Rattle.sheet.specs.Ends.{End}
 use Rattle.answer.specs.declared.Outcome.{Outcome}
 use Rattle.answer.specs.Checked.{OneSolution, AnswerTo, Checked, kept, demanded}
 use Rattle.answer.specs.Consequences.{AnswerSays}

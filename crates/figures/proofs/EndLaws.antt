@@ -11,6 +11,7 @@ use lib.IntN.{ℤ, pos}
 use lib.ListN.{length, getD, take, drop, replicate}
 use lib.Seq.{ext-getD}
 use Rattle.sheet.specs.Layout.{blankLash, blankTier}
+use Rattle.sheet.proofs.Limits.{lash-wider}
 use Rattle.springs.specs.Promise.{Solvable, Promised}
 use Rattle.springs.specs.inner.Elimination.{solved}
 use Rattle.sheet.specs.declared.Tier.{Tier}
@@ -19,9 +20,10 @@ use Rattle.sheet.specs.declared.Lashing.{Lashing}
 use Rattle.sheet.specs.declared.Sheet.{Sheet}
 use Rattle.sheet.specs.Lashings.{lashingOf, levelOf}
 use Rattle.statics.specs.declared.EndFigures.{EndFigures}
-use Rattle.statics.specs.inner.Limits.{LashFacts, Facts}
+use Rattle.sheet.specs.inner.Limits.{LashLimits, SheetLimits}
 use Rattle.statics.specs.declared.LoadRule.{LoadRule}
-use Rattle.statics.specs.Ends.{End, door, closed, springOf, tiersOf, lashesOf}
+use Rattle.statics.specs.Ends.{springOf}
+use Rattle.sheet.specs.Ends.{End, door, closed, tiersOf, lashesOf}
 use Rattle.statics.specs.inner.WholeNumbers.{Filled, levelStiffness, upward, upwards, leePart, windwardPart, rackingPart, rackingFigure, momentPart, compressionFigure, tensionFigure, pullFigure, athwartFigure, verticalFigure}
 use Rattle.statics.specs.inner.Computed.{springsOf, stiffnessesOf, figuresAt}
 use Rattle.figures.specs.inner.Ends.{Loaded, Weighed, Workable}
@@ -87,26 +89,10 @@ refilled :
     ((i : ℕ) → i < n → P i ≡ Q i) → Filled size blank n P r → Filled size blank n Q r
 refilled e f = record { long = f .long; each = λ i h. f .each i h ∙ e i h; rest = f .rest }
 
-facts-ten : {n : ℕ} {l : Lash} → n ≤ 10 → LashFacts n l → LashFacts 10 l
-facts-ten h f =
-    record {
-      lx = f .lx;
-      ly = f .ly;
-      ly-most = f .ly-most;
-      lz = f .lz;
-      lz-most = f .lz-most;
-      area = f .area;
-      area-most = f .area-most;
-      modulus = f .modulus;
-      modulus-most = f .modulus-most;
-      raised = f .raised;
-      inside = omega (arith, f .inside);
-    }
-
 module _ {n : ℕ} {k : List ℕ} {ts : List Tier} {m : ℕ} {ls : List Lash} {ω vmax vmin : List ℕ}
     (h : Workable n k ts m ls ω vmax vmin) (counted : length ls ≡ m) where
-  pub each-ten : (j : ℕ) → j < m → LashFacts 10 (getD ls j blankLash)
-  each-ten j q = facts-ten (h .few) (h .each j (omega arith))
+  pub each-ten : (j : ℕ) → j < m → LashLimits 10 (getD ls j blankLash)
+  each-ten j q = lash-wider (h .few) (h .each j (omega arith))
 
   pub end-solvable : {κ : List ℕ} → Held ls κ → Solvable n k κ ω
   end-solvable s =
@@ -183,7 +169,7 @@ stiffnesses-named ls {κ} long s =
     (λ i q. s i ∙ sym (entry-at (λ i. levelStiffness ls (suc i)) 0 10 i (omega (arith, q, long))))
 
 -- an end's figures may be computed
-module _ {t : Sheet} (f : Facts t) (e : End) where
+module _ {t : Sheet} (f : SheetLimits t) (e : End) where
   pub workable :
       (rule : LoadRule) (m : ℕ) (ω vmax vmin : List ℕ) →
       m ≤ 8 →

@@ -4,7 +4,7 @@ ghost use mathlib.Core.Path.{_≡_};
 ghost use Prim.Native.Nat.{ℕ, _+_, _*_, _-_, _/_, _<_, _≤_, _^_};
 ghost use lib.ListN.{take, getD, replicate};
 ghost use Rattle.sheet.specs.Layout.{blankTier};
-ghost use Rattle.statics.specs.inner.Limits.{TierFacts};
+ghost use Rattle.sheet.specs.inner.Limits.{TierLimits};
 ghost use Rattle.statics.specs.inner.WholeNumbers.{transverseUnits, windUnits};
 ghost use Rattle.statics.specs.Loads.{boxLength};
 ghost use Rattle.figures.specs.inner.Ends.{Loaded, Weighed};
@@ -32,10 +32,10 @@ fn box_length(t: Tier) -> u64
 
 // The wind on a tier: 27 × length × height where it is exposed.
 fn wind_of(t: Tier) -> u64
-    requires { ⌜ TierFacts t ⌝ }
+    requires { ⌜ TierLimits t ⌝ }
     ensures { λ r. ⌜ (r ≡ windUnits t) × (r ≤ 27 * 12192 * 2896) ⌝ }
 {
-    if t.wind == 1 {
+    if sheet::exposed(t) {
         return 27 * box_length(t) * (t.height as u64);
     }
     0
@@ -48,7 +48,7 @@ struct TierLoad {
 }
 
 fn tier_load(t: Tier) -> TierLoad
-    requires { ⌜ TierFacts t ⌝ }
+    requires { ⌜ TierLimits t ⌝ }
     ensures { λ r. ⌜ (r .transverse ≡ transverseUnits t) × (r .transverse ≤ 30480 * 1500) × (r .wind ≡ windUnits t) × (r .wind ≤ 27 * 12192 * 2896) ⌝ }
 {
     TierLoad {
@@ -98,7 +98,7 @@ pub fn loads_of(
     vmin: &mut [u64],
 )
     requires { ⌜ (n ≤ 10) × (rule .share ≤ 20) × (rule .factor ≤ 1000) ⌝ }
-    requires { ⌜ ((i : ℕ) → i < n → TierFacts (getD (take n tiers) i blankTier)) ⌝ }
+    requires { ⌜ ((i : ℕ) → i < n → TierLimits (getD (take n tiers) i blankTier)) ⌝ }
     requires { ⌜ (now loads ≡ replicate 10 0) × (now vmax ≡ replicate 11 0) × (now vmin ≡ replicate 11 0) ⌝ }
     ensures { λ _. ⌜ Loaded rule n (take n tiers) (now (loads .exit)) × Weighed (take n tiers) (now (vmax .exit)) (now (vmin .exit)) ⌝ }
 {

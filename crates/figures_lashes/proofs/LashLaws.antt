@@ -4,11 +4,11 @@ use mathlib.Core.Path.{_≡_}
 use native.Mathlib.Nat.{mul-le-mul, mul-le-mul-left, div-le-of-le-mul}
 use native.Mathlib.Omega.{arith}
 use Rattle.sheet.specs.declared.Lash.{Lash}
-use Rattle.statics.specs.inner.Limits.{LashFacts}
+use Rattle.sheet.specs.inner.Limits.{LashLimits}
 use Rattle.statics.specs.Lashes.{lashLength}
 use Rattle.statics.proofs.LashLength.{squares, length-least}
 
-module _ {n : ℕ} {l : Lash} (f : LashFacts n l) where
+module _ {n : ℕ} {l : Lash} (f : LashLimits n l) where
   pub length-most : lashLength l ≤ 22913
   length-most =
       let x = mul-le-mul (f .lx) (f .lx) in

@@ -14,7 +14,7 @@ use Rattle.sheet.specs.declared.Lash.{Lash}
 use Rattle.sheet.specs.declared.Lashing.{Lashing}
 use Rattle.sheet.specs.declared.Lashing.the-variants.{Cross, Side}
 use Rattle.sheet.specs.Lashings.{lashingOf, levelOf}
-use Rattle.statics.specs.inner.Limits.{LashFacts}
+use Rattle.sheet.specs.inner.Limits.{LashLimits}
 use Rattle.statics.specs.Lashes.{lashLength}
 use Rattle.statics.specs.inner.WholeNumbers.{lashPad, stiffnessOf, part, upward}
 use Rattle.statics.specs.inner.WholeNumbers.{pullFigure, athwartFigure, verticalFigure, leePart, windwardPart}
@@ -29,12 +29,12 @@ use Rattle.figures_lashes.proofs.Tallies.{Tallied, Only, tallied-none, 
 pub record Listed (m : ℕ) (ls : List Lash) : Type 0 where
   pub counted : length ls ≡ m
   pub few : m ≤ 8
-  pub each : (j : ℕ) → j < m → LashFacts 10 (getD ls j blankLash)
+  pub each : (j : ℕ) → j < m → LashLimits 10 (getD ls j blankLash)
 
 pub listed :
     {m : ℕ} (lashes : List Lash) →
     length lashes ≡ 8 →
-    (m ≤ 8) × ((j : ℕ) → j < m → LashFacts 10 (getD (take m lashes) j blankLash)) →
+    (m ≤ 8) × ((j : ℕ) → j < m → LashLimits 10 (getD (take m lashes) j blankLash)) →
     Listed m (take m lashes)
 listed {m} lashes e p = record { counted = length-take-le m lashes (omega (arith, p .0)); few = p .0; each = p .1 }
 
@@ -150,7 +150,7 @@ figured-none =
       windwards = tallied-none 11;
     }
 
-upward-small : (d : List ℕ) (l : Lash) → getD d (levelOf l) 0 ≤ 2 ^ 40 → LashFacts 10 l → upward d l ≤ 2 ^ 54
+upward-small : (d : List ℕ) (l : Lash) → getD d (levelOf l) 0 ≤ 2 ^ 40 → LashLimits 10 l → upward d l ≤ 2 ^ 54
 unfolding upward part
 upward-small d l h f = upward-le (part-le (stiffness-most l f) h) (f .ly) (f .lz-most)
 

@@ -6,7 +6,7 @@ ghost use lib.ListN.{take, getD, length, replicate};
 ghost use Rattle.arith.specs.Rounding.{roundedUp};
 ghost use Rattle.sheet.specs.Lashings.{levelOf};
 ghost use Rattle.sheet.specs.Layout.{blankLash};
-ghost use Rattle.statics.specs.inner.Limits.{LashFacts};
+ghost use Rattle.sheet.specs.inner.Limits.{LashLimits};
 ghost use Rattle.statics.specs.Lashes.{lashLength};
 ghost use Rattle.statics.specs.inner.WholeNumbers.{lashPad, stiffnessOf, leePart, windwardPart};
 ghost use Rattle.figures_lashes.specs.inner.Lashes.{carriedLash, verticalFrom, Geared, Held, Pulled, Borne};
@@ -26,14 +26,14 @@ const LASH_PAD: u64 = 13365;
 
 // The level that a lash is hooked at.
 fn hook_level(l: Lash) -> usize
-    requires { ⌜ LashFacts 10 l ⌝ }
+    requires { ⌜ LashLimits 10 l ⌝ }
     ensures { λ r. ⌜ (r ≡ levelOf l) × (1 ≤ r) × (r ≤ 10) ⌝ }
 {
     (l.tier - l.hook) as usize
 }
 
 fn length_of(l: Lash) -> u64
-    requires { ⌜ LashFacts 10 l ⌝ }
+    requires { ⌜ LashLimits 10 l ⌝ }
     ensures { λ r. ⌜ r ≡ lashLength l ⌝ }
 {
     length(l.lx as u64, l.ly as u64, l.lz as u64)
@@ -52,7 +52,7 @@ fn over_cube(force: u64, cube: u64) -> u64
 
 // The athwart stiffness of a lash of this length.
 fn stiffness_of(l: Lash, long: u64) -> u64
-    requires { ⌜ LashFacts 10 l × (long ≡ lashLength l) ⌝ }
+    requires { ⌜ LashLimits 10 l × (long ≡ lashLength l) ⌝ }
     ensures { λ r. ⌜ r ≡ stiffnessOf l ⌝ }
 {
     let ly = l.ly as u64;
@@ -70,7 +70,7 @@ pub fn gear_of(
     stiffnesses: &mut [u64],
     levels: &mut [u64],
 )
-    requires { ⌜ (m ≤ 8) × ((j : ℕ) → j < m → LashFacts 10 (getD (take m lashes) j blankLash)) ⌝ }
+    requires { ⌜ (m ≤ 8) × ((j : ℕ) → j < m → LashLimits 10 (getD (take m lashes) j blankLash)) ⌝ }
     requires { ⌜ (now lengths ≡ replicate 8 0) × (now stiffnesses ≡ replicate 8 0) × (now levels ≡ replicate 10 0) ⌝ }
     ensures { λ _. ⌜ Geared m (take m lashes) (now (lengths .exit)) (now (stiffnesses .exit)) ⌝ }
     ensures { λ _. ⌜ Held (take m lashes) (now (levels .exit)) ⌝ }
@@ -113,7 +113,7 @@ struct LashForces {
 
 // The figures of a lash of this length, from its athwart part.
 fn forces_of(l: Lash, long: u64, part: u64) -> LashForces
-    requires { ⌜ LashFacts 10 l × (long ≡ lashLength l) × (part ≤ 2 ^ 48) ⌝ }
+    requires { ⌜ LashLimits 10 l × (long ≡ lashLength l) × (part ≤ 2 ^ 48) ⌝ }
     ensures { λ r. ⌜ r .tension ≡ roundedUp (roundedUp ((part + lashPad) * lashLength l) (l .ly)) (2 ^ 18) ⌝ }
     ensures { λ r. ⌜ r .athwart ≡ roundedUp (part + lashPad) (2 ^ 18) ⌝ }
     ensures { λ r. ⌜ r .vertical ≡ roundedUp (roundedUp ((part + lashPad) * l .lz) (l .ly)) (2 ^ 18) ⌝ }
@@ -129,7 +129,7 @@ fn forces_of(l: Lash, long: u64, part: u64) -> LashForces
 
 // The vertical part of a lash, from its athwart part.
 fn vertical_part(l: Lash, part: u64) -> u64
-    requires { ⌜ LashFacts 10 l × (part ≤ 2 ^ 48) ⌝ }
+    requires { ⌜ LashLimits 10 l × (part ≤ 2 ^ 48) ⌝ }
     ensures { λ r. ⌜ (r ≡ verticalFrom part l) × (r ≤ 2 ^ 54) ⌝ }
 {
     part * (l.lz as u64) / (l.ly as u64)
@@ -137,7 +137,7 @@ fn vertical_part(l: Lash, part: u64) -> u64
 
 // The vertical part of a lash on its post: of a cross lash on the lee post, of a side lash on the windward post.
 fn on_posts(g: Lashing, part: u64) -> PostParts
-    requires { ⌜ LashFacts 10 (carriedLash g) × (part ≤ 2 ^ 48) ⌝ }
+    requires { ⌜ LashLimits 10 (carriedLash g) × (part ≤ 2 ^ 48) ⌝ }
     ensures { λ r. ⌜ r .lee ≡ leePart g (verticalFrom part (carriedLash g)) ⌝ }
     ensures { λ r. ⌜ r .windward ≡ windwardPart g (verticalFrom part (carriedLash g)) ⌝ }
 {
@@ -170,7 +170,7 @@ pub fn lash_figures(
     stiffnesses: &[u64],
     d: &[u64],
 ) -> Pulls
-    requires { ⌜ (m ≤ 8) × ((j : ℕ) → j < m → LashFacts 10 (getD (take m lashes) j blankLash)) ⌝ }
+    requires { ⌜ (m ≤ 8) × ((j : ℕ) → j < m → LashLimits 10 (getD (take m lashes) j blankLash)) ⌝ }
     requires { ⌜ Geared m (take m lashes) (now lengths) (now stiffnesses) × ((i : ℕ) → getD (now d) i 0 ≤ 2 ^ 40) ⌝ }
     requires { ⌜ (length (now lengths) ≡ 8) × (length (now stiffnesses) ≡ 8) × (length (now d) ≡ 11) ⌝ }
     ensures { λ r. ⌜ Pulled m (take m lashes) (now (d .entry)) (r .pull) (r .athwart) (r .vertical) ⌝ }

@@ -10,7 +10,7 @@ use lib.Dec.{ltb}
 use Rattle.io.specs.Digits.{digits, Fewest}
 use Rattle.sheet.specs.declared.Reading.{Reading}
 use Rattle.sheet.specs.declared.Reading.the-variants as R
-use Rattle.sheet.specs.Refusals.{first, refusal}
+use Rattle.sheet.specs.Refusals.{first, refusalOf, refusal}
 use Rattle.sheet.specs.Layout.{sheetOf}
 use Rattle.lashcheck.specs.Lines.{Decimal, Line}
 use Rattle.lashcheck.specs.Replies.{ReplyAs, Reply}

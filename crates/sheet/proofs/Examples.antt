@@ -6,7 +6,7 @@ use Rattle.sheet.specs.declared.Reading.{Reading}
 use Rattle.sheet.specs.declared.Reading.the-variants.{Taken, Refused}
 use Rattle.sheet.specs.Layout.{headOf, tierOf, lashOf, tierFits, breakingFits, lashFits}
 use Rattle.arith.specs.Lists.{from, below}
-use Rattle.sheet.specs.Refusals.{offTiers, later, notLater, first, refusal}
+use Rattle.sheet.specs.Refusals.{offTiers, later, notLater, first, refusalOf, refusal}
 use Rattle.sheet.specs.Written.{headBytes, tierBytes, lashBytes}
 
 -- rule 1, route 0, an ordinary lock of 400,000 N
@@ -99,5 +99,5 @@ cases =
     ∷ []
 
 pub answered : map (λ c. refusal (c .sheet) (c .room)) cases ≡ map (λ c. c .answer) cases
-unfolding refusal first headOf tierOf lashOf tierFits breakingFits lashFits offTiers later notLater flatMap from
+unfolding refusal refusalOf first headOf tierOf lashOf tierFits breakingFits lashFits offTiers later notLater flatMap from
 answered = refl

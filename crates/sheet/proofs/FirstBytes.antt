@@ -16,7 +16,10 @@ use Rattle.sheet.specs.declared.Reading.the-variants.{Taken, Refused}
 use Rattle.sheet.specs.declared.Sheet.{Sheet}
 use Rattle.sheet.specs.Layout.{headOf, tierOf, lashOf, tierCount, tierPlace, lashPlace, doorPlace, closedPlace, sparePlace, sheetOf}
 use Rattle.arith.specs.Lists.{from, below}
-use Rattle.sheet.specs.Refusals.{Row, row1, row2, row3, row4, row5, row6, row7, row8, row9, row10, row11, row12, row13, notLater, first, headRows, tierCountRows, tierRows, tiersRows, lashCountRows, lashRows, endRows, doorRows, closedRows, sheetRows, unlessRefused, decoded, refusal}
+use Rattle.sheet.specs.Refusals.{Row, row1, row2, row3, row4, row5, row6, row7, row8, row9, row10, row11, row12, row13, notLater}
+use Rattle.sheet.specs.Refusals.{first, headRows, tierCountRows, tierRows, tiersRows, lashCountRows, lashRows, endRows, doorRows}
+use Rattle.sheet.specs.Refusals.{closedRows, sheetRows, unlessRefused, decoded, refusalOf, longestAnswer, refusal}
+use Rattle.sheet.specs.Theorems.{FirstBytesDecide}
 use Rattle.sheet.proofs.Items.{count-fits}
 use Rattle.sheet.proofs.Rows.{orElse, first-append}
 use Rattle.sheet.proofs.Clear.{clear, few-tiers, few-lashes}
@@ -212,7 +215,7 @@ module _ (s t : List ℕ) (ls : 452 ≤ length s) (lt : 452 ≤ length t) (same 
   unfolding decoded
   long-alike = same-decoded (first (sheetRows s)) (first (sheetRows t)) (sheetOf s) (sheetOf t) sheets-alike
 
-pub first-452 : (s : List ℕ) → decoded (take 452 s) ≡ decoded s
+pub first-452 : FirstBytesDecide
 first-452 s = go (ltb (length s) 452) refl
   where
     go : (b : Bool) → ltb (length s) 452 ≡ b → decoded (take 452 s) ≡ decoded s
@@ -221,8 +224,12 @@ first-452 s = go (ltb (length s) 452) refl
         let long : 452 ≤ length s = ltb-false (length s) 452 e in
         long-alike (take 452 s) s (rw length-take (omega arith)) long (λ i h. getD-take 452 s i 0 h)
 
+pub refusal-of-452 : (s : List ℕ) (own : List Row) (needed room : ℕ) → refusalOf (take 452 s) own needed room ≡ refusalOf s own needed room
+refusal-of-452 s own needed room =
+    refusal-of (take 452 s) own needed room
+    ∙ ap (λ d. orElse (d .reading) (first (own ++ (row13 needed room ∷ [])))) (first-452 s)
+    ∙ sym (refusal-of s own needed room)
+
 pub refusal-452 : (s : List ℕ) (room : ℕ) → refusal (take 452 s) room ≡ refusal s room
-refusal-452 s room =
-    refusal-of (take 452 s) room
-    ∙ ap (λ d. orElse (d .reading) (first (row13 room ∷ []))) (first-452 s)
-    ∙ sym (refusal-of s room)
+unfolding refusal
+refusal-452 s room = refusal-of-452 s [] longestAnswer room

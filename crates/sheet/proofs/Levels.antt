@@ -14,7 +14,8 @@ use Rattle.sheet.specs.Refusals.{later}
 use Rattle.sheet.specs.Lashings.{levelOf, atLevel}
 use Rattle.sheet.specs.Fits.{EndFits, lashAt}
 use Rattle.sheet.proofs.Bools.{and-true, or-true}
-use Rattle.sheet.proofs.Limits.{LashLimits, lash-limits, LashPlaced, lash-placed, code, level-top, level-bottom}
+use Rattle.sheet.specs.inner.Limits.{LashLimits}
+use Rattle.sheet.proofs.Limits.{lash-limits, code, level-top, level-bottom}
 
 -- tier, then hook, then kind, as one number
 abbrev key : Lash → ℕ
@@ -71,7 +72,7 @@ counts-more [] b bs = refl
 counts-more (a ∷ W) b bs = omega (arith, counts-more W b bs)
 
 -- a later lash has the greater key
-later-key : (a b : Lash) → LashLimits a → LashLimits b → later a b ≡ true → key a < key b
+later-key : {n : ℕ} (a b : Lash) → LashLimits n a → LashLimits n b → later a b ≡ true → key a < key b
 unfolding later
 later-key a b p q e = by-tier (or-true (ltb (a .tier) (b .tier)) _ e)
   where
@@ -101,8 +102,8 @@ abbrev Each : (Lash → Type 0) → List Lash → ℕ → Type 0
 Each P ls c = (k : ℕ) → k < c → P (lashAt ls k)
 
 keys-rise :
-    (ls : List Lash) (c m : ℕ) →
-    Each LashLimits ls c →
+    {n : ℕ} (ls : List Lash) (c m : ℕ) →
+    Each (LashLimits n) ls c →
     ((k : ℕ) → suc k < c → later (lashAt ls k) (lashAt ls (suc k)) ≡ true) →
     (0 < c → m ≤ key (lashAt ls 0)) →
     Rising m (map key (take c ls))
@@ -144,7 +145,7 @@ at-most i W {n} {lashes} {c} e f =
       arith,
       within-keys i W lashes c f,
       counts-rising W 0 (map key (take c lashes))
-          (keys-rise lashes c 0 (λ k q. lash-limits (lashAt lashes k) (e .fits k q)) (e .ordered) (λ q. omega arith)),
+          (keys-rise lashes c 0 (λ k q. lash-limits n (lashAt lashes k) (e .placed k q) (e .fits k q)) (e .ordered) (λ q. omega arith)),
     )
 
 -- the keys of a lash at level i: a top hook of tier i, a bottom hook of tier i + 1
@@ -162,7 +163,7 @@ top i = (4 * i) ∷ (4 * i + 1) ∷ []
 both : ℕ → List ℕ
 both i = (4 * i + 6) ∷ (4 * i + 7) ∷ top i
 
-module _ (i : ℕ) (l : Lash) (p : LashLimits l) where
+module _ (i : ℕ) {n : ℕ} (l : Lash) (p : LashLimits n l) where
   top-hook : l .hook ≡ 0 → levelOf l ≡ i → 1 ≤ counts (top i) (key l ∷ [])
   unfolding top
   top-hook h e = go (code (l .kind) (p .kind))
@@ -201,16 +202,13 @@ module _ (i : ℕ) (l : Lash) (p : LashLimits l) where
       go (inr q) = absurd (omega (arith, m, t, sym (level-bottom l q) ∙ e))
 
 module _ {n : ℕ} {lashes : List Lash} {c : ℕ} (e : EndFits n lashes c) where
-  limits : Each LashLimits lashes c
-  limits k q = lash-limits (lashAt lashes k) (e .fits k q)
-
-  placed : Each (LashPlaced n) lashes c
-  placed k q = lash-placed n (lashAt lashes k) (e .placed k q) (limits k q .hook)
+  limits : Each (LashLimits n) lashes c
+  limits k q = lash-limits n (lashAt lashes k) (e .placed k q) (e .fits k q)
 
   pub four-a-level : (i : ℕ) → atLevel i (take c lashes) ≤ 4
   unfolding both top
-  four-a-level i = at-most i (both i) e (λ k q. either-hook i (lashAt lashes k) (limits k q) (placed k q .tierLeast))
+  four-a-level i = at-most i (both i) e (λ k q. either-hook i (lashAt lashes k) (limits k q) (limits k q .tier))
 
   pub two-on-top : atLevel n (take c lashes) ≤ 2
   unfolding top
-  two-on-top = at-most n (top n) e (λ k q. at-top n (lashAt lashes k) (limits k q) (placed k q .tierMost) (placed k q .tierLeast))
+  two-on-top = at-most n (top n) e (λ k q. at-top n (lashAt lashes k) (limits k q) (limits k q .tier-most) (limits k q .tier))

@@ -2,6 +2,7 @@
 pub mod Limits
 pub mod Taken
 pub mod Levels
+pub mod SheetLimits
 pub mod Refusal
 pub mod Routes
 pub mod FirstBytes

@@ -1,8 +1,8 @@
--- The two numbers of a refusal: a number of the table, 1 to 13, and a second number of at most 451; with 13 it is 834.
+-- The two numbers of a refusal: of a sheet, 1 to 12 and at most 451; of a check, 13 with 834 too; of any call, its own rows' besides.
 use Prim.Native.Nat.{ℕ, zero, suc, _+_, _<_, _≤_}
 use mathlib.Core.Bool.{Bool, true, false, cond}
 use mathlib.Core.List.{List, [], _∷_, _++_, flatMap}
-use mathlib.Core.Path.{_≡_, refl, subst}
+use mathlib.Core.Path.{_≡_, refl, sym, subst}
 use native.Mathlib.Omega.{arith}
 use borrow.Author.Tests.{ltb-true, ltb-false}
 use lib.ListN.{length}
@@ -11,9 +11,10 @@ use Rattle.sheet.specs.declared.Reading.the-variants.{Taken, Refused}
 use Rattle.sheet.specs.Layout.{tierCount, tierPlace, lashPlace, doorPlace, closedPlace}
 use Rattle.arith.specs.Bytes.{byteAt}
 use Rattle.arith.specs.Lists.{from, below}
-use Rattle.sheet.specs.Refusals.{Row, row1, row13, first, headRows, tierCountRows, tierRows, tiersRows, lashCountRows, lashRows, endRows, doorRows, closedRows, sheetRows, refusal}
+use Rattle.sheet.specs.Refusals.{Row, row1, row13, first, headRows, tierCountRows, tierRows, tiersRows, lashCountRows, lashRows}
+use Rattle.sheet.specs.Refusals.{endRows, doorRows, closedRows, sheetRows, refusalOf, longestAnswer, refusal}
 use Rattle.sheet.proofs.Rows.{orElse, first-append}
-use Rattle.sheet.proofs.Clear.{clear, few-tiers, few-lashes}
+use Rattle.sheet.proofs.Clear.{clear, not-taken, few-tiers, few-lashes}
 use Rattle.sheet.proofs.Items.{count-fits}
 
 -- a refusal with a number from 1 to c and a second number of at most p
@@ -22,7 +23,11 @@ Within c p Taken = Unit {0}
 Within c p (Refused number second) = (1 ≤ number) × (number ≤ c) × (second ≤ p)
 
 module _ (c p : ℕ) where
-  row-within : (r : Row) (rs : List Row) → (r .holds ≡ true → Within c p (Refused (r .number) (r .second))) → Within c p (first rs) → Within c p (first (r ∷ rs))
+  row-within :
+      (r : Row) (rs : List Row) →
+      (r .holds ≡ true → Within c p (Refused (r .number) (r .second))) →
+      Within c p (first rs) →
+      Within c p (first (r ∷ rs))
   unfolding first
   row-within r rs h k = go (r .holds) refl
     where
@@ -37,7 +42,11 @@ module _ (c p : ℕ) where
       go Taken e w = k e
       go (Refused n m) e w = w
 
-  each-within : (f : ℕ → List Row) (i left n : ℕ) → i + left ≤ n → ((k : ℕ) → k < n → Within c p (first (f k))) → Within c p (first (flatMap f (from i left)))
+  each-within :
+      (f : ℕ → List Row) (i left n : ℕ) →
+      i + left ≤ n →
+      ((k : ℕ) → k < n → Within c p (first (f k))) →
+      Within c p (first (flatMap f (from i left)))
   unfolding first flatMap from
   each-within f i zero n b h = tt
   each-within f i (suc left) n b h =
@@ -112,17 +121,44 @@ module _ (s : List ℕ) where
       plain _ [] (omega arith) (omega arith) (omega arith) none))))
 
 -- of a sheet
-pub sheet-numbers : (s : List ℕ) {number second : ℕ} → first (sheetRows s) ≡ Refused number second → (1 ≤ number) × (number ≤ 12) × (second ≤ 451)
+pub sheet-numbers :
+    (s : List ℕ) {number second : ℕ} →
+    first (sheetRows s) ≡ Refused number second →
+    (1 ≤ number) × (number ≤ 12) × (second ≤ 451)
 sheet-numbers s e = subst (Within 12 451) e (sheet-small s)
 
-wider : (q : Reading) → Within 12 451 q → Within 13 834 q
-wider Taken w = tt
-wider (Refused number second) w = (w .0, omega (arith, w .1), omega (arith, w .2))
+wider : {c p : ℕ} → 12 ≤ c → 451 ≤ p → (q : Reading) → Within 12 451 q → Within c p q
+wider a b Taken w = tt
+wider a b (Refused number second) w = (w .0, omega (arith, w .1), omega (arith, w .2))
+
+within-by :
+    (c p : ℕ) (q : Reading) →
+    ((number second : ℕ) → q ≡ Refused number second → (1 ≤ number) × (number ≤ c) × (second ≤ p)) →
+    Within c p q
+within-by c p Taken h = tt
+within-by c p (Refused number second) h = h number second refl
+
+-- of a call with rows of its own, whose numbers are at most c and second numbers at most p, and which needs so many bytes of `room`
+module _ (c p : ℕ) (table : 13 ≤ c) (places : 451 ≤ p) (s : List ℕ) (own : List Row) (needed room : ℕ) (enough : needed ≤ p)
+    (owns : (number second : ℕ) → first own ≡ Refused number second → (1 ≤ number) × (number ≤ c) × (second ≤ p)) where
+  pub call-numbers :
+      {number second : ℕ} → refusalOf s own needed room ≡ Refused number second → (1 ≤ number) × (number ≤ c) × (second ≤ p)
+  unfolding refusalOf first
+  call-numbers e =
+      subst (Within c p) e
+      (parts-within c p (sheetRows s) (own ++ (row13 needed room ∷ [])) (wider (omega arith) places (first (sheetRows s)) (sheet-small s))
+      (λ _.
+      parts-within c p own (row13 needed room ∷ []) (within-by c p (first own) owns)
+      (λ _. row-within c p (row13 needed room) [] (λ _. (omega arith, table, enough)) tt)))
 
 -- of a check with an answer buffer of `room` bytes
-pub check-numbers : (s : List ℕ) (room : ℕ) {number second : ℕ} → refusal s room ≡ Refused number second → (1 ≤ number) × (number ≤ 13) × (second ≤ 834)
+pub check-numbers :
+    (s : List ℕ) (room : ℕ) {number second : ℕ} →
+    refusal s room ≡ Refused number second →
+    (1 ≤ number) × (number ≤ 13) × (second ≤ longestAnswer)
 unfolding refusal first
 check-numbers s room e =
-    subst (Within 13 834) e
-    (parts-within 13 834 (sheetRows s) (row13 room ∷ []) (wider (first (sheetRows s)) (sheet-small s))
-    (λ _. row-within 13 834 (row13 room) [] (λ _. (omega arith, omega arith, omega arith)) tt))
+    call-numbers 13 longestAnswer (omega arith) (omega arith) s [] longestAnswer room (omega arith) none e
+  where
+    none : (number second : ℕ) → first [] ≡ Refused number second → (1 ≤ number) × (number ≤ 13) × (second ≤ longestAnswer)
+    none number second q = not-taken number second (sym q)

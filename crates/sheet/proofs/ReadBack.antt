@@ -12,7 +12,7 @@ use Rattle.sheet.specs.declared.Tier.{Tier}
 use Rattle.sheet.specs.declared.Lash.{Lash}
 use Rattle.sheet.specs.Layout.{headOf, tierOf, lashOf, blankTier, blankLash}
 use Rattle.sheet.specs.Written.{headBytes, tierBytes, lashBytes}
-use Rattle.sheet.proofs.Limits.{TierLimits, LashLimits}
+use Rattle.sheet.specs.inner.Limits.{TierLimits, LashLimits}
 
 -- a field behind the bytes a and p
 module _ (a p b : List ℕ) (at : ℕ) (e : length a ≡ at) where
@@ -56,7 +56,7 @@ module _ (a b : List ℕ) (at : ℕ) (e : length a ≡ at) where
         two-back a p10 b at e (t .aVmin) (omega arith),
       )
 
-  pub lash-back : (l : Lash) → LashLimits l → lashOf (a ++ (lashBytes l ++ b)) at ≡ l
+  pub lash-back : (l : Lash) → LashLimits 10 l → lashOf (a ++ (lashBytes l ++ b)) at ≡ l
   unfolding lashOf
   lash-back l h =
       let p1 = l .tier ∷ [] in
@@ -111,7 +111,7 @@ lashEntry =
       sized = λ l. refl;
       read = lashOf;
       blank = blankLash;
-      Limits = LashLimits;
+      Limits = LashLimits 10;
       back = lash-back;
     }
 

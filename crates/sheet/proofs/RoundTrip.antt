@@ -11,15 +11,18 @@ use lib.Seq.{getD-take}
 use Rattle.sheet.specs.declared.Lash.{Lash}
 use Rattle.sheet.specs.declared.Sheet.{Sheet}
 use Rattle.sheet.specs.declared.Reading.the-variants.{Taken}
-use Rattle.sheet.specs.Layout.{headOf, tierCount, tierPlace, lashPlace, doorPlace, closedPlace, sparePlace, blankTier, blankLash, tiersIn, lashesIn, sheetOf}
+use Rattle.sheet.specs.Layout.{headOf, tierCount, tierPlace, lashPlace, doorPlace, closedPlace, sparePlace, blankTier, blankLash}
+use Rattle.sheet.specs.Layout.{tiersIn, lashesIn, sheetOf}
 use Rattle.arith.specs.Bytes.{byteAt}
 use Rattle.arith.specs.Lists.{below, padded}
-use Rattle.sheet.specs.Refusals.{notLater, first, headRows, tierRows, tierCountRows, tiersRows, lashCountRows, lashRows, endRows, doorRows, closedRows, endsRows, sheetRows, row2, decoded}
+use Rattle.sheet.specs.Refusals.{notLater, first, headRows, tierRows, tierCountRows, tiersRows, lashCountRows, lashRows, endRows}
+use Rattle.sheet.specs.Refusals.{doorRows, closedRows, endsRows, sheetRows, row2, decoded}
 use Rattle.sheet.specs.Fits.{EndFits, Fits, Padded}
 use Rattle.sheet.specs.Written.{headBytes, tierBytes, lashBytes, counted, written}
+use Rattle.sheet.specs.Theorems.{EachWritten}
 use Rattle.arith.proofs.Arrays.{entries-are, full}
 use Rattle.sheet.proofs.Clear.{Clear, clear-taken, clear-join, clear-all}
-use Rattle.sheet.proofs.Limits.{tier-limits, lash-limits, breaking-limits}
+use Rattle.sheet.proofs.Limits.{tier-filled, lash-limits, lash-wider, breaking-limits}
 use Rattle.sheet.proofs.ReadBack.{first-back, head-back, Entry, tierEntry, lashEntry, entries-length, entry-back}
 
 -- a count at `at`, and behind it entries that read as the list's
@@ -151,7 +154,7 @@ module _ (t : Sheet) (f : Fits t) (p : Padded t) where
   tiers-held : Held tierEntry s 8 (t .tiers) n
   unfolding written
   tiers-held =
-      held-there tierEntry (t .tiers) n tiers-full (λ k q. tier-limits _ (f .tiers k q)) head (door ++ closed) 8 refl
+      held-there tierEntry (t .tiers) n tiers-full (λ k q. tier-filled _ (f .tiers k q) .limits) head (door ++ closed) 8 refl
 
   end-held :
       (lashes : List Lash) (c : ℕ) →
@@ -160,7 +163,7 @@ module _ (t : Sheet) (f : Fits t) (p : Padded t) where
       (a b : List ℕ) (at : ℕ) →
       length a ≡ at →
       Held lashEntry (a ++ (counted lashBytes c lashes ++ b)) at lashes c
-  end-held lashes c g some = held-there lashEntry lashes c some (λ k q. lash-limits _ (g .fits k q))
+  end-held lashes c g some = held-there lashEntry lashes c some (λ k q. lash-wider (f .few) (lash-limits n _ (g .placed k q) (g .fits k q)))
 
   door-held : Held lashEntry s doorAt (t .door) (t .ndoor)
   door-held =
@@ -266,6 +269,6 @@ module _ (t : Sheet) (f : Fits t) (p : Padded t) where
       closed-count : byteAt s (closedPlace s) ≡ t .nclosed
       closed-count = rw closed-place (closed-held .count)
 
-pub round-trip : (t : Sheet) → Fits t → Padded t → decoded (written t) ≡ record { reading = Taken; sheet = t }
+pub round-trip : EachWritten
 unfolding decoded
 round-trip t f p = rw (taken t f p, sheet-back t f p)

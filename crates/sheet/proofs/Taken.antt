@@ -11,14 +11,18 @@ use lib.Seq.{take-at}
 use Rattle.sheet.specs.declared.Reading.{Reading}
 use Rattle.sheet.specs.declared.Reading.the-variants.{Taken, Refused}
 use Rattle.sheet.specs.declared.Decoded.{Decoded}
-use Rattle.sheet.specs.Layout.{headOf, tierCount, tierIn, lashIn, doorPlace, closedPlace, sparePlace, breakingFits, blankTier, blankLash, tiersIn, lashesIn, sheetOf}
+use Rattle.sheet.specs.Layout.{headOf, tierCount, tierIn, lashIn, doorPlace, closedPlace, sparePlace, breakingFits, blankTier}
+use Rattle.sheet.specs.Layout.{blankLash, tiersIn, lashesIn, sheetOf}
 use Rattle.arith.specs.Bytes.{byteAt}
 use Rattle.arith.specs.Lists.{below, padded}
 use Rattle.sheet.specs.Refusals.{notLater, first, endRows, sheetRows, unlessRefused, decoded}
 use Rattle.sheet.specs.Fits.{EndFits, Fits, Padded}
+use Rattle.sheet.specs.Theorems.{TakenWithinLimits}
 use Rattle.arith.proofs.Arrays.{length-entries, held}
 use Rattle.sheet.proofs.Bools.{or-false}
-use Rattle.sheet.proofs.Clear.{Clear, Parts, parts, not-taken, tier-clear, some-tier, few-tiers, lash-clear, few-lashes, lashes-there}
+use Rattle.sheet.proofs.Clear.{Clear, Parts, parts, not-taken, tier-clear, some-tier, few-tiers, lash-clear, few-lashes}
+use Rattle.sheet.proofs.Clear.{lashes-there}
+use Rattle.sheet.proofs.Refusal.{decoded-sheet}
 
 module _ (n : ℕ) (s : List ℕ) (at : ℕ) (h : Clear (endRows n s at)) where
   lash-held : (k : ℕ) → k < byteAt s at → getD (lashesIn s at (byteAt s at)) k blankLash ≡ lashIn s at k
@@ -79,7 +83,8 @@ sheet-padded s =
         {A : Type 0} (f : ℕ → A) (b : A) (size n : ℕ) →
         padded size b (map f (below n)) ≡ padded size b (take n (padded size b (map f (below n))))
     entries {A} f b size n =
-        ap {B = List A} (padded size b) (sym (take-at (map f (below n)) (replicate (size - length (map f (below n))) b) n (length-entries f b n)))
+        ap {B = List A} (padded size b)
+        (sym (take-at (map f (below n)) (replicate (size - length (map f (below n))) b) n (length-entries f b n)))
 
 -- a taken sheet ends with its last entry, and has 23 to 451 bytes
 module _ (s : List ℕ) (e : first (sheetRows s) ≡ Taken) where
@@ -109,3 +114,6 @@ decoded-fits s d e = rw e (go (first (sheetRows s)) refl)
         Fits (unlessRefused r (sheetOf s) .sheet)
     go Taken q h = taken-fits s q
     go (Refused n p) q h = not-taken n p h
+
+pub taken-within-limits : TakenWithinLimits
+taken-within-limits s e = (decoded-fits s (decoded s) refl e, rw (decoded-sheet s e) (sheet-padded s))

@@ -10,7 +10,9 @@ use Rattle.sheet.specs.declared.Sheet.{Sheet}
 use Rattle.sheet.specs.Layout.{blankTier, blankLash}
 use Rattle.sheet.specs.Fits.{EndFits, Fits, lashAt}
 use Rattle.sheet.specs.Written.{headBytes, tierBytes, lashBytes, counted, written}
-use Rattle.sheet.proofs.Limits.{Box, TierLimits, tier-limits, LashLimits, lash-limits, lash-placed}
+use Rattle.sheet.specs.Theorems.{WrittenInBytes}
+use Rattle.sheet.specs.inner.Limits.{Box, TierFilled, LashLimits}
+use Rattle.sheet.proofs.Limits.{tier-filled, lash-limits}
 
 abbrev Bytes : List ℕ → Type 0
 Bytes [] = Unit {0}
@@ -35,26 +37,23 @@ each bytes d [] (suc n) h = tt
 each bytes d (x ∷ l) (suc n) h =
     join (bytes x) (flatMap bytes (take n l)) (h 0 (omega arith)) (each bytes d l n (λ k q. h (suc k) (omega (arith, q))))
 
-tier-bytes : (t : Tier) → TierLimits t → Bytes (tierBytes t)
+tier-bytes : (t : Tier) → TierFilled t → Bytes (tierBytes t)
 tier-bytes t l = (size (l .box), (omega arith, omega (arith, l)))
   where
     size : Box (t .size) (t .height) → t .size < 256
     size (inl e) = omega arith
     size (inr e) = omega arith
 
-lash-bytes : (l : Lash) → LashLimits l → l .tier < 256 → Bytes (lashBytes l)
-lash-bytes l h t = omega arith
+lash-bytes : {n : ℕ} (l : Lash) → n ≤ 10 → LashLimits n l → Bytes (lashBytes l)
+lash-bytes l m h = omega arith
 
 end-bytes : (n : ℕ) (lashes : List Lash) (c : ℕ) → n ≤ 10 → EndFits n lashes c → Bytes (counted lashBytes c lashes)
 end-bytes n lashes c m f = (omega (arith, f .few), each lashBytes blankLash lashes c lash)
   where
     lash : (k : ℕ) → k < c → Bytes (lashBytes (lashAt lashes k))
-    lash k q =
-        let h = lash-limits (lashAt lashes k) (f .fits k q) in
-        let p = lash-placed n (lashAt lashes k) (f .placed k q) (h .hook) in
-        lash-bytes (lashAt lashes k) h (omega arith)
+    lash k q = lash-bytes (lashAt lashes k) m (lash-limits n (lashAt lashes k) (f .placed k q) (f .fits k q))
 
-pub written-bytes : (t : Sheet) → Fits t → (i : ℕ) → getD (written t) i 0 < 256
+pub written-bytes : WrittenInBytes
 unfolding written
 written-bytes t f =
     let tb = counted tierBytes (t .ntiers) (t .tiers) in
@@ -72,5 +71,5 @@ written-bytes t f =
     tiers : Bytes (counted tierBytes (t .ntiers) (t .tiers))
     tiers = (
       omega (arith, f .few),
-      each tierBytes blankTier (t .tiers) (t .ntiers) (λ k q. tier-bytes _ (tier-limits _ (f .tiers k q))),
+      each tierBytes blankTier (t .tiers) (t .ntiers) (λ k q. tier-bytes _ (tier-filled _ (f .tiers k q))),
     )

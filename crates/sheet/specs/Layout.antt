@@ -112,6 +112,10 @@ tierFits t =
     && upTo 1000 (t .aVmin)
     && upTo (t .aVmax) (t .aVmin)
 
+-- wind: 0 sheltered, 1 exposed
+abbrev pub exposed : Tier → Bool
+exposed t = t .wind is 1
+
 -- breaking loads, of the lock and of a lash: 1 to 2,000,000
 unfoldable pub breakingFits : ℕ → Bool
 breakingFits x = within 1 2000000 x

@@ -1,8 +1,9 @@
-// A stack sheet: what it holds, or why it is turned back; `decoder` reads one from its bytes. Entries of the arrays are counted
+// A stack sheet: what it holds, or why it is turned back; `sheet_decode` reads one from its bytes. Entries of the arrays are counted
 // from 0, bottom tier first.
 
 ghost use mathlib.Core.Path.{_≡_};
 ghost use Prim.Native.Nat.{_<_, _≤_};
+ghost use Rattle.sheet.specs.Layout.{exposed};
 ghost use Rattle.sheet.specs.Lashings.{lashingOf};
 ghost use Rattle.sheet.specs.Routes.{routePercent};
 
@@ -54,6 +55,13 @@ pub struct Sheet {
     pub ndoor: usize,
     pub closed: [Lash; 8],
     pub nclosed: usize,
+}
+
+// Whether a tier is exposed to the wind.
+pub fn exposed(t: Tier) -> bool
+    ensures { λ r. ⌜ r ≡ exposed t ⌝ }
+{
+    t.wind == 1
 }
 
 // What comes of reading: the sheet is taken, or refused with a number of the table and its second number.

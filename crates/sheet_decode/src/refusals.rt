@@ -1,22 +1,23 @@
-// The tests of a sheet's items: each answers by the first row of document 01's table that holds for its item.
+// Tests a sheet's items in the order of reading, and names the first row of document 01's table that holds.
 
 ghost use mathlib.Core.Path.{_≡_};
 ghost use mathlib.Core.List.{flatMap};
 ghost use Prim.Native.Nat.{_+_, _*_, _<_, _≤_};
 ghost use Rattle.sheet.specs.Layout.{tierFits, lashFits, breakingFits};
 ghost use Rattle.arith.specs.Lists.{below};
-ghost use Rattle.sheet.specs.Refusals.{offTiers, later, first, headRows, tierRows, tiersRows, lashRows, endRows, doorRows, closedRows, endsRows, sheetRows};
+ghost use Rattle.sheet.specs.Refusals.{offTiers, later, first, headRows, tierRows, tiersRows, lashRows, endRows, doorRows};
+ghost use Rattle.sheet.specs.Refusals.{closedRows, endsRows, sheetRows};
 use sheet::Lash;
 use sheet::Reading;
 use sheet::Tier;
 
-pub fn breaking_fits(load: u32) -> bool
+fn breaking_fits(load: u32) -> bool
     ensures { λ r. ⌜ r ≡ breakingFits load ⌝ }
 {
     (1 <= load) & (load <= 2000000)
 }
 
-pub fn tier_fits(t: Tier) -> bool
+fn tier_fits(t: Tier) -> bool
     ensures { λ r. ⌜ r ≡ tierFits t ⌝ }
 {
     (((t.size == 20) & ((t.height == 2438) | (t.height == 2591)))
@@ -29,7 +30,7 @@ pub fn tier_fits(t: Tier) -> bool
         & (t.aVmin <= t.aVmax)
 }
 
-pub fn lash_fits(l: Lash) -> bool
+fn lash_fits(l: Lash) -> bool
     ensures { λ r. ⌜ r ≡ lashFits l ⌝ }
 {
     (l.hook <= 1)
@@ -162,7 +163,7 @@ fn test_each_lash(n: u64, s: &[u8], at: usize, count: usize) -> Reading
 }
 
 // An end of a stack of n tiers: the count at `at`, then its lashes.
-pub fn test_end(n: u64, s: &[u8], at: usize) -> Reading
+fn test_end(n: u64, s: &[u8], at: usize) -> Reading
     requires { ⌜ at < 10000 ⌝ }
     ensures { λ r. ⌜ r ≡ first (endRows n (now (s .entry)) at) ⌝ }
 {

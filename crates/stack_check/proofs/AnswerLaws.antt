@@ -16,7 +16,7 @@ use Rattle.arith.specs.Lists.{padded}
 use Rattle.sheet.specs.Fits.{Fits, Padded}
 use Rattle.statics.specs.declared.EndFigures.{EndFigures}
 use Rattle.statics.specs.declared.Figures.{Figures}
-use Rattle.statics.specs.Ends.{End, door, closed, lashesOf}
+use Rattle.sheet.specs.Ends.{End, door, closed, lashesOf}
 use Rattle.answer.specs.Findings.{Finding, findings, verdict}
 use Rattle.answer.specs.Answers.{endBytes, answerBytes, findingBytes}
 use Rattle.answer_findings.specs.declared.Found.{Found}

@@ -13,11 +13,11 @@ use Rattle.sheet.specs.Fits.{Fits}
 use Rattle.sheet.proofs.Refusal.{decoded-sheet, sheet-refused, room-short, all-taken}
 use Rattle.sheet.proofs.Taken.{decoded-fits, sheet-padded}
 use Rattle.statics.specs.declared.Figures.{Figures}
-use Rattle.statics.specs.Ends.{End, door, closed}
+use Rattle.sheet.specs.Ends.{End, door, closed}
 use Rattle.statics.specs.Reported.{EndFigured}
-use Rattle.statics.specs.inner.Limits.{Facts}
+use Rattle.sheet.specs.inner.Limits.{SheetLimits}
 use Rattle.statics.proofs.OneSolution as S
-use Rattle.statics.proofs.Taken.{facts}
+use Rattle.sheet.proofs.SheetLimits.{sheet-limits}
 use Rattle.answer.specs.declared.Outcome.{Outcome}
 use Rattle.answer.specs.declared.Outcome.the-variants as O
 use Rattle.answer.specs.Findings.{figuresOf}
@@ -32,7 +32,7 @@ module _ (margin : ℕ) (s before after : List ℕ) (r : Outcome) where
   checked-as q e h = record { holds = subst (λ (q : Reading). CheckedAs q margin (sheetOf s) before after r) (sym e) h }
 
 -- one solution at each end of a sheet within its limits
-one-solution : {t : Sheet} → Facts t → (e : End) → OneSolution e t
+one-solution : {t : Sheet} → SheetLimits t → (e : End) → OneSolution e t
 one-solution {t} f e =
     record { shifts = S.solutionOf e t; exists = S.exists e f; unique = λ Ds Es s r. S.unique e f s r .same }
 
@@ -82,7 +82,7 @@ module _ (s before : List ℕ) (d : Decoded) (is : d ≡ decoded s) where
             answered =
                 record {
                   bytes = answerBytes (d .sheet) f;
-                  answer = record { figures = f; encoded = refl; reports = reports; one = one-solution (facts taken-fits) };
+                  answer = record { figures = f; encoded = refl; reports = reports; one = one-solution (limits taken-fits) };
                   taken = ap O.Taken size;
                   written = written;
                 }

@@ -24,27 +24,28 @@ use Rattle.statics.specs.declared.EndFigures.{EndFigures}
 use Rattle.statics.specs.declared.LoadRule.{LoadRule}
 use Rattle.statics.specs.Loads.{Rule, StandsFor}
 use Rattle.statics.specs.Lashes.{pull, athwartPart, verticalPart}
-use Rattle.statics.specs.Ends.{End, EndSolved, tiersOf, lashesOf, endTiers, endLashes}
+use Rattle.statics.specs.Ends.{EndSolved, endTiers, endLashes}
+use Rattle.sheet.specs.Ends.{End, tiersOf, lashesOf}
 use Rattle.statics.specs.Posts.{athwartOf, moment, weightAbove, verticals, inCompression, inTension, onLee, onWindward, lee, windward, compression, tension, greater, lower, atMost}
 use Rattle.statics.specs.Forces as F
 use Rattle.statics.specs.Forces.{lashForce}
 use Rattle.statics.specs.Reported.{reportedSize, EndReported, Fitting, EndFigured}
-use Rattle.statics.specs.inner.Limits.{TierFacts, Facts}
-use Rattle.statics.proofs.EndChain.{tier-facts, end-each, end-length, end-stiff}
+use Rattle.sheet.specs.inner.Limits.{TierLimits, SheetLimits}
+use Rattle.statics.proofs.EndChain.{tier-limits, end-each, end-length, end-stiff}
 use Rattle.statics.proofs.OneSolution.{solutionOf, exists, leeward}
 use Rattle.statics.proofs.LoadsGrow.{stands-proper}
 use Rattle.statics.proofs.Within.{UpTo, Within, up-none, up-more, within-up, within-less, within-neg, within-sum, within-more, within-same, within-over, within-choice, reported-below}
 use Rattle.statics.proofs.LoadBounds.{each-drop, weight-up, tier-up, turning-up}
 use Rattle.statics.proofs.LashBounds.{part-up, all-least, one-part, from-part, all-from, pull-part, vertical-part, verticals-part, arms-part, keeps-lee, keeps-windward}
 
-module _ {rule : Rule} {c : LoadRule} (stands : StandsFor c rule) (e : End) {t : Sheet} (f : Facts t) where
+module _ {rule : Rule} {c : LoadRule} (stands : StandsFor c rule) (e : End) {t : Sheet} (f : SheetLimits t) where
   few : length (tiersOf t) ≤ 10
   few = omega (arith, f .tiers, f .few)
 
   load-up : (i : ℕ) → UpTo 2440000 (S.tierAt (endTiers rule e t) i .Q)
   load-up i =
       up-more (omega (arith, few))
-      (tier-up rule c stands e (tiersOf t) (tier-facts f) i)
+      (tier-up rule c stands e (tiersOf t) (tier-limits f) i)
 
   module _ {Ds : List Frac} (s : EndSolved rule e t Ds) where
     lee-q : (i : ℕ) → natℚ 0 ≤ℚ mk (S.shift Ds i)
@@ -92,13 +93,13 @@ module _ {rule : Rule} {c : LoadRule} (stands : StandsFor c rule) (e : End) {t :
     unfolding moment
     moment-within i =
         within-less
-        (turning-up rule c stands (drop i (tiersOf t)) (each-drop (tiersOf t) (tier-facts f) i) (omega (arith, few, length-drop i (tiersOf t))))
-        (part-up parts-up (arms-part (t .ntiers) Ds lee-q (tiersOf t) (tier-facts f) few i (lashesOf e t) (end-each e f)))
+        (turning-up rule c stands (drop i (tiersOf t)) (each-drop (tiersOf t) (tier-limits f) i) (omega (arith, few, length-drop i (tiersOf t))))
+        (part-up parts-up (arms-part (t .ntiers) Ds lee-q (tiersOf t) (tier-limits f) few i (lashesOf e t) (end-each e f)))
 
     -- the two sums at a level, and the greater or lower of them
-    module _ (acceleration : Tier → ℕ) (limit : (u : Tier) → TierFacts u → acceleration u ≤ 3000) (counts : ℕ → Lash → Bool) (i : ℕ) where
+    module _ (acceleration : Tier → ℕ) (limit : (u : Tier) → TierLimits u → acceleration u ≤ 3000) (counts : ℕ → Lash → Bool) (i : ℕ) where
       weight-within : Within 2300000 (weightAbove acceleration (tiersOf t) i /q nat 2)
-      weight-within = within-over 2 (omega arith) (within-up (weight-up acceleration limit (tiersOf t) (tier-facts f) few i))
+      weight-within = within-over 2 (omega arith) (within-up (weight-up acceleration limit (tiersOf t) (tier-limits f) few i))
 
       turned-within : Within 31300000 (moment rule (tiersOf t) (lashesOf e t) Ds i /q nat 2259)
       turned-within = within-over 2259 (omega arith) (within-more (omega arith) (moment-within i))
@@ -158,7 +159,7 @@ module _ {rule : Rule} {c : LoadRule} (stands : StandsFor c rule) (e : End) {t :
         at x i (no h) = omega (arith, blank x i (omega arith))
 
 -- the figures of an end, from what they report at every solution: there is one
-pub figured : {rule : Rule} {c : LoadRule} (stands : StandsFor c rule) (e : End) {t : Sheet} (f : Facts t) {m : ℕ} {g : EndFigures} →
+pub figured : {rule : Rule} {c : LoadRule} (stands : StandsFor c rule) (e : End) {t : Sheet} (f : SheetLimits t) {m : ℕ} {g : EndFigures} →
     m ≤ 100 →
     ((Ds : List Frac) → EndSolved rule e t Ds → EndReported m rule e t Ds g) →
     ((x : F.Force) (i : ℕ) → F.entryCount x e t ≤ i → reportedSize x g i ≡ 0) →

@@ -18,28 +18,29 @@ use Rattle.sheet.specs.Routes.{routePercent}
 use Rattle.sheet.proofs.Routes.{percent-range}
 use Rattle.statics.specs.declared.LoadRule.{LoadRule}
 use Rattle.statics.specs.Loads.{Rule, classRule, StandsFor}
-use Rattle.statics.specs.Ends.{End, door, closed, springOf, tiersOf, lashesOf, chainTiers, chainLash, chainLashes, endTiers, endLashes}
+use Rattle.statics.specs.Ends.{springOf, chainTiers, chainLash, chainLashes, endTiers, endLashes}
+use Rattle.sheet.specs.Ends.{End, door, closed, tiersOf, lashesOf}
 use Rattle.statics.specs.inner.WholeNumbers.{levelLoad}
 use Rattle.statics.specs.inner.Computed.{classLoadRule}
-use Rattle.statics.specs.inner.Limits.{TierFacts, Facts}
+use Rattle.sheet.specs.inner.Limits.{TierLimits, SheetLimits}
 use Rattle.statics.proofs.LashStiffness.{stiffness-above}
 use Rattle.statics.proofs.EachLash.{Each, each-first, each-rest}
 use Rattle.statics.proofs.LevelLoads.{load-rounded}
 
 -- the route factor's percent is at most 100
-pub percent-most : {t : Sheet} → Facts t → routePercent (t .head .route) ≤ 100
+pub percent-most : {t : Sheet} → SheetLimits t → routePercent (t .head .route) ≤ 100
 percent-most {t} f = percent-range (t .head .route) (omega (arith, f .route)) .1
 
--- the facts of the tier over a level, also where there is none
-pub tier-facts : {t : Sheet} → Facts t → (i : ℕ) → TierFacts (getD (tiersOf t) i blankTier)
-tier-facts {t} f i = go (decLt i (t .ntiers))
+-- the limits of the tier over a level, also where there is none
+pub tier-limits : {t : Sheet} → SheetLimits t → (i : ℕ) → TierLimits (getD (tiersOf t) i blankTier)
+tier-limits {t} f i = go (decLt i (t .ntiers))
   where
-    none : TierFacts blankTier
+    none : TierLimits blankTier
     none = omega arith
 
-    go : Dec (i < t .ntiers) → TierFacts (getD (tiersOf t) i blankTier)
+    go : Dec (i < t .ntiers) → TierLimits (getD (tiersOf t) i blankTier)
     go (yes h) = f .each i h
-    go (no h) = subst TierFacts (sym (List·getD-eq-default (tiersOf t) blankTier (omega (arith, f .tiers)))) none
+    go (no h) = subst TierLimits (sym (List·getD-eq-default (tiersOf t) blankTier (omega (arith, f .tiers)))) none
 
 -- the chain's tiers and lashes, entry by entry
 module _ (rule : Rule) (e : End) where
@@ -79,12 +80,12 @@ spring-above : (e : End) (u : Tier) → nat 0 ⊏ nat (springOf e u)
 spring-above door u = record { cross = record { lt = tt } }
 spring-above closed u = record { cross = record { lt = tt } }
 
-pub end-each : (e : End) {t : Sheet} → Facts t → Each (t .ntiers) (lashesOf e t)
+pub end-each : (e : End) {t : Sheet} → SheetLimits t → Each (t .ntiers) (lashesOf e t)
 end-each e f = record { at = f .ends e .each }
 
 -- the exact chain of an end
 module _ (rule : Rule) (e : End) (t : Sheet) where
-  module _ (f : Facts t) where
+  module _ (f : SheetLimits t) where
     pub end-length : length (endTiers rule e t) ≡ t .ntiers
     end-length = chain-length rule e (tiersOf t) ∙ f .tiers
 
@@ -101,7 +102,7 @@ module _ (rule : Rule) (e : End) (t : Sheet) where
         }
 
 -- the class rule: 9 twentieths are 0.45, and the factor has ten times as many thousandths as the route has percents
-pub class-stands : {t : Sheet} → Facts t → StandsFor (classLoadRule t) (classRule t)
+pub class-stands : {t : Sheet} → SheetLimits t → StandsFor (classLoadRule t) (classRule t)
 unfolding recip
 class-stands {t} f =
     record {

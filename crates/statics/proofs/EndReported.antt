@@ -26,13 +26,14 @@ use Rattle.sheet.specs.declared.Sheet.{Sheet}
 use Rattle.statics.specs.declared.EndFigures.{EndFigures}
 use Rattle.statics.specs.Loads.{Rule}
 use Rattle.statics.specs.Lashes.{pull, athwartPart, verticalPart}
-use Rattle.statics.specs.Ends.{End, springOf, tiersOf, lashesOf, endTiers, endLashes, EndSolved}
+use Rattle.statics.specs.Ends.{springOf, endTiers, endLashes, EndSolved}
+use Rattle.sheet.specs.Ends.{End, tiersOf, lashesOf}
 use Rattle.statics.specs.Posts.{weightAbove, moment, verticals, onLee, onWindward, inCompression, inTension, lee, windward, compression, tension}
 use Rattle.statics.specs.Forces as F
 use Rattle.statics.specs.Reported.{Reported, reportedSize, EndReported}
 use Rattle.statics.specs.inner.WholeNumbers.{rackingPart, halfWeight, momentPart, upwards, leePart, windwardPart, leeFound, windwardFound, compressionFigure, tensionFigure, pullFigure, athwartFigure, verticalFigure, rackingFigure}
 use Rattle.statics.specs.inner.Computed.{springsOf, figuresAt}
-use Rattle.statics.specs.inner.Limits.{Facts}
+use Rattle.sheet.specs.inner.Limits.{SheetLimits}
 use Rattle.statics.proofs.Errors.{Off}
 use Rattle.statics.proofs.Arrays.{entry-at, padded-at}
 use Rattle.statics.proofs.EndChain.{end-each, end-spring}
@@ -92,7 +93,7 @@ unfolding _*ℚ_ recipℚ int
 force-bound = refl
 
 module _
-    (rule : Rule) (e : End) (t : Sheet) (d : List ℕ) (Ds : List Frac) (facts : Facts t) (solved : EndSolved rule e t Ds)
+    (rule : Rule) (e : End) (t : Sheet) (d : List ℕ) (Ds : List Frac) (limits : SheetLimits t) (solved : EndSolved rule e t Ds)
     (near : Close rule e t d Ds) where
   abbrev ts : List Tier
   ts = tiersOf t
@@ -113,7 +114,7 @@ module _
   momentFound i = momentPart k d (drop i ts) i
 
   each : Each (t .ntiers) ls
-  each = end-each e facts
+  each = end-each e limits
 
   shift-errors-small : shiftErrors d Ds ls ≤ℚ shiftErrorBound
   shift-errors-small =
@@ -122,10 +123,10 @@ module _
   racking-near : (i : ℕ) → i < t .ntiers → Off roundedRackingError (newtons (rackingPart (getD k i 0) d i)) (mk (R i))
   racking-near i h =
       let own = springOf e (getD ts i blankTier) in
-      let same : getD k i 0 ≡ own = entry-at (λ i. springOf e (getD ts i blankTier)) 0 10 i (omega (arith, facts .few)) in
+      let same : getD k i 0 ≡ own = entry-at (λ i. springOf e (getD ts i blankTier)) 0 10 i (omega (arith, limits .few)) in
       let K = S.tierAt (endTiers rule e t) i .K in
       let x = found d (suc i) -q found d i in
-      let spring = ap mk (end-spring rule e t facts i h) ∙ mk-int (pos own) in
+      let spring = ap mk (end-spring rule e t limits i h) ∙ mk-int (pos own) in
       let force = mk-mul K x ∙ ap₂ _*ℚ_ spring (mk-sub (found d (suc i)) (found d i)) in
       let error = mk-abs (K *q x -q R i) ∙ ap absℚ (mk-sub (K *q x) (R i) ∙ ap (λ y. y -ℚ mk (R i)) force) in
       rw same
@@ -135,10 +136,10 @@ module _
   -- level i
   module _ (i : ℕ) (h : i ≤ t .ntiers) where
     inside : (j : ℕ) → j < length (drop i ts) → i + j < t .ntiers
-    inside j l = omega (arith, facts .tiers, rw length-drop at l)
+    inside j l = omega (arith, limits .tiers, rw length-drop at l)
 
     few-above : length (drop i ts) ≤ 10
-    few-above = rw length-drop (omega (arith, facts .tiers, facts .few))
+    few-above = rw length-drop (omega (arith, limits .tiers, limits .few))
 
     turned : Off (natℚ (length (drop i ts)) *ℚ tierError) (newtons (momentFound i)) (mk (M i))
     turned =
@@ -146,7 +147,7 @@ module _
         (moment-off k d R (drop i ts) i low (λ j m e l. racking-near m (omega (arith, inside j l))))
       where
         low : (j : ℕ) → j < length (drop i ts) → getD (drop i ts) j blankTier .height ≤ 2896
-        low j l = rw (getD-drop i ts j blankTier) (facts .each (i + j) (inside j l) .height)
+        low j l = rw (getD-drop i ts j blankTier) (limits .each (i + j) (inside j l) .height)
 
     -- its two sums, with either acceleration and the lashes that count
     module _ (acceleration : Tier → ℕ) (counts : ℕ → Lash → Bool) where
@@ -161,7 +162,7 @@ module _
           lee-off (length (drop i ts)) half (upwards leePart (counts i) d ls) (momentFound i)
           (weightAbove acceleration ts i) (M i) (verticals onLee (counts i) ls Ds)
           few-above (weight-off acceleration ts i) turned
-          (verticals-off d Ds (near .far) lee-post (counts i) ls each (facts .ends e .few) shift-errors-small)
+          (verticals-off d Ds (near .far) lee-post (counts i) ls each (limits .ends e .few) shift-errors-small)
 
       windward-near :
           Off postError
@@ -171,7 +172,7 @@ module _
           windward-off (length (drop i ts)) half (upwards windwardPart (counts i) d ls) (momentFound i)
           (weightAbove acceleration ts i) (M i) (verticals onWindward (counts i) ls Ds)
           few-above (weight-off acceleration ts i) turned
-          (verticals-off d Ds (near .far) windward-post (counts i) ls each (facts .ends e .few) shift-errors-small)
+          (verticals-off d Ds (near .far) windward-post (counts i) ls each (limits .ends e .few) shift-errors-small)
 
     compressed : Reported 9 (compression rule ts ls Ds i) (compressionFigure k ts ls d i)
     unfolding compression compressionFigure

@@ -13,11 +13,11 @@ use Rattle.sheet.specs.declared.Lash.{Lash}
 use Rattle.sheet.specs.declared.Sheet.{Sheet}
 use Rattle.statics.specs.declared.LoadRule.{LoadRule}
 use Rattle.statics.specs.Loads.{Rule, StandsFor}
-use Rattle.statics.specs.Ends.{End, tiersOf, lashesOf}
+use Rattle.sheet.specs.Ends.{End, tiersOf, lashesOf}
 use Rattle.statics.specs.Forces as F
 use Rattle.statics.specs.Reported.{reportedSize, EndFigured}
 use Rattle.statics.specs.inner.Computed.{springsOf, stiffnessesOf, loadsOf, figuresAt, shiftsOf, endFiguresBy}
-use Rattle.statics.specs.inner.Limits.{Facts}
+use Rattle.sheet.specs.inner.Limits.{SheetLimits}
 use Rattle.statics.proofs.Arrays.{padded-behind}
 use Rattle.statics.proofs.Inputs.{solvable, near}
 use Rattle.statics.proofs.EndReported.{promised-close, reported}
@@ -31,7 +31,7 @@ racking-error : rackingError ⊑ nat 5 /q nat 100
 unfolding recip
 racking-error = record { cross = record { le = tt } }
 
-module _ {rule : Rule} {c : LoadRule} (stands : StandsFor c rule) (e : End) {t : Sheet} (f : Facts t) where
+module _ {rule : Rule} {c : LoadRule} (stands : StandsFor c rule) (e : End) {t : Sheet} (f : SheetLimits t) where
   abbrev ts : List Tier
   ts = tiersOf t
 

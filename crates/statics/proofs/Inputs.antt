@@ -13,14 +13,15 @@ use Rattle.sheet.specs.declared.Tier.{Tier}
 use Rattle.sheet.specs.declared.Sheet.{Sheet}
 use Rattle.statics.specs.declared.LoadRule.{LoadRule}
 use Rattle.statics.specs.Loads.{Rule, StandsFor}
-use Rattle.statics.specs.Ends.{End, door, closed, springOf, tiersOf, lashesOf, endTiers, endLashes}
+use Rattle.statics.specs.Ends.{springOf, endTiers, endLashes}
+use Rattle.sheet.specs.Ends.{End, door, closed, tiersOf, lashesOf}
 use Rattle.statics.specs.inner.WholeNumbers.{levelStiffness, levelLoad}
 use Rattle.statics.specs.inner.Computed.{springsOf, stiffnessesOf, loadsOf}
-use Rattle.statics.specs.inner.Limits.{Facts}
+use Rattle.sheet.specs.inner.Limits.{SheetLimits}
 use Rattle.statics.proofs.Arrays.{entry-at, padded-at}
 use Rattle.statics.proofs.LevelStiffness.{level-most, level-rounded}
 use Rattle.statics.proofs.LevelLoads.{load-most}
-use Rattle.statics.proofs.EndChain.{tier-facts, end-each, end-length, end-spring, end-stiff, end-loaded}
+use Rattle.statics.proofs.EndChain.{tier-limits, end-each, end-length, end-spring, end-stiff, end-loaded}
 
 pub spring-least : (e : End) (u : Tier) → 3730 ≤ springOf e u
 spring-least door u = omega arith
@@ -30,7 +31,7 @@ pub spring-most : (e : End) (u : Tier) → springOf e u ≤ 15690
 spring-most door u = omega arith
 spring-most closed u = omega arith
 
-module _ {rule : Rule} {c : LoadRule} (stands : StandsFor c rule) (e : End) {t : Sheet} (f : Facts t) where
+module _ {rule : Rule} {c : LoadRule} (stands : StandsFor c rule) (e : End) {t : Sheet} (f : SheetLimits t) where
   abbrev tier : ℕ → Tier
   tier i = getD (tiersOf t) i blankTier
 
@@ -66,7 +67,7 @@ module _ {rule : Rule} {c : LoadRule} (stands : StandsFor c rule) (e : End) {t :
   loaded-most : (i : ℕ) → i < t .ntiers → getD ω i 0 ≤ mostLoaded
   loaded-most i l =
       rw (loaded-at i l)
-      (load-most (c .share) (c .factor) (tier i) (tier (suc i)) (stands .share-most) (stands .factor-most) (tier-facts f i) (tier-facts f (suc i)))
+      (load-most (c .share) (c .factor) (tier i) (tier (suc i)) (stands .share-most) (stands .factor-most) (tier-limits f i) (tier-limits f (suc i)))
 
   pub solvable : Solvable (t .ntiers) k κ ω
   solvable =

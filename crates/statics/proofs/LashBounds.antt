@@ -26,7 +26,7 @@ use Rattle.sheet.specs.Lashings.{lashingOf, levelOf}
 use Rattle.statics.specs.Lashes.{lashLength, pull, athwartPart, verticalPart}
 use Rattle.statics.specs.Ends.{chainLash, chainLashes}
 use Rattle.statics.specs.Posts.{levelHeight, athwartOf, onLee, onWindward, verticals}
-use Rattle.statics.specs.inner.Limits.{LashFacts}
+use Rattle.sheet.specs.inner.Limits.{LashLimits}
 use Rattle.statics.proofs.LashLength.{length-above, length-ratio, vertical-ratio}
 use Rattle.statics.proofs.LashForces.{stiffness, athwart-is, pull-is, vertical-is}
 use Rattle.statics.proofs.Scales.{share-most}
@@ -80,7 +80,7 @@ module _ (n : ℕ) (Ds : List Frac) (lee : (i : ℕ) → natℚ 0 ≤ℚ mk (S.s
   abbrev at : Lash → Frac
   at l = S.shift Ds (levelOf l)
 
-  part-least : (l : Lash) → LashFacts n l → natℚ 0 ≤ℚ mk (athwartOf Ds l)
+  part-least : (l : Lash) → LashLimits n l → natℚ 0 ≤ℚ mk (athwartOf Ds l)
   part-least l f = rw (athwart-is l (at l)) (nn-times (stiffness l) (mk (at l)) (rw (mk-int (pos 0)) at (<→≤ (of-⊏ (nat 0) (athwartPart l (nat 1)) (stiffness-above l f)))) (lee (levelOf l)))
 
   -- all athwart parts
@@ -89,7 +89,7 @@ module _ (n : ℕ) (Ds : List Frac) (lee : (i : ℕ) → natℚ 0 ≤ℚ mk (S.s
 
   -- parts of each lash's athwart part add up to a part of all
   pub sum-part : {k : ℕ} (g : Lash → Frac) →
-      ((l : Lash) → LashFacts n l → PartOf k (athwartOf Ds l) (g l)) →
+      ((l : Lash) → LashLimits n l → PartOf k (athwartOf Ds l) (g l)) →
       (ls : List Lash) →
       Each n ls →
       PartOf k (allParts ls) (sumq g ls)
@@ -156,7 +156,7 @@ module _ (n : ℕ) (Ds : List Frac) (lee : (i : ℕ) → natℚ 0 ≤ℚ mk (S.s
 
   -- tension and vertical part of a lash: its athwart part times N / LY
   turned-part : (k : ℕ) (l : Lash) →
-      LashFacts n l →
+      LashLimits n l →
       (N : ℕ) →
       N ≤ k * l .ly →
       (x : Frac) →
@@ -183,10 +183,10 @@ module _ (n : ℕ) (Ds : List Frac) (lee : (i : ℕ) → natℚ 0 ≤ℚ mk (S.s
       go : (A q k : ℚ) → natℚ 0 ≤ℚ A → q ≤ℚ k → A *ℚ q ≤ℚ k *ℚ A
       go = ∀₃ ℚR _ λ ρ. simp qq λ h l. by-cert (to h ⊠ to l) tt
 
-  pub pull-part : (l : Lash) → LashFacts n l → PartOf 42 (athwartOf Ds l) (pull l (at l))
+  pub pull-part : (l : Lash) → LashLimits n l → PartOf 42 (athwartOf Ds l) (pull l (at l))
   pull-part l f = turned-part 42 l f (lashLength l) (length-ratio f) (pull l (at l)) (pull-is l (length-above f) (omega (arith, f .ly)) (at l))
 
-  pub vertical-part : (l : Lash) → LashFacts n l → PartOf 40 (athwartOf Ds l) (verticalPart l (at l))
+  pub vertical-part : (l : Lash) → LashLimits n l → PartOf 40 (athwartOf Ds l) (verticalPart l (at l))
   vertical-part l f = turned-part 40 l f (l .lz) (vertical-ratio f) (verticalPart l (at l)) (vertical-is l (length-above f) (omega (arith, f .ly)) (at l))
 
   -- the vertical parts on one post of the lashes that count; `post` keeps a part or drops it

@@ -22,7 +22,7 @@ use Rattle.statics.specs.Lashes.{lashLength, pull, athwartPart, vertical
 use Rattle.statics.specs.inner.WholeNumbers as F
 use Rattle.statics.specs.inner.WholeNumbers.{stiffnessOf, upward, lashPad, athwartFigure, pullFigure, verticalFigure}
 use Rattle.statics.specs.Reported.{Reported}
-use Rattle.statics.specs.inner.Limits.{LashFacts}
+use Rattle.sheet.specs.inner.Limits.{LashLimits}
 use Rattle.statics.proofs.LashLength.{length-above, length-ratio, vertical-ratio}
 use Rattle.statics.proofs.Errors.{Off, off-more, off-share}
 use Rattle.statics.proofs.Scales.{found-times, newtons, newtons-times, newtons-nn, share-nn, share-most, share-off}
@@ -97,7 +97,7 @@ module _ (d : List ℕ) (l : Lash) (D : Frac) (long : 0 < lashLength l) where
           (to f ⊞ to h ⊠ to n0 ⊞ to n1 ⊞ num (2 ^ 50) ⊠ (to k0 ⊠ to l) ⊞ times (⊖ (kp (2 ^ 22) ⊗ v 0)) e ⊞ times (kp (2 ^ 32)) i ⊞ times (kp (2 ^ 32)) j)
           tt
 
-module _ {n : ℕ} (d : List ℕ) (l : Lash) (D : Frac) (f : LashFacts n l) (far : getD d (levelOf l) 0 ≤ 2 ^ 40) where
+module _ {n : ℕ} (d : List ℕ) (l : Lash) (D : Frac) (f : LashLimits n l) (far : getD d (levelOf l) 0 ≤ 2 ^ 40) where
   wide : 0 < l .ly
   wide = omega (arith, f .ly)
 

@@ -8,7 +8,7 @@ use lib.Dec.{T, leb, leb→le, nleb→lt}
 use Rattle.arith.specs.Roots.{Least}
 use Rattle.sheet.specs.declared.Lash.{Lash}
 use Rattle.statics.specs.Lashes.{leastFrom, lashLength}
-use Rattle.statics.specs.inner.Limits.{LashFacts}
+use Rattle.sheet.specs.inner.Limits.{LashLimits}
 
 -- no number below k is a root of s, and k + more is
 least-from : (s k more : ℕ) → ((j : ℕ) → s ≤ j * j → k ≤ j) → s ≤ (k + more) * (k + more) → Least s (leastFrom s k more)
@@ -50,7 +50,7 @@ pub length-is : (l : Lash) (r : ℕ) → Least (squares l) r → r ≡ lashLengt
 length-is l r h =
     omega (arith, h .least (lashLength l) (length-least l .enough), length-least l .least r (h .enough))
 
-module _ {n : ℕ} {l : Lash} (f : LashFacts n l) where
+module _ {n : ℕ} {l : Lash} (f : LashLimits n l) where
   pub length-above : 0 < lashLength l
   length-above = go (lashLength l) (length-least l .enough) (f .ly)
     where

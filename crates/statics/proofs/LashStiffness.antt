@@ -17,11 +17,11 @@ use Rattle.springs.proofs.Chain.{natℚ}
 use Rattle.sheet.specs.declared.Lash.{Lash}
 use Rattle.statics.specs.Lashes.{lashLength, athwartPart}
 use Rattle.statics.specs.inner.WholeNumbers.{stiffnessOf}
-use Rattle.statics.specs.inner.Limits.{LashFacts}
+use Rattle.sheet.specs.inner.Limits.{LashLimits}
 use Rattle.statics.proofs.LashLength.{length-least, length-above, length-ratio}
 use Rattle.statics.proofs.LashForces.{stiffness, stiffness-low}
 
-module _ {n : ℕ} (l : Lash) (f : LashFacts n l) where
+module _ {n : ℕ} (l : Lash) (f : LashLimits n l) where
   -- L³ ≤ 42³ LY³
   cube-most : lashLength l * lashLength l * lashLength l ≤ l .modulus * l .area * (l .ly * l .ly) * 2 ^ 22
   cube-most =

@@ -8,7 +8,7 @@ use native.Mathlib.Omega.{arith}
 use lib.Dec.{eqb}
 use lib.ListN.{getD}
 use lib.IntN.{pos}
-use Rattle.sheet.specs.Layout.{blankTier}
+use Rattle.sheet.specs.Layout.{blankTier, exposed}
 use Rattle.arith.specs.Fractions.{Frac, nat, _+q_, _*q_, recip, _≈_, sumq}
 use Rattle.arith.proofs.Polynomials.{v, kp, kn, _⊖_, _⊗_, ⊖_}
 use Rattle.arith.proofs.Rings.{∀₂, ∀₄, ∀₅, ∀₁₂, by-ring, by-eqs, times, mul-eq, part, both, _⊹_}
@@ -22,9 +22,10 @@ use Rattle.springs.proofs.Inputs.{rounded-quotient, rounded-same}
 use Rattle.sheet.specs.declared.Tier.{Tier}
 use Rattle.statics.specs.declared.LoadRule.{LoadRule}
 use Rattle.statics.specs.Loads.{half, thousandths, weight, transverse, boxLength, wind, load, Rule, StandsFor}
-use Rattle.statics.specs.Ends.{End, chainTiers}
+use Rattle.statics.specs.Ends.{chainTiers}
+use Rattle.sheet.specs.Ends.{End}
 use Rattle.statics.specs.inner.WholeNumbers.{transverseUnits, windUnits, levelLoad}
-use Rattle.statics.specs.inner.Limits.{TierFacts}
+use Rattle.sheet.specs.inner.Limits.{TierLimits}
 use Rattle.statics.proofs.WholeNumbers.{nat-times, nat-plus, times-q, quotient-is}
 
 -- F of a tier is the factor × 981 × mass × A_T / 200,000, and P 27 × length × height / 50,000
@@ -34,7 +35,7 @@ transverse-frac t a = record { cross = ap pos (omega arith) }
 
 wind-frac : (t : Tier) → nat 50000 *q wind t ≈ nat (windUnits t)
 unfolding wind windUnits recip
-wind-frac t = go (eqb (t .wind) 1)
+wind-frac t = go (exposed t)
   where
     go : (c : Bool) → nat 50000 *q given c (half *q nat 1080 *q thousandths (boxLength t) *q thousandths (t .height)) ≈ nat (cond c (27 * boxLength t * t .height) 0)
     go true = record { cross = ap pos (omega arith) }
@@ -204,20 +205,20 @@ module _ (rule : Rule) (c : LoadRule) (stands : StandsFor c rule) where
       rounded-same (2 ^ 28) 1 (levelLoad s f t u) _ Q (quotient-is 4000000000 _ Q (omega arith) (exact ∙ ap natℚ (omega arith))) (rounded-quotient _ (2 ^ 28) 4000000000 (omega arith))
 
 -- pushes and gusts of a tier within its limits
-pub transverse-most : {t : Tier} → TierFacts t → transverseUnits t ≤ 45720000
+pub transverse-most : {t : Tier} → TierLimits t → transverseUnits t ≤ 45720000
 unfolding transverseUnits
 transverse-most tf = mul-le-mul (tf .mass) (tf .aT)
 
-pub wind-most : {t : Tier} → TierFacts t → windUnits t ≤ 953316864
+pub wind-most : {t : Tier} → TierLimits t → windUnits t ≤ 953316864
 unfolding windUnits boxLength
-wind-most {t} tf = exposed (eqb (t .wind) 1) (eqb (t .size) 20) (t .height) (tf .height)
+wind-most {t} tf = wind-within (exposed t) (eqb (t .size) 20) (t .height) (tf .height)
   where
-    exposed : (c d : Bool) (h : ℕ) → h ≤ 2896 → cond c (27 * cond d 6058 12192 * h) 0 ≤ 953316864
-    exposed false d h l = omega arith
-    exposed true false h l = omega arith
-    exposed true true h l = omega arith
+    wind-within : (c d : Bool) (h : ℕ) → h ≤ 2896 → cond c (27 * cond d 6058 12192 * h) 0 ≤ 953316864
+    wind-within false d h l = omega arith
+    wind-within true false h l = omega arith
+    wind-within true true h l = omega arith
 
-pub load-most : (s f : ℕ) (t u : Tier) → s ≤ 20 → f ≤ 1000 → TierFacts t → TierFacts u → levelLoad s f t u ≤ 2 ^ 46
+pub load-most : (s f : ℕ) (t u : Tier) → s ≤ 20 → f ≤ 1000 → TierLimits t → TierLimits u → levelLoad s f t u ≤ 2 ^ 46
 unfolding levelLoad
 load-most s f t u s20 f1 tf uf =
     let shares : s * transverseUnits t + (20 - s) * transverseUnits u ≤ 914400000 = omega (arith, mul-le-mul-left s (transverse-most tf), mul-le-mul-left (20 - s) (transverse-most uf)) in

@@ -1,5 +1,3 @@
--- What the proofs use of a taken sheet, and that one has it.
-pub mod Taken
 -- Lashes: length, stiffness, forces.
 pub mod EachLash
 pub mod LashLength

@@ -19,20 +19,21 @@ use Rattle.springs.proofs.Chain.{natℚ}
 use Rattle.sheet.specs.declared.Tier.{Tier}
 use Rattle.statics.specs.declared.LoadRule.{LoadRule}
 use Rattle.statics.specs.Loads.{half, transverse, verticalForce, wind, load, Rule, StandsFor}
-use Rattle.statics.specs.Ends.{End, chainTiers}
+use Rattle.statics.specs.Ends.{chainTiers}
+use Rattle.sheet.specs.Ends.{End}
 use Rattle.statics.specs.Posts.{levelHeight, turning, weightAbove}
 use Rattle.statics.specs.inner.WholeNumbers.{transverseUnits, windUnits}
-use Rattle.statics.specs.inner.Limits.{TierFacts}
+use Rattle.sheet.specs.inner.Limits.{TierLimits}
 use Rattle.statics.proofs.WholeNumbers.{nat-plus, times-q}
 use Rattle.statics.proofs.LevelLoads.{above, above-none, above-mk, half-times, half-weight-times, wind-times, transverse-number, transverse-most, wind-most}
 use Rattle.statics.proofs.Within.{UpTo, up-none, up-more, up-sum, up-quotient, up-share}
 
--- the facts of each tier of a list, and of none
+-- the limits of each tier of a list, and of none
 abbrev pub EachTier : List Tier → Type 0
-EachTier ts = (i : ℕ) → TierFacts (getD ts i blankTier)
+EachTier ts = (i : ℕ) → TierLimits (getD ts i blankTier)
 
 pub each-drop : (ts : List Tier) → EachTier ts → (i : ℕ) → EachTier (drop i ts)
-each-drop ts f i j = subst TierFacts (sym (getD-drop i ts j blankTier)) (f (i + j))
+each-drop ts f i j = subst TierLimits (sym (getD-drop i ts j blankTier)) (f (i + j))
 
 -- the height of a level: no more than 2,896 mm a tier, and growing with the level
 pub height-most : (ts : List Tier) → EachTier ts → (i : ℕ) → levelHeight ts i ≤ 2896 * length ts
@@ -53,8 +54,8 @@ height-rises [] (suc i) (suc j) h = omega arith
 height-rises (t ∷ ts) (suc i) (suc j) h = omega (arith, height-rises ts i j (omega arith))
 
 -- F_V of a tier, and V
-module _ (acceleration : Tier → ℕ) (limit : (t : Tier) → TierFacts t → acceleration t ≤ 3000) where
-  verticalForce-up : (t : Tier) → TierFacts t → UpTo 460000 (verticalForce acceleration t)
+module _ (acceleration : Tier → ℕ) (limit : (t : Tier) → TierLimits t → acceleration t ≤ 3000) where
+  verticalForce-up : (t : Tier) → TierLimits t → UpTo 460000 (verticalForce acceleration t)
   unfolding verticalForce
   verticalForce-up t f =
       up-quotient 200000 (981 * (t .mass * acceleration t)) 460000 (verticalForce acceleration t) (omega arith) (half-weight-times t (acceleration t)) (omega (arith, mul-le-mul (f .mass) (limit t f)))
@@ -74,7 +75,7 @@ module _ (acceleration : Tier → ℕ) (limit : (t : Tier) → TierFacts t → a
 half-up : UpTo 1 half
 half-up = up-quotient 2 1 1 half (omega arith) half-times (omega arith)
 
-wind-up : (t : Tier) → TierFacts t → UpTo 19100 (wind t)
+wind-up : (t : Tier) → TierLimits t → UpTo 19100 (wind t)
 wind-up t f = up-quotient 50000 (windUnits t) 19100 (wind t) (omega arith) (wind-times t) (omega (arith, wind-most f))
 
 -- F, P, Q and what turns about a level: share in twentieths, factor in thousandths, at most 1
@@ -82,12 +83,12 @@ module _ (rule : Rule) (c : LoadRule) (stands : StandsFor c rule) where
   share-up : UpTo 1 (rule .share)
   share-up = up-quotient 20 (c .share) 1 (rule .share) (omega arith) (times-q 20 (c .share) (rule .share) (stands .share)) (omega (arith, stands .share-most))
 
-  transverse-up : (t : Tier) → TierFacts t → UpTo 224900 (transverse (rule .factor) t)
+  transverse-up : (t : Tier) → TierLimits t → UpTo 224900 (transverse (rule .factor) t)
   transverse-up t tf =
       up-quotient 200000000 (981 * c .factor * transverseUnits t) 224900 (transverse (rule .factor) t) (omega arith) (transverse-number (rule .factor) (c .factor) (stands .factor) t) (omega (arith, mul-le-mul (stands .factor-most) (transverse-most tf)))
 
   -- F + P of a tier, and of a list of them
-  passed-up : (t : Tier) → TierFacts t → UpTo 244000 (transverse (rule .factor) t +q wind t)
+  passed-up : (t : Tier) → TierLimits t → UpTo 244000 (transverse (rule .factor) t +q wind t)
   passed-up t tf = up-sum (transverse-up t tf) (wind-up t tf)
 
   above-up : (ts : List Tier) → EachTier ts → UpTo (244000 * length ts) (above rule ts)
@@ -96,7 +97,7 @@ module _ (rule : Rule) (c : LoadRule) (stands : StandsFor c rule) where
   above-up (t ∷ ts) tf = up-more (omega arith) (up-sum (passed-up t (tf 0)) (above-up ts (λ j. tf (suc j))))
 
   load-up : (t : Tier) (ts : List Tier) →
-      TierFacts t →
+      TierLimits t →
       EachTier ts →
       UpTo (244000 * suc (length ts)) (load rule t ts)
   unfolding load

@@ -19,7 +19,8 @@ use Rattle.sheet.specs.declared.Tier.{Tier}
 use Rattle.sheet.specs.Layout.{blankTier}
 use Rattle.statics.specs.declared.LoadRule.{LoadRule}
 use Rattle.statics.specs.Loads.{StandsFor, half, weight, thousandths, transverse, boxLength, wind, Rule}
-use Rattle.statics.specs.Ends.{End, chainTiers}
+use Rattle.statics.specs.Ends.{chainTiers}
+use Rattle.sheet.specs.Ends.{End}
 use Rattle.statics.specs.Theorems.{Proper, HeavierTier, HeavierTiers, NoWindwardLoad, LoadsGrow}
 use Rattle.statics.specs.inner.WholeNumbers.{windUnits}
 use Rattle.statics.proofs.WholeNumbers.{times-q}

@@ -12,7 +12,7 @@ use Rattle.springs.proofs.Chain.{natℚ}
 use Rattle.sheet.specs.declared.Sheet.{Sheet}
 use Rattle.statics.specs.declared.EndFigures.{EndFigures}
 use Rattle.statics.specs.Loads.{Rule}
-use Rattle.statics.specs.Ends.{End}
+use Rattle.sheet.specs.Ends.{End}
 use Rattle.statics.specs.Reported.{Reported, Directed, EndReported, EndFigured}
 use Rattle.statics.proofs.Errors.{turn-le}
 use mathlib.Core.List.{List}

@@ -19,7 +19,8 @@ use Rattle.sheet.specs.declared.Tier.{Tier}
 use Rattle.sheet.specs.declared.Lash.{Lash}
 use Rattle.statics.specs.Loads.{half, transverse, wind, load, Rule}
 use Rattle.statics.specs.Lashes.{athwartPart}
-use Rattle.statics.specs.Ends.{End, chainTiers, chainLash, chainLashes}
+use Rattle.statics.specs.Ends.{chainTiers, chainLash, chainLashes}
+use Rattle.sheet.specs.Ends.{End}
 use Rattle.statics.specs.Posts.{levelHeight, turning, athwartOf, moment}
 use Rattle.statics.proofs.EndChain.{chain-length}
 use Rattle.statics.proofs.LashForces.{athwart-is}

@@ -7,9 +7,10 @@ use Rattle.springs.proofs.OneSolution as O
 use Rattle.springs.proofs.Growth.{no-shift-to-windward}
 use Rattle.sheet.specs.declared.Sheet.{Sheet}
 use Rattle.statics.specs.Loads.{Rule}
-use Rattle.statics.specs.Ends.{End, tiersOf, endTiers, endLashes, EndSolved}
+use Rattle.statics.specs.Ends.{endTiers, endLashes, EndSolved}
+use Rattle.sheet.specs.Ends.{End, tiersOf}
 use Rattle.statics.specs.Theorems.{Proper, NoWindwardShift, OneSolution}
-use Rattle.statics.specs.inner.Limits.{Facts}
+use Rattle.sheet.specs.inner.Limits.{SheetLimits}
 use Rattle.statics.proofs.EndChain.{end-stiff}
 use Rattle.statics.proofs.LoadsGrow.{loads-leeward}
 
@@ -17,7 +18,7 @@ use Rattle.statics.proofs.LoadsGrow.{loads-leeward}
 abbrev pub solutionOf : Rule → End → Sheet → List Frac
 solutionOf rule e t = O.solution (endTiers rule e t) (endLashes e t)
 
-module _ (rule : Rule) (e : End) {t : Sheet} (f : Facts t) where
+module _ (rule : Rule) (e : End) {t : Sheet} (f : SheetLimits t) where
   pub exists : EndSolved rule e t (solutionOf rule e t)
   exists = record { solves = O.exists (endTiers rule e t) (endLashes e t) (end-stiff rule e t f) }
 

@@ -18,7 +18,7 @@ use Rattle.springs.proofs.Chain.{natℚ}
 use Rattle.sheet.specs.declared.Lash.{Lash}
 use Rattle.statics.specs.Lashes.{athwartPart}
 use Rattle.statics.specs.Ends.{chainLash, chainLashes}
-use Rattle.statics.specs.inner.Limits.{LashFacts}
+use Rattle.sheet.specs.inner.Limits.{LashLimits}
 use Rattle.statics.proofs.EachLash.{Each, each-first, each-rest}
 use Rattle.statics.proofs.LashLength.{length-above}
 use Rattle.statics.proofs.LashFigures.{shiftError, shift-error-nn}
@@ -48,7 +48,7 @@ module _ (d : List ℕ) (Ds : List Frac) where
       mk-add (shiftErrorq (chainLash l)) (sumq shiftErrorq (chainLashes ls)) ∙ ap₂ _+ℚ_ (shift-errorq-is l) (shift-errors-q ls)
 
   module _ {n : ℕ} where
-    shift-error-at-nn : (l : Lash) → LashFacts n l → natℚ 0 ≤ℚ shiftErrorAt l
+    shift-error-at-nn : (l : Lash) → LashLimits n l → natℚ 0 ≤ℚ shiftErrorAt l
     shift-error-at-nn l f = shift-error-nn d l (shift Ds (levelOf l)) (length-above f)
 
     shift-errors-nn : (ls : List Lash) → Each n ls → natℚ 0 ≤ℚ shiftErrors ls

@@ -21,7 +21,7 @@ use Rattle.sheet.specs.Lashings.{lashingOf, levelOf}
 use Rattle.statics.specs.Lashes.{verticalPart}
 use Rattle.statics.specs.Posts.{onLee, onWindward, verticals}
 use Rattle.statics.specs.inner.WholeNumbers.{upward, upwards, leePart, windwardPart}
-use Rattle.statics.specs.inner.Limits.{LashFacts}
+use Rattle.sheet.specs.inner.Limits.{LashLimits}
 use Rattle.statics.proofs.Errors.{Off, off-nn, off-add, off-more}
 use Rattle.statics.proofs.Scales.{newtons, newtons-add, newtons-nn, nothing-off}
 use Rattle.statics.proofs.Pads.{shiftErrorBound, verticalError, verticalsError, verticals-room}
@@ -97,7 +97,7 @@ module _
   abbrev addedq : Lash → Frac
   addedq l = given (counts l) (force (lashingOf l) (verticalPart l (shift Ds (levelOf l))))
 
-  added-off : {n : ℕ} (l : Lash) → LashFacts n l → Off (verticalError (shiftErrorAt d Ds l)) (newtons (pos (added l))) (mk (addedq l))
+  added-off : {n : ℕ} (l : Lash) → LashLimits n l → Off (verticalError (shiftErrorAt d Ds l)) (newtons (pos (added l))) (mk (addedq l))
   added-off l f =
       let D = shift Ds (levelOf l) in
       counted-off (counts l) (part (lashingOf l) (upward d l)) (force (lashingOf l) (verticalPart l D))

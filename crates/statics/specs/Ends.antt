@@ -1,7 +1,7 @@
 -- Document 01, "The springs": the equations of one end of a decoded sheet.
 use mathlib.Core.List.{List, [], _∷_, map}
 use Prim.Native.Nat.{ℕ}
-use lib.ListN.{take}
+use Rattle.sheet.specs.Ends.{End, door, closed, tiersOf, lashesOf}
 use Rattle.sheet.specs.Lashings.{levelOf}
 use Rattle.arith.specs.Fractions.{Frac, nat}
 use Rattle.springs.specs.Equations as S
@@ -11,22 +11,10 @@ use Rattle.sheet.specs.declared.Sheet.{Sheet}
 use Rattle.statics.specs.Loads.{Rule, load}
 use Rattle.statics.specs.Lashes.{athwartPart}
 
-pub data End : Type 0 where
-  door : End
-  closed : End
-
 -- K of a tier at an end, N/mm (CR Table 2-4)
 abbrev pub springOf : End → Tier → ℕ
 springOf door t = S.doorSpring
 springOf closed t = S.closedSpring
-
--- the tiers of a sheet, bottom first, and the lashes of an end, in sheet order
-abbrev pub tiersOf : Sheet → List Tier
-tiersOf t = take (t .ntiers) (t .tiers)
-
-abbrev pub lashesOf : End → Sheet → List Lash
-lashesOf door t = take (t .ndoor) (t .door)
-lashesOf closed t = take (t .nclosed) (t .closed)
 
 -- each tier's spring and load
 unfoldable pub chainTiers : Rule → End → List Tier → List S.Tier

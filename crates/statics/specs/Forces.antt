@@ -11,7 +11,8 @@ use Rattle.sheet.specs.Layout.{blankLash}
 use Rattle.sheet.specs.Lashings.{levelOf}
 use Rattle.statics.specs.Loads.{Rule}
 use Rattle.statics.specs.Lashes as L
-use Rattle.statics.specs.Ends.{End, tiersOf, lashesOf, endTiers}
+use Rattle.statics.specs.Ends.{endTiers}
+use Rattle.sheet.specs.Ends.{End, tiersOf, lashesOf}
 use Rattle.statics.specs.Posts as P
 
 pub data Force : Type 0 where

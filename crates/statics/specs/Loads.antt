@@ -5,6 +5,7 @@ use Prim.Native.Nat.{ℕ, _≤_}
 use lib.Dec.{eqb}
 use Rattle.arith.specs.Fractions.{Frac, nat, _+q_, _*q_, _/q_, _≈_, sumq}
 use Rattle.springs.specs.Equations.{given}
+use Rattle.sheet.specs.Layout.{exposed}
 use Rattle.sheet.specs.declared.Tier.{Tier}
 use Rattle.sheet.specs.declared.Sheet.{Sheet}
 use Rattle.sheet.specs.Routes.{routePercent}
@@ -34,7 +35,7 @@ boxLength t = cond (eqb (t .size) 20) 6058 12192
 
 -- P = 0.5 × 1,080 N/m² × length × height if exposed, else 0; lengths in mm
 unfoldable pub wind : Tier → Frac
-wind t = given (eqb (t .wind) 1) (half *q nat 1080 *q thousandths (boxLength t) *q thousandths (t .height))
+wind t = given (exposed t) (half *q nat 1080 *q thousandths (boxLength t) *q thousandths (t .height))
 
 -- what the loads go by: the share of F that a tier's own top takes, which is the height of its centre as a share of the box's too,
 -- and the factor on A_T

@@ -8,7 +8,8 @@ use Rattle.arith.specs.Fractions.{Frac, nat, negq, _+q_, absq, _⊑_, _⊏_}
 use Rattle.sheet.specs.declared.Sheet.{Sheet}
 use Rattle.statics.specs.declared.EndFigures.{EndFigures}
 use Rattle.statics.specs.Loads.{Rule}
-use Rattle.statics.specs.Ends.{End, EndSolved}
+use Rattle.statics.specs.Ends.{EndSolved}
+use Rattle.sheet.specs.Ends.{End}
 use Rattle.statics.specs.Forces.{Force, racking, compression, tension, lashTension, lashAthwart, lashVertical, entryCount, exactForce}
 
 -- at least the exact force in size, and less than `margin` N above it

@@ -9,7 +9,8 @@ use Rattle.sheet.specs.declared.Tier.{Tier}
 use Rattle.sheet.specs.declared.Sheet.{Sheet}
 use Rattle.sheet.specs.Layout.{blankTier}
 use Rattle.statics.specs.Loads.{Rule}
-use Rattle.statics.specs.Ends.{End, chainTiers, EndSolved}
+use Rattle.statics.specs.Ends.{chainTiers, EndSolved}
+use Rattle.sheet.specs.Ends.{End}
 
 pub record Proper (rule : Rule) : Type 0 where
   pub share-least : nat 0 ⊑ rule .share

@@ -1,3 +1,2 @@
 pub mod WholeNumbers
 pub mod Computed
-pub mod Limits

@@ -11,7 +11,7 @@ use Rattle.sheet.specs.declared.Lash.{Lash}
 use Rattle.sheet.specs.declared.Sheet.{Sheet}
 use Rattle.statics.specs.declared.EndFigures.{EndFigures}
 use Rattle.statics.specs.declared.Figures.{Figures}
-use Rattle.statics.specs.Ends.{door, closed, lashesOf}
+use Rattle.sheet.specs.Ends.{door, closed, lashesOf}
 use Rattle.answer.specs.Limits.{rackingLimit, compressionLimit, cornerTensionLimit, lashVerticalLimit, lashAthwartLimit, safeLoad}
 use Rattle.answer.specs.Findings.{findings}
 use Rattle.answer.specs.Answers.{findingBytes}

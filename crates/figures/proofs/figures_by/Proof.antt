@@ -3,9 +3,9 @@ use borrow.Author.Needs.{needs}
 use mathlib.Core.Path.{refl, ap₂, _∙_}
 use Rattle.statics.specs.declared.EndFigures.{EndFigures}
 use Rattle.statics.specs.declared.Figures.{Figures}
-use Rattle.statics.specs.Ends.{door, closed, tiersOf}
+use Rattle.sheet.specs.Ends.{door, closed, tiersOf}
 use Rattle.statics.specs.inner.Computed.{figuresBy}
-use Rattle.statics.proofs.Taken.{facts}
+use Rattle.sheet.proofs.SheetLimits.{sheet-limits}
 use Rattle.figures.proofs.EndLaws.{workable, door-springs, closed-springs, endFigures}
 use Rattle.figures.proofs.figures_by.Statement.{statement}
 use Rattle.figures.proofs.figures_by.Tie as tie
@@ -29,7 +29,7 @@ slice-aggregate-loads-of-3 c = search needs
 loads-of-requires : tie.Need-loads-of-requires
 loads-of-requires c κs =
     let p = c .before .before .before .before .before .before .pre in
-    ((p .0 .few, p .1, p .2), (facts (p .0) .each, (refl, refl, refl)))
+    ((p .0 .few, p .1, p .2), (sheet-limits (p .0) .each, (refl, refl, refl)))
 
 slice-aggregate-end-figures : tie.Need-slice-aggregate-end-figures
 slice-aggregate-end-figures c = search needs
@@ -49,7 +49,7 @@ end-figures-requires c κs =
     let p = entered l .pre .0 in
     let e = l .loads-of .ensures in
     let long = l .loads-of .kept .1 .1 .1 in
-    (rw (door-springs (tiersOf (entered l .args .s))) (workable (facts p) door _ _ _ _ _ (p .door .few) (e .0) (e .1)), (refl, long .0, long .1 .0, long .1 .1 .0))
+    (rw (door-springs (tiersOf (entered l .args .s))) (workable (sheet-limits p) door _ _ _ _ _ (p .door .few) (e .0) (e .1)), (refl, long .0, long .1 .0, long .1 .1 .0))
 
 slice-aggregate-end-figures-5 : tie.Need-slice-aggregate-end-figures-5
 slice-aggregate-end-figures-5 c = search needs
@@ -69,7 +69,7 @@ end-figures-requires-2 c κs =
     let p = entered l .pre .0 in
     let e = l .loads-of .ensures in
     let long = l .loads-of .kept .1 .1 .1 in
-    (rw (closed-springs (tiersOf (entered l .args .s))) (workable (facts p) closed _ _ _ _ _ (p .closed .few) (e .0) (e .1)), (refl, long .0, long .1 .0, long .1 .1 .0))
+    (rw (closed-springs (tiersOf (entered l .args .s))) (workable (sheet-limits p) closed _ _ _ _ _ (p .closed .few) (e .0) (e .1)), (refl, long .0, long .1 .0, long .1 .1 .0))
 
 returns : tie.Need-returns
 unfolding figuresBy

@@ -8,7 +8,7 @@ use Rattle.sheet.specs.Layout.{blankLash, blankTier}
 use Rattle.sheet.specs.declared.Tier.{Tier}
 use Rattle.sheet.specs.declared.Lash.{Lash}
 use Rattle.statics.specs.declared.LoadRule.{LoadRule}
-use Rattle.statics.specs.inner.Limits.{LashFacts}
+use Rattle.sheet.specs.inner.Limits.{LashLimits}
 use Rattle.statics.specs.inner.WholeNumbers.{halfWeight}
 use Rattle.statics.specs.inner.Computed.{loadsOf}
 
@@ -30,7 +30,7 @@ pub record Workable (n : ℕ) (k : List ℕ) (ts : List Tier) (m : ℕ) (ls : Li
   pub springs : (i : ℕ) → i < n → (3730 ≤ getD k i 0) × (getD k i 0 ≤ 15690)
   pub heights : (i : ℕ) → i < n → getD ts i blankTier .height ≤ 2896
   pub few-lashes : m ≤ 8
-  pub each : (j : ℕ) → j < length ls → LashFacts n (getD ls j blankLash)
+  pub each : (j : ℕ) → j < length ls → LashLimits n (getD ls j blankLash)
   pub at-level : (i : ℕ) → atLevel i ls ≤ 4
   pub loaded : (i : ℕ) → i < n → getD ω i 0 ≤ 2 ^ 46
   pub weighed : Weighed ts vmax vmin

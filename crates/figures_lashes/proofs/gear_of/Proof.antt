@@ -7,7 +7,7 @@ use Rattle.figures_lashes.proofs.LashLoops.{Listed, listed, MeasuredTo,
 use Prim.Native.Nat.{_-_}
 use native.Mathlib.Numerals.{add-one}
 use native.Mathlib.Omega.{arith}
-use Rattle.statics.specs.inner.Limits.{LashFacts}
+use Rattle.sheet.specs.inner.Limits.{LashLimits}
 use borrow.Author.Needs.{needs}
 use Rattle.figures_lashes.proofs.gear_of.Statement.{statement}
 use Rattle.figures_lashes.proofs.gear_of.Tie as tie
@@ -38,8 +38,8 @@ own c =
     let a = start (c .before) .args in
     getD-take (a .m) (a .t1) (c .before .loop .j) blankLash (c .loop-test .taken)
 
-lash-facts : (c : tie.In-loop Inv-loop μ-loop) → LashFacts 10 (getD (start (c .before) .args .t1) (c .before .loop .j) blankLash)
-lash-facts c = rw (own c) at (start (c .before) .pre .0 .1 (c .before .loop .j) (c .loop-test .taken))
+lash-limits : (c : tie.In-loop Inv-loop μ-loop) → LashLimits 10 (getD (start (c .before) .args .t1) (c .before .loop .j) blankLash)
+lash-limits c = rw (own c) at (start (c .before) .pre .0 .1 (c .before .loop .j) (c .loop-test .taken))
 
 loop-holds : tie.Need-loop-holds Inv-loop μ-loop
 loop-holds c =
@@ -53,13 +53,13 @@ array-copy-out-l : tie.Need-array-copy-out-l Inv-loop μ-loop
 array-copy-out-l c = search needs
 
 length-of-requires : tie.Need-length-of-requires Inv-loop μ-loop
-length-of-requires c κs = lash-facts (c .before)
+length-of-requires c κs = lash-limits (c .before)
 
 stiffness-of-requires : tie.Need-stiffness-of-requires Inv-loop μ-loop
-stiffness-of-requires c κs = (lash-facts (c .before .before), c .length-of .ensures)
+stiffness-of-requires c κs = (lash-limits (c .before .before), c .length-of .ensures)
 
 hook-level-requires : tie.Need-hook-level-requires Inv-loop μ-loop
-hook-level-requires c κs = lash-facts (c .before .before .before)
+hook-level-requires c κs = lash-limits (c .before .before .before)
 
 sub-at : tie.Need-sub-at Inv-loop μ-loop
 sub-at c = search needs

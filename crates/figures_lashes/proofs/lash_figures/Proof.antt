@@ -6,7 +6,7 @@ use native.Mathlib.Numerals.{add-one}
 use native.Mathlib.Omega.{arith}
 use lib.ListN.{getD, take}
 use lib.Seq.{getD-take}
-use Rattle.statics.specs.inner.Limits.{LashFacts}
+use Rattle.sheet.specs.inner.Limits.{LashLimits}
 use Rattle.statics.specs.inner.WholeNumbers.{stiffnessOf, leePart, windwardPart}
 use Rattle.statics.proofs.LashStiffness.{stiffness-most}
 use Rattle.sheet.specs.Layout.{blankLash}
@@ -52,8 +52,8 @@ own c =
     let a = start (c .before) .args in
     getD-take (a .m) (a .t1) (c .before .loop .j) blankLash (c .loop-test .taken)
 
-lash-facts : (c : tie.In-loop Inv-loop μ-loop) → LashFacts 10 (getD (start (c .before) .args .t1) (c .before .loop .j) blankLash)
-lash-facts c = rw (own c) at (start (c .before) .pre .0 .1 (c .before .loop .j) (c .loop-test .taken))
+lash-limits : (c : tie.In-loop Inv-loop μ-loop) → LashLimits 10 (getD (start (c .before) .args .t1) (c .before .loop .j) blankLash)
+lash-limits c = rw (own c) at (start (c .before) .pre .0 .1 (c .before .loop .j) (c .loop-test .taken))
 
 stiffness :
     (c : tie.In-loop Inv-loop μ-loop) →
@@ -80,7 +80,7 @@ array-copy-out-l : tie.Need-array-copy-out-l Inv-loop μ-loop
 array-copy-out-l c = search needs
 
 hook-level-requires : tie.Need-hook-level-requires Inv-loop μ-loop
-hook-level-requires c κs = lash-facts (c .before)
+hook-level-requires c κs = lash-limits (c .before)
 
 mul-athwart-part : tie.Need-mul-athwart-part Inv-loop μ-loop
 mul-athwart-part c = search needs
@@ -99,7 +99,7 @@ athwart-part-requires c κs =
     let k = c .before .before in
     let t = turn k in
     let b = start (t .before) in
-    (rw (stiffness t) (stiffness-most _ (lash-facts t)), b .pre .1 .0 .1 (k .hook-level .result))
+    (rw (stiffness t) (stiffness-most _ (lash-limits t)), b .pre .1 .0 .1 (k .hook-level .result))
 
 mul-forces-of : tie.Need-mul-forces-of Inv-loop μ-loop
 mul-forces-of c = search needs
@@ -111,7 +111,7 @@ forces-of-requires : tie.Need-forces-of-requires Inv-loop μ-loop
 forces-of-requires c κs =
     let t = turn (hooked (c .before)) in
     let g = start (t .before) .pre .1 .0 .0 in
-    (lash-facts t, rw (own t) at (g .long .each (t .before .loop .j) (t .loop-test .taken)), c .before .athwart-part .ensures .1)
+    (lash-limits t, rw (own t) at (g .long .each (t .before .loop .j) (t .loop-test .taken)), c .before .athwart-part .ensures .1)
 
 lashing-of-requires : tie.Need-lashing-of-requires Inv-loop μ-loop
 lashing-of-requires c κs = search needs
@@ -119,7 +119,7 @@ lashing-of-requires c κs = search needs
 on-posts-requires : tie.Need-on-posts-requires Inv-loop μ-loop
 on-posts-requires c κs =
     let x = parted (c .before) in
-    (rw (c .lashing-of .ensures, carried _) (lash-facts (turn (hooked x))), x .athwart-part .ensures .1)
+    (rw (c .lashing-of .ensures, carried _) (lash-limits (turn (hooked x))), x .athwart-part .ensures .1)
 
 mul-pull : tie.Need-mul-pull Inv-loop μ-loop
 mul-pull c = search needs

@@ -13,7 +13,8 @@ use Rattle.sheet.specs.Routes.{routePercent}
 use Rattle.statics.specs.declared.EndFigures.{EndFigures}
 use Rattle.statics.specs.declared.Figures.{Figures}
 use Rattle.statics.specs.declared.LoadRule.{LoadRule}
-use Rattle.statics.specs.Ends.{End, door, closed, springOf, tiersOf, lashesOf}
+use Rattle.statics.specs.Ends.{springOf}
+use Rattle.sheet.specs.Ends.{End, door, closed, tiersOf, lashesOf}
 use Rattle.statics.specs.inner.WholeNumbers.{levelLoad, levelStiffness, rackingPart, rackingFigure, compressionFigure, tensionFigure, pullFigure, athwartFigure, verticalFigure}
 
 -- the solver's inputs, in arrays of ten: springs of the tiers; of the level over each, the stiffness of its lashes and its load

@@ -9,6 +9,7 @@ use lib.ListN.{drop, getD, length}
 use lib.IntN.{ℤ, pos, negsuc, negℤ, _+ℤ_, _-ℤ_, _*ℤ_}
 use lib.Signed.{quotZ}
 use Rattle.arith.specs.Rounding.{roundedUp}
+use Rattle.sheet.specs.Layout.{exposed}
 use Rattle.sheet.specs.declared.Tier.{Tier}
 use Rattle.sheet.specs.declared.Lash.{Lash}
 use Rattle.sheet.specs.declared.Lashing.{Lashing}
@@ -29,7 +30,7 @@ unfoldable pub transverseUnits : Tier → ℕ
 transverseUnits t = t .mass * t .aT
 
 unfoldable pub windUnits : Tier → ℕ
-windUnits t = cond (eqb (t .wind) 1) (27 * boxLength t * t .height) 0
+windUnits t = cond (exposed t) (27 * boxLength t * t .height) 0
 
 -- the load on the level between a tier and the tier over it: share in twentieths, factor in thousandths, all over 4,000,000,000
 unfoldable pub levelLoad : ℕ → ℕ → Tier → Tier → ℕ

@@ -5,7 +5,7 @@ use lib.Seq.{getD-take, length-take-le}
 use Prim.Native.Nat.{_-_}
 use native.Mathlib.Omega.{arith}
 use Rattle.sheet.specs.Layout.{blankTier}
-use Rattle.statics.specs.inner.Limits.{TierFacts}
+use Rattle.sheet.specs.inner.Limits.{TierLimits}
 use borrow.Author.Needs.{needs}
 use Rattle.figures.proofs.LoadLaws.{LoadedDown, loaded-none, loaded-more, loaded-all, Carried, carried-none, carried-more, carried-all}
 use Rattle.figures.proofs.loads.loads_of.Statement.{statement}
@@ -37,8 +37,8 @@ own c =
     let l = c .before .loop in
     getD-take (a .n) (a .t2) (l .i - 1) blankTier (omega (arith, c .loop-test .taken, l .inv .0 .within))
 
-facts : (c : tie.In-loop Inv-loop μ-loop) → TierFacts (getD (start (c .before) .args .t2) (c .before .loop .i - 1) blankTier)
-facts c =
+limits : (c : tie.In-loop Inv-loop μ-loop) → TierLimits (getD (start (c .before) .args .t2) (c .before .loop .i - 1) blankTier)
+limits c =
     let l = c .before .loop in
     rw (own c) at (start (c .before) .pre .1 .0 (l .i - 1) (omega (arith, c .loop-test .taken, l .inv .0 .within)))
 
@@ -58,7 +58,7 @@ array-copy-out-t : tie.Need-array-copy-out-t Inv-loop μ-loop
 array-copy-out-t c = search needs
 
 tier-load-requires : tie.Need-tier-load-requires Inv-loop μ-loop
-tier-load-requires c κs = facts (c .before)
+tier-load-requires c κs = limits (c .before)
 
 level-load-requires : tie.Need-level-load-requires Inv-loop μ-loop
 level-load-requires c κs =
@@ -75,7 +75,7 @@ slice-write-loads c = search needs
 
 mass-by-requires : tie.Need-mass-by-requires Inv-loop μ-loop
 mass-by-requires c κs =
-    let f = facts (c .before .before .before) in
+    let f = limits (c .before .before .before) in
     (f .mass, f .aVmax)
 
 add-vmax-units : tie.Need-add-vmax-units Inv-loop μ-loop
@@ -83,7 +83,7 @@ add-vmax-units c = search needs
 
 mass-by-requires-2 : tie.Need-mass-by-requires-2 Inv-loop μ-loop
 mass-by-requires-2 c κs =
-    let f = facts (c .before .before .before .before) in
+    let f = limits (c .before .before .before .before) in
     (f .mass, omega (arith, f .aVmin))
 
 add-vmin-units : tie.Need-add-vmin-units Inv-loop μ-loop

@@ -1,11 +1,13 @@
 use native.Mathlib.Nat.{mul-le-mul}
 use native.Mathlib.Omega.{arith}
-use borrow.Author.Tests.{eq-eqb, ne-eqb}
 use lib.Dec.{lit≤}
 use Rattle.statics.specs.inner.WholeNumbers.{windUnits}
 use borrow.Author.Needs.{needs}
 use Rattle.figures.proofs.loads.wind_of.Statement.{statement}
 use Rattle.figures.proofs.loads.wind_of.Tie as tie
+
+exposed-requires : tie.Need-exposed-requires
+exposed-requires c κs = search needs
 
 box-length-requires : tie.Need-box-length-requires
 box-length-requires c κs = search needs
@@ -26,11 +28,11 @@ unfolding windUnits
 returns c =
     let e = c .before .box-length .ensures in
     let b = c .before .before .before .before in
-    (simp (eq-eqb _ _ (c .before .before .if1 .taken), e .0), omega (arith, mul-le-mul (e .1) (b .pre .height)))
+    (simp (← c .before .before .before .exposed .ensures, c .before .before .if1 .taken, e .0), omega (arith, mul-le-mul (e .1) (b .pre .height)))
 
 returns-2 : tie.Need-returns-2
 unfolding windUnits
-returns-2 c = (simp (ne-eqb _ _ (c .if1 .left)), lit≤ tt)
+returns-2 c = (simp (← c .before .exposed .ensures, c .if1 .left), lit≤ tt)
 
 pub wind-of-spec : {M : Type 1} → statement M
-wind-of-spec = tie.close (tie.spec box-length-requires mul-result cast-result mul-result-2 returns returns-2)
+wind-of-spec = tie.close (tie.spec exposed-requires box-length-requires mul-result cast-result mul-result-2 returns returns-2)

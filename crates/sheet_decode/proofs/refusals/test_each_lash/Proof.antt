@@ -11,7 +11,8 @@ use Rattle.sheet_decode.proofs.refusals.test_each_lash.Statement.{state
 use Rattle.sheet_decode.proofs.refusals.test_each_lash.Tie as tie
 
 abbrev Inv-loop : tie.InvT-loop
-Inv-loop n s at count k₀ k = (k ≤ count) × (first (flatMap (lashRows n s at) (from k (count - k))) ≡ first (flatMap (lashRows n s at) (below count)))
+Inv-loop n s at count k₀ k =
+    (k ≤ count) × (first (flatMap (lashRows n s at) (from k (count - k))) ≡ first (flatMap (lashRows n s at) (below count)))
 
 abbrev μ-loop : tie.MeasureT-loop
 μ-loop n s at count k₀ k = count - k
@@ -30,7 +31,9 @@ returns c =
     let m = c .before .before .before in
     let l = m .before .before in
     let a = l .before .before .args in
-    sym (entry-refused (lashRows (a .n) (a .s .now) (a .at)) (l .loop .k) _ (m .before .loop-test .taken) (sym (m .test-lash .ensures) ∙ c .before .number .given .1))
+    sym
+    (entry-refused (lashRows (a .n) (a .s .now) (a .at)) (l .loop .k) _ (m .before .loop-test .taken)
+    (sym (m .test-lash .ensures) ∙ c .before .number .given .1))
     ∙ l .loop .inv .1
 
 enum-told : tie.Need-enum-told Inv-loop μ-loop
@@ -48,7 +51,9 @@ loop-again c =
     let l = m .before .before in
     let a = l .before .before .args in (
       search needs,
-      sym (entry-taken (lashRows (a .n) (a .s .now) (a .at)) (l .loop .k) _ (m .before .loop-test .taken) (sym (m .test-lash .ensures) ∙ c .enum-told .given .1))
+      sym
+          (entry-taken (lashRows (a .n) (a .s .now) (a .at)) (l .loop .k) _ (m .before .loop-test .taken)
+          (sym (m .test-lash .ensures) ∙ c .enum-told .given .1))
           ∙ l .loop .inv .1,
     )
 

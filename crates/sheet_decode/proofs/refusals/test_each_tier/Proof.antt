@@ -30,7 +30,9 @@ returns c =
     let m = c .before .before .before in
     let l = m .before .before in
     let a = l .before .before .args in
-    sym (entry-refused (tierRows (a .s .now)) (l .loop .k) _ (m .before .loop-test .taken) (sym (m .test-tier .ensures) ∙ c .before .number .given .1))
+    sym
+    (entry-refused (tierRows (a .s .now)) (l .loop .k) _ (m .before .loop-test .taken)
+    (sym (m .test-tier .ensures) ∙ c .before .number .given .1))
     ∙ l .loop .inv .1
 
 enum-told : tie.Need-enum-told Inv-loop μ-loop
@@ -48,7 +50,9 @@ loop-again c =
     let l = m .before .before in
     let a = l .before .before .args in (
       search needs,
-      sym (entry-taken (tierRows (a .s .now)) (l .loop .k) _ (m .before .loop-test .taken) (sym (m .test-tier .ensures) ∙ c .enum-told .given .1))
+      sym
+          (entry-taken (tierRows (a .s .now)) (l .loop .k) _ (m .before .loop-test .taken)
+          (sym (m .test-tier .ensures) ∙ c .enum-told .given .1))
           ∙ l .loop .inv .1,
     )
 
