@@ -42,11 +42,15 @@ moment-peel :
 unfolding momentPart
 moment-peel k d ts j h = rw (drop-cons ts j blankTier h) refl
 
-part-small : (k d : List ℕ) (j : ℕ) → getD k j 0 ≤ closedSpring → ((i : ℕ) → getD d i 0 ≤ 2 ^ 40) → Small (2 ^ 45) (rackingPart (getD k j 0) d j)
+part-small :
+    (k d : List ℕ) (j : ℕ) →
+    getD k j 0 ≤ closedSpring →
+    ((i : ℕ) → getD d i 0 ≤ 2 ^ 40) →
+    Small (2 ^ 45) (rackingPart (getD k j 0) d j)
 unfolding rackingPart
 part-small k d j h s = racking-small h (s (suc j)) (s j)
 
--- a tier's racking × height, at vmax
+-- a tier's racking × height, at most
 abbrev most-turn : ℕ
 most-turn = 2896 * 2 ^ 45
 
