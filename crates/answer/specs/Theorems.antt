@@ -27,6 +27,7 @@ pub record Theorems : Type 0 where
   pub answer-wider : (m n : ℕ) → m ≤ n → (t : Sheet) (bytes : List ℕ) → AnswerTo m t bytes → AnswerTo n t bytes
   pub checked-wider :
       (m n : ℕ) → m ≤ n → (s before after : List ℕ) (r : Outcome) → Checked m s before after r → Checked n s before after r
+
   -- the numbers read back from an answer's bytes, whatever stands behind them, are the counts, figures, findings and verdict
   pub read-back :
       (margin : ℕ) →
@@ -35,14 +36,17 @@ pub record Theorems : Type 0 where
       Fits t →
       (a : AnswerTo margin t bytes) →
       ReadBack t (a .figures) (bytes ++ rest)
+
   -- so an answer's bytes say by themselves what the exact forces are
   pub says :
       (margin : ℕ) → margin ≤ 100 → (t : Sheet) (bytes rest : List ℕ) → Fits t → AnswerTo margin t bytes → AnswerSays margin t (bytes ++ rest)
+
   -- what `check` says is demand 3 for every sheet that it takes
   pub demand-three :
       (s before after : List ℕ) (r : Outcome) →
       refusal s (length before) ≡ Taken →
       Checked kept s before after r →
       DemandThree (sheetOf s) after
+
   -- document 01's figures (a) to (j)
   pub table : Table

@@ -144,9 +144,9 @@ module _ {n : ℕ} {k : List ℕ} {ts : List Tier} {m : ℕ} {ls : List Lash} {�
       rw (
         filled-padded (λ i. rackingFigure (rackingPart (getD k i 0) d i)) (pos 0) 10 n racking (h .few) (l .racking-is),
         filled-padded (compressionFigure k ts ls d) 0 11 (suc n) compression (omega (arith, h .few))
-            (refilled (λ i q. rw (h .weighed .vmax-is i, lees i (omega arith), windwards i (omega arith)) refl) (l .compression-is)),
+        (refilled (λ i q. rw (h .weighed .vmax-is i, lees i (omega arith), windwards i (omega arith)) refl) (l .compression-is)),
         filled-padded (tensionFigure k ts ls d) 0 10 n tension (h .few)
-            (refilled (λ i q. rw (h .weighed .vmin-is i, lees (suc i) (omega arith), windwards (suc i) (omega arith)) refl) (l .tension-is)),
+        (refilled (λ i q. rw (h .weighed .vmin-is i, lees (suc i) (omega arith), windwards (suc i) (omega arith)) refl) (l .tension-is)),
         filled-padded (λ j. pullFigure d (getD ls j blankLash)) 0 8 (length ls) lash-tension (omega (arith, h .few-lashes)) (rw counted (u .pull-is)),
         filled-padded (λ j. athwartFigure d (getD ls j blankLash)) 0 8 (length ls) athwart (omega (arith, h .few-lashes)) (rw counted (u .athwart-is)),
         filled-padded (λ j. verticalFigure d (getD ls j blankLash)) 0 8 (length ls) vertical (omega (arith, h .few-lashes)) (rw counted (u .vertical-is)),

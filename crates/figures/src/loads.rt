@@ -102,10 +102,7 @@ pub fn loads_of(
     requires { ⌜ (now loads ≡ replicate 10 0) × (now vmax ≡ replicate 11 0) × (now vmin ≡ replicate 11 0) ⌝ }
     ensures { λ _. ⌜ Loaded rule n (take n tiers) (now (loads .exit)) × Weighed (take n tiers) (now (vmax .exit)) (now (vmin .exit)) ⌝ }
 {
-    let mut over = TierLoad {
-        transverse: 0,
-        wind: 0,
-    };
+    let mut over = TierLoad { transverse: 0, wind: 0 };
     let mut vmax_units = 0;
     let mut vmin_units = 0;
     let mut i = n;

@@ -15,24 +15,7 @@ use Rattle.arith.specs.Lists.{from, below}
 use Rattle.arith.proofs.Polynomials.{v, kp, _⊕_, _⊖_, _⊗_, ⊖_}
 use Rattle.arith.proofs.Rings.{∀₁, ∀₃, ∀₄, ∀₁₂, by-ring, by-cert, to, times, num, _⊞_, _⊠_}
 use Rattle.arith.proofs.Rationals.{
-  ℚR,
-  ℚ,
-  mk,
-  _+ℚ_,
-  _-ℚ_,
-  _*ℚ_,
-  negℚ,
-  _/ℚ_,
-  recipℚ,
-  absℚ,
-  _≤ℚ_,
-  _<ℚ_,
-  nn-int,
-  int-plus,
-  int-times,
-  recip-times,
-  recip-nn,
-  to-⊑,
+  ℚR, ℚ, mk, _+ℚ_, _-ℚ_, _*ℚ_, negℚ, _/ℚ_, recipℚ, absℚ, _≤ℚ_, _<ℚ_, nn-int, int-plus, int-times, recip-times, recip-nn, to-⊑,
 }
 use Rattle.arith.proofs.RationalTerms.{qq}
 use Rattle.arith.proofs.Signs.{on, same-le}

@@ -104,14 +104,9 @@ module _ (n : ℕ) (k κ ω : List ℕ) (s : Solvable n k κ ω) where
   load-most j zero e = subst (λ (z : ℕ). ys z ≤ 0 * mostLoaded) {x = n} {y = j} (omega arith) (omega (arith, load-top n k κ ω))
   load-most j (suc m) e =
       let l : j < n = omega arith in
-      omega (
-        arith,
-        load-step n k κ ω j l,
-        load-le (getD k j 0) (getD κ j 0) (getD ω j 0) (xs (suc j)) (ys (suc j)) (stiff j l),
-        s .loaded j l,
-        load-most (suc j) m (omega arith),
-        add-one m,
-      )
+      omega
+      (arith, load-step n k κ ω j l, load-le (getD k j 0) (getD κ j 0) (getD ω j 0) (xs (suc j)) (ys (suc j)) (stiff j l),
+      s .loaded j l, load-most (suc j) m (omega arith), add-one m)
 
   -- a step at tier j + 1 is in range
   module _ (j : ℕ) (l : j < n) where
@@ -127,15 +122,10 @@ module _ (n : ℕ) (k κ ω : List ℕ) (s : Solvable n k κ ω) where
       (omega (arith, shift-deck n k κ ω))
   shift-most (suc j) m e =
       let l : j < n = omega arith in
-      omega (
-        arith,
-        shift-most j (suc m) (omega arith),
-        shift-step n k κ ω j l,
-        shift-le (getD k j 0) (getD κ j 0) (getD ω j 0) (xs (suc j)) (ys (suc j)) (ds j) (s .springs j l .0),
-        s .loaded j l,
-        load-most (suc j) m e,
-        add-one m,
-      )
+      omega
+      (arith, shift-most j (suc m) (omega arith), shift-step n k κ ω j l,
+      shift-le (getD k j 0) (getD κ j 0) (getD ω j 0) (xs (suc j)) (ys (suc j)) (ds j) (s .springs j l .0), s .loaded j l,
+      load-most (suc j) m e, add-one m)
 
   -- a shift is at most 2^12 mm
   pub far-at : (j : ℕ) → ds j ≤ farthest
