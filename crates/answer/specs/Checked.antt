@@ -3,15 +3,14 @@ use mathlib.Core.Path.{_≡_}
 use mathlib.Core.List.{List, _++_}
 use Prim.Native.Nat.{ℕ}
 use lib.ListN.{drop, length}
-use Rattle.arith.specs.Fractions.{Frac, _≈_}
-use Rattle.springs.specs.Equations.{shift}
 use Rattle.sheet.specs.declared.Reading.{Reading}
 use Rattle.sheet.specs.declared.Reading.the-variants.{Taken, Refused}
 use Rattle.sheet.specs.declared.Sheet.{Sheet}
 use Rattle.sheet.specs.Layout.{sheetOf}
 use Rattle.sheet.specs.Refusals.{refusal}
 use Rattle.statics.specs.declared.Figures.{Figures}
-use Rattle.statics.specs.Ends.{EndSolved}
+use Rattle.statics.specs.Loads.{Rule, classRule}
+use Rattle.statics.specs.Theorems.{OneSolution}
 use Rattle.sheet.specs.Ends.{End}
 use Rattle.statics.specs.Reported.{EndFigured}
 use Rattle.answer.specs.declared.Outcome.{Outcome}
@@ -28,19 +27,13 @@ abbrev pub second : Outcome → ℕ
 second (O.Taken n) = n
 second (O.Refused c p) = p
 
--- exactly one solution in fractions: there is one, and any two agree up to cross products
-pub record OneSolution (e : End) (t : Sheet) : Type 0 where
-  pub shifts : List Frac
-  pub exists : EndSolved e t shifts
-  pub unique : (Ds Es : List Frac) → EndSolved e t Ds → EndSolved e t Es → (i : ℕ) → shift Ds i ≈ shift Es i
-
--- bytes that answer a sheet t: those of figures that are within `margin` N of the exact forces at each end, whose equations have one
--- solution. Findings and verdict are the rule's from these figures, by answerBytes
-pub record AnswerTo (margin : ℕ) (t : Sheet) (bytes : List ℕ) : Type 0 where
+-- bytes that answer a sheet t, with what its loads go by: those of figures that are within `margin` N of the exact forces at each end,
+-- whose equations have one solution. Findings and verdict are the rule's from these figures, by answerBytes
+pub record AnswerTo (margin : ℕ) (rule : Rule) (t : Sheet) (bytes : List ℕ) : Type 0 where
   pub figures : Figures
   pub encoded : bytes ≡ answerBytes t figures
-  pub reports : (e : End) → EndFigured margin e t (figuresOf e figures)
-  pub one : (e : End) → OneSolution e t
+  pub reports : (e : End) → EndFigured margin rule e t (figuresOf e figures)
+  pub one : (e : End) → OneSolution rule e t
 
 -- a refused sheet: its two numbers, and the buffer as it was
 pub record TurnedBack (c p : ℕ) (before after : List ℕ) (r : Outcome) : Type 0 where
@@ -48,16 +41,16 @@ pub record TurnedBack (c p : ℕ) (before after : List ℕ) (r : Outcome) : Type
   pub untouched : after ≡ before
 
 -- a taken sheet t: 0 and the answer's length; the buffer holds the answer's bytes, then what stood there
-pub record Answered (margin : ℕ) (t : Sheet) (before after : List ℕ) (r : Outcome) : Type 0 where
+pub record Answered (margin : ℕ) (rule : Rule) (t : Sheet) (before after : List ℕ) (r : Outcome) : Type 0 where
   pub bytes : List ℕ
-  pub answer : AnswerTo margin t bytes
+  pub answer : AnswerTo margin rule t bytes
   pub taken : r ≡ O.Taken (length bytes)
   pub written : after ≡ bytes ++ drop (length bytes) before
 
--- the sheet s with a buffer that held `before`, by cases on document 01's refusals
+-- the sheet s with a buffer that held `before`, by cases on document 01's refusals; its loads go by the class rule
 abbrev pub CheckedAs : Reading → ℕ → Sheet → List ℕ → List ℕ → Outcome → Type 0
 CheckedAs (Refused c p) margin t before after r = TurnedBack c p before after r
-CheckedAs Taken margin t before after r = Answered margin t before after r
+CheckedAs Taken margin t before after r = Answered margin (classRule t) t before after r
 
 pub record Checked (margin : ℕ) (s before after : List ℕ) (r : Outcome) : Type 0 where
   pub holds : CheckedAs (refusal s (length before)) margin (sheetOf s) before after r

@@ -1,22 +1,19 @@
 -- Document 01, "The answer sheet": the seven kinds of checked limits, the findings and the verdict.
 use mathlib.Core.Bool.{Bool, cond}
 use mathlib.Core.List.{List, [], _∷_, _++_, flatMap}
-use Prim.Native.Nat.{ℕ, zero, suc, _+_, _-_}
+use Prim.Native.Nat.{ℕ, zero, suc, _-_}
 use lib.Dec.{ltb, eqb}
-use lib.IntN.{ℤ, pos, natAbs}
 use lib.ListN.{getD, length}
 use Rattle.sheet.specs.Layout.{blankLash}
 use Rattle.arith.specs.Fractions.{Frac}
-use Rattle.springs.specs.Equations as S
 use Rattle.sheet.specs.declared.Sheet.{Sheet}
+use Rattle.sheet.specs.Ends.{End, door, closed, lashesOf}
 use Rattle.statics.specs.declared.EndFigures.{EndFigures}
 use Rattle.statics.specs.declared.Figures.{Figures}
-use Rattle.statics.specs.Loads.{classShare}
-use Rattle.statics.specs.Lashes as L
-use Rattle.statics.specs.Ends.{chainTiers, routeFactor}
-use Rattle.sheet.specs.Ends.{End, door, closed, tiersOf, lashesOf}
-use Rattle.statics.specs.Posts as P
-use Rattle.statics.specs.Reported.{forceOf}
+use Rattle.statics.specs.Loads.{Rule}
+use Rattle.statics.specs.Forces as F
+use Rattle.statics.specs.Forces.{Force, entryCount, exactForce}
+use Rattle.statics.specs.Reported.{reportedSize}
 use Rattle.answer.specs.Limits.{rackingLimit, compressionLimit, cornerTensionLimit, lashVerticalLimit, lashAthwartLimit, safeLoad}
 
 -- 0 door, 1 closed
@@ -51,34 +48,36 @@ kindCode lashAthwart = 7
 abbrev pub kinds : List Kind
 kinds = racking ∷ compression ∷ cornerTension ∷ lockTension ∷ lashTension ∷ lashVertical ∷ lashAthwart ∷ []
 
+-- the force that a kind is about, and its entry, counted from 0, at an index: tiers count from 1
+abbrev pub forceOf : Kind → Force
+forceOf racking = F.racking
+forceOf compression = F.compression
+forceOf cornerTension = F.tension
+forceOf lockTension = F.tension
+forceOf lashTension = F.lashTension
+forceOf lashVertical = F.lashVertical
+forceOf lashAthwart = F.lashAthwart
+
+abbrev pub entryAt : Kind → ℕ → ℕ
+entryAt racking i = i - 1
+entryAt k i = i
+
 -- where a kind is checked: racking at every tier, compression at levels 1 to n, tension at levels 0 to n − 1, and every lash
 abbrev pub firstIndex : Kind → ℕ
 firstIndex racking = 1
 firstIndex compression = 1
-firstIndex cornerTension = 0
-firstIndex lockTension = 0
-firstIndex lashTension = 0
-firstIndex lashVertical = 0
-firstIndex lashAthwart = 0
+firstIndex k = 0
 
 abbrev pub indexCount : End → Sheet → Kind → ℕ
-indexCount e t racking = t .ntiers
 indexCount e t compression = t .ntiers
-indexCount e t cornerTension = t .ntiers
-indexCount e t lockTension = t .ntiers
-indexCount e t lashTension = length (lashesOf e t)
-indexCount e t lashVertical = length (lashesOf e t)
-indexCount e t lashAthwart = length (lashesOf e t)
+indexCount e t k = entryCount (forceOf k) e t
 
--- the reported size at an index
-abbrev pub reportedSize : EndFigures → Kind → ℕ → ℕ
-reportedSize f racking i = natAbs (getD (f .racking) (i - 1) (pos 0))
-reportedSize f compression i = getD (f .compression) i 0
-reportedSize f cornerTension i = getD (f .tension) i 0
-reportedSize f lockTension i = getD (f .tension) i 0
-reportedSize f lashTension j = getD (f .pull) j 0
-reportedSize f lashVertical j = getD (f .vertical) j 0
-reportedSize f lashAthwart j = getD (f .athwart) j 0
+-- the reported size at an index, and the exact force there at the shifts Ds of the end's levels
+abbrev pub sizeAt : EndFigures → Kind → ℕ → ℕ
+sizeAt f k i = reportedSize (forceOf k) f (entryAt k i)
+
+abbrev pub exactAt : Rule → End → Sheet → List Frac → Kind → ℕ → Frac
+exactAt rule e t Ds k i = exactForce (forceOf k) rule e t Ds (entryAt k i)
 
 -- the limit there
 abbrev pub limitAt : End → Sheet → Kind → ℕ → ℕ
@@ -90,16 +89,6 @@ limitAt e t lashTension j = safeLoad (getD (lashesOf e t) j blankLash .material)
 limitAt e t lashVertical j = lashVerticalLimit
 limitAt e t lashAthwart j = lashAthwartLimit
 
--- the exact force there, at the shifts Ds of the end's levels
-abbrev pub exactForce : End → Sheet → List Frac → Kind → ℕ → Frac
-exactForce e t Ds racking i = S.racking (chainTiers e classShare (routeFactor t) (tiersOf t)) Ds (i - 1)
-exactForce e t Ds compression i = P.compression classShare (routeFactor t) (tiersOf t) (lashesOf e t) Ds i
-exactForce e t Ds cornerTension i = P.tension classShare (routeFactor t) (tiersOf t) (lashesOf e t) Ds i
-exactForce e t Ds lockTension i = P.tension classShare (routeFactor t) (tiersOf t) (lashesOf e t) Ds i
-exactForce e t Ds lashTension j = forceOf L.pull (lashesOf e t) Ds j
-exactForce e t Ds lashVertical j = forceOf L.verticalPart (lashesOf e t) Ds j
-exactForce e t Ds lashAthwart j = forceOf L.athwartPart (lashesOf e t) Ds j
-
 pub record Finding : Type 0 where
   pub end : ℕ
   pub kind : ℕ
@@ -109,7 +98,7 @@ pub record Finding : Type 0 where
 unfoldable pub findingsFrom : End → Sheet → EndFigures → Kind → ℕ → ℕ → List Finding
 findingsFrom e t f k i zero = []
 findingsFrom e t f k i (suc more) =
-    cond (ltb (limitAt e t k i) (reportedSize f k i))
+    cond (ltb (limitAt e t k i) (sizeAt f k i))
     (record { end = endCode e; kind = kindCode k; index = i } ∷ findingsFrom e t f k (suc i) more)
     (findingsFrom e t f k (suc i) more)
 

@@ -1,14 +1,16 @@
 -- Document 01, "The answer sheet": where each number of an answer lies, and what is read back from there. Entries are counted from 0.
 use mathlib.Core.Path.{_≡_}
 use mathlib.Core.List.{List, map}
-use Prim.Native.Nat.{ℕ, suc, _+_, _*_, _<_, _≤_}
-use lib.IntN.{ℤ, pos}
+use Prim.Native.Nat.{ℕ, suc, _+_, _*_, _<_}
+use lib.IntN.{ℤ, pos, natAbs}
 use lib.ListN.{getD, length}
 use Rattle.arith.specs.Bytes.{byteAt, le4, signed4}
 use Rattle.sheet.specs.declared.Sheet.{Sheet}
 use Rattle.statics.specs.declared.EndFigures.{EndFigures}
 use Rattle.statics.specs.declared.Figures.{Figures}
 use Rattle.sheet.specs.Ends.{End, door, closed, lashesOf}
+use Rattle.statics.specs.Forces.{Force, racking, compression, tension, lashTension, lashAthwart, lashVertical, entryCount}
+use Rattle.statics.specs.Reported.{reportedNumber}
 use Rattle.answer.specs.Findings.{Finding, figuresOf, findings, verdict}
 use Rattle.arith.specs.Lists.{below}
 
@@ -35,37 +37,41 @@ endPlace t closed = 1 + endSize t door
 abbrev pub findingsPlace : Sheet → ℕ
 findingsPlace t = 1 + endSize t door + endSize t closed
 
--- the sections of an end, and the forces that are read back from the bytes s
+-- an end's sections, each a count and entries of 4 bytes, those of a lash of 12: where the section of a force begins, how far its entries
+-- lie apart, and where in an entry it stands
 module _ (t : Sheet) (e : End) where
-  abbrev pub rackingsPlace : ℕ
-  rackingsPlace = endPlace t e
-
-  abbrev pub compressionsPlace : ℕ
-  compressionsPlace = rackingsPlace + sectionSize 4 (t .ntiers)
-
-  abbrev pub tensionsPlace : ℕ
-  tensionsPlace = compressionsPlace + sectionSize 4 (suc (t .ntiers))
-
   abbrev pub lashesPlace : ℕ
-  lashesPlace = tensionsPlace + sectionSize 4 (t .ntiers)
+  lashesPlace = endPlace t e + sectionSize 4 (t .ntiers) + sectionSize 4 (suc (t .ntiers)) + sectionSize 4 (t .ntiers)
 
-  abbrev pub rackingIn : List ℕ → ℕ → ℤ
-  rackingIn s i = signed4 s (entryPlace rackingsPlace 4 i)
+  abbrev pub sectionPlace : Force → ℕ
+  sectionPlace racking = endPlace t e
+  sectionPlace compression = endPlace t e + sectionSize 4 (t .ntiers)
+  sectionPlace tension = endPlace t e + sectionSize 4 (t .ntiers) + sectionSize 4 (suc (t .ntiers))
+  sectionPlace lashTension = lashesPlace
+  sectionPlace lashAthwart = lashesPlace
+  sectionPlace lashVertical = lashesPlace
 
-  abbrev pub compressionIn : List ℕ → ℕ → ℕ
-  compressionIn s i = le4 s (entryPlace compressionsPlace 4 i)
+abbrev pub stride : Force → ℕ
+stride racking = 4
+stride compression = 4
+stride tension = 4
+stride lashTension = 12
+stride lashAthwart = 12
+stride lashVertical = 12
 
-  abbrev pub tensionIn : List ℕ → ℕ → ℕ
-  tensionIn s i = le4 s (entryPlace tensionsPlace 4 i)
+abbrev pub offset : Force → ℕ
+offset lashAthwart = 4
+offset lashVertical = 8
+offset x = 0
 
-  abbrev pub pullIn : List ℕ → ℕ → ℕ
-  pullIn s j = le4 s (entryPlace lashesPlace 12 j)
+-- a number of an answer's bytes: racking in two's complement
+abbrev pub numberIn : Force → List ℕ → ℕ → ℤ
+numberIn racking s at = signed4 s at
+numberIn x s at = pos (le4 s at)
 
-  abbrev pub athwartIn : List ℕ → ℕ → ℕ
-  athwartIn s j = le4 s (entryPlace lashesPlace 12 j + 4)
-
-  abbrev pub verticalIn : List ℕ → ℕ → ℕ
-  verticalIn s j = le4 s (entryPlace lashesPlace 12 j + 8)
+-- the force that is read back from the bytes s
+abbrev pub forceIn : Sheet → End → List ℕ → Force → ℕ → ℤ
+forceIn t e s x i = numberIn x s (entryPlace (sectionPlace t e x) (stride x) i + offset x)
 
 -- finding k
 abbrev pub findingIn : Sheet → List ℕ → ℕ → Finding
@@ -81,16 +87,8 @@ noFinding = record { end = 0; kind = 0; index = 0 }
 
 -- the counts of an end and its figures f, read back from the bytes s
 pub record EndReadBack (t : Sheet) (e : End) (f : EndFigures) (s : List ℕ) : Type 0 where
-  pub rackings : byteAt s (rackingsPlace t e) ≡ t .ntiers
-  pub racking : (i : ℕ) → i < t .ntiers → rackingIn t e s i ≡ getD (f .racking) i (pos 0)
-  pub compressions : byteAt s (compressionsPlace t e) ≡ suc (t .ntiers)
-  pub compression : (i : ℕ) → i ≤ t .ntiers → compressionIn t e s i ≡ getD (f .compression) i 0
-  pub tensions : byteAt s (tensionsPlace t e) ≡ t .ntiers
-  pub tension : (i : ℕ) → i < t .ntiers → tensionIn t e s i ≡ getD (f .tension) i 0
-  pub lashes : byteAt s (lashesPlace t e) ≡ length (lashesOf e t)
-  pub pull : (j : ℕ) → j < length (lashesOf e t) → pullIn t e s j ≡ getD (f .pull) j 0
-  pub athwart : (j : ℕ) → j < length (lashesOf e t) → athwartIn t e s j ≡ getD (f .athwart) j 0
-  pub vertical : (j : ℕ) → j < length (lashesOf e t) → verticalIn t e s j ≡ getD (f .vertical) j 0
+  pub counts : (x : Force) → byteAt s (sectionPlace t e x) ≡ entryCount x e t
+  pub forces : (x : Force) (i : ℕ) → i < entryCount x e t → forceIn t e s x i ≡ reportedNumber x f i
 
 -- all numbers of an answer
 pub record ReadBack (t : Sheet) (f : Figures) (s : List ℕ) : Type 0 where
@@ -100,15 +98,18 @@ pub record ReadBack (t : Sheet) (f : Figures) (s : List ℕ) : Type 0 where
   pub finding : (k : ℕ) → k < length (findings t f) → findingIn t s k ≡ getD (findings t f) k noFinding
 
 -- the reported forces: the figures that are read back
+abbrev pub sizesIn : Sheet → End → List ℕ → Force → List ℕ
+sizesIn t e s x = map (λ i. natAbs (forceIn t e s x i)) (below (entryCount x e t))
+
 abbrev pub reportedIn : Sheet → End → List ℕ → EndFigures
 reportedIn t e s =
     record {
-      racking = map (rackingIn t e s) (below (t .ntiers));
-      compression = map (compressionIn t e s) (below (suc (t .ntiers)));
-      tension = map (tensionIn t e s) (below (t .ntiers));
-      pull = map (pullIn t e s) (below (length (lashesOf e t)));
-      athwart = map (athwartIn t e s) (below (length (lashesOf e t)));
-      vertical = map (verticalIn t e s) (below (length (lashesOf e t)));
+      racking = map (forceIn t e s racking) (below (t .ntiers));
+      compression = sizesIn t e s compression;
+      tension = sizesIn t e s tension;
+      pull = sizesIn t e s lashTension;
+      athwart = sizesIn t e s lashAthwart;
+      vertical = sizesIn t e s lashVertical;
     }
 
 abbrev pub figuresIn : Sheet → List ℕ → Figures

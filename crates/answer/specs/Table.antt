@@ -10,13 +10,13 @@ use Rattle.sheet.specs.declared.Lash.{Lash}
 use Rattle.sheet.specs.declared.Sheet.{Sheet}
 use Rattle.sheet.specs.Layout.{blankTier, blankLash}
 use Rattle.arith.specs.Lists.{padded}
-use Rattle.statics.specs.Loads.{transverse, wind, classShare}
+use Rattle.statics.specs.Loads.{transverse, wind, classRule}
 use Rattle.statics.specs.Lashes.{lashLength, athwartPart}
-use Rattle.statics.specs.Ends.{chainTiers, routeFactor, EndSolved}
+use Rattle.statics.specs.Ends.{endTiers, EndSolved}
+use Rattle.statics.specs.Theorems.{OneSolution}
 use Rattle.sheet.specs.Ends.{door, tiersOf, lashesOf}
 use Rattle.statics.specs.Posts.{moment, tension}
 use Rattle.answer.specs.Limits.{safeLoad}
-use Rattle.answer.specs.Checked.{OneSolution}
 
 -- box B: 40 ft, 2591 mm, A_T 500, A_Vmax 1,500, A_Vmin 800, sheltered; of 20,000 kg where no other mass is named
 abbrev pub boxOf : ℕ → Tier
@@ -66,7 +66,7 @@ heldAbove = sheetWith 0 (boxB ∷ boxOf 2000 ∷ []) (rodS 2 ∷ [])
 
 -- the tiers of a sheet's door end, each with its spring and its load Q
 abbrev pub doorTiers : Sheet → List S.Tier
-doorTiers t = chainTiers door classShare (routeFactor t) (tiersOf t)
+doorTiers t = endTiers (classRule t) door t
 
 -- Q of tier 1
 abbrev pub lowestLoad : Sheet → Frac
@@ -76,17 +76,17 @@ pub record Table : Type 0 where
   pub stiffness-S : athwartPart (rodS 1) (nat 1) ≈ nat 7200
   pub a : lowestLoad alone ≈ nat 220725 /q nat 10
   pub b : lowestLoad pair ≈ nat 711225 /q nat 10
-  pub c-moment : (Ds : List Frac) → moment classShare (routeFactor alone) (tiersOf alone) (lashesOf door alone) Ds 0 ≈ nat 571898475 /q nat 10
-  pub c-tension : (Ds : List Frac) → tension classShare (routeFactor alone) (tiersOf alone) (lashesOf door alone) Ds 0 ≈ nat 0
-  pub d-one : OneSolution door held
-  pub d : (Ds : List Frac) → EndSolved door held Ds → S.shift Ds 1 ≈ nat 220725 /q nat 10 /q nat 10930
-  pub e-one : OneSolution door heldAbove
-  pub e-shift : (Ds : List Frac) → EndSolved door heldAbove Ds → S.shift Ds 2 ≈ nat 2918475 /q nat 100 /q nat 18130
-  pub e-racking : (Ds : List Frac) → EndSolved door heldAbove Ds → S.racking (doorTiers heldAbove) Ds 1 ⊏ nat 0
+  pub c-moment : (Ds : List Frac) → moment (classRule alone) (tiersOf alone) (lashesOf door alone) Ds 0 ≈ nat 571898475 /q nat 10
+  pub c-tension : (Ds : List Frac) → tension (classRule alone) (tiersOf alone) (lashesOf door alone) Ds 0 ≈ nat 0
+  pub d-one : OneSolution (classRule held) door held
+  pub d : (Ds : List Frac) → EndSolved (classRule held) door held Ds → S.shift Ds 1 ≈ nat 220725 /q nat 10 /q nat 10930
+  pub e-one : OneSolution (classRule heldAbove) door heldAbove
+  pub e-shift : (Ds : List Frac) → EndSolved (classRule heldAbove) door heldAbove Ds → S.shift Ds 2 ≈ nat 2918475 /q nat 100 /q nat 18130
+  pub e-racking : (Ds : List Frac) → EndSolved (classRule heldAbove) door heldAbove Ds → S.racking (doorTiers heldAbove) Ds 1 ⊏ nat 0
   pub f : safeLoad 1 490000 ≡ 293413
   pub g : safeLoad 1 500000 ≡ 299401
   pub h : lashLength (rodS 1) ≡ 3250
   pub h-wider : lashLength (rodOf 1 1) ≡ 3251
   pub i-forty : wind (exposedBox 40 2896) ≈ nat 1906633728 /q nat 100000
   pub i-twenty : wind (exposedBox 20 2591) ≈ nat 847599012 /q nat 100000
-  pub j : transverse (routeFactor (sheetWith 7 (boxB ∷ []) [])) boxB ≈ nat 358065 /q nat 10
+  pub j : transverse (classRule (sheetWith 7 (boxB ∷ []) []) .factor) boxB ≈ nat 358065 /q nat 10

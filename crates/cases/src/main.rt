@@ -13,7 +13,7 @@ mod layout; // layout.rt: where the parts of a case stand
 mod space; // space.rt: the answer buffer, filled before each case
 
 ghost use lib.ListN.{length};
-ghost use Rattle.cases.specs.Places.{Placed};
+ghost use Rattle.cases.specs.inner.Places.{Placed};
 use answer::Outcome;
 use fields::Held;
 use layout::Case;

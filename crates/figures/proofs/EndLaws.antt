@@ -24,7 +24,8 @@ use Rattle.sheet.specs.inner.Limits.{LashLimits, SheetLimits}
 use Rattle.statics.specs.declared.LoadRule.{LoadRule}
 use Rattle.statics.specs.Ends.{springOf}
 use Rattle.sheet.specs.Ends.{End, door, closed, tiersOf, lashesOf}
-use Rattle.statics.specs.inner.WholeNumbers.{Filled, levelStiffness, upward, upwards, leePart, windwardPart, rackingPart, rackingFigure, momentPart, compressionFigure, tensionFigure, pullFigure, athwartFigure, verticalFigure}
+use Rattle.statics.specs.inner.WholeNumbers.{Filled, levelStiffness, upward, upwards, leePart, windwardPart, rackingPart, rackingFigure}
+use Rattle.statics.specs.inner.WholeNumbers.{momentPart, compressionFigure, tensionFigure, pullFigure, athwartFigure, verticalFigure}
 use Rattle.statics.specs.inner.Computed.{springsOf, stiffnessesOf, figuresAt}
 use Rattle.figures.specs.inner.Ends.{Loaded, Weighed, Workable}
 use Rattle.figures_levels.specs.inner.Levels.{total, Measured, Levelled}
@@ -50,12 +51,17 @@ level-split i h x =
     ]
 
 module _ (v : Lash → ℕ) where
-  tally-split : (i : ℕ) (ls : List Lash) → tally (λ l. leb i (levelOf l)) v ls ≡ tally (λ l. eqb i (levelOf l)) v ls + tally (λ l. leb (suc i) (levelOf l)) v ls
+  tally-split :
+      (i : ℕ) (ls : List Lash) →
+      tally (λ l. leb i (levelOf l)) v ls ≡ tally (λ l. eqb i (levelOf l)) v ls + tally (λ l. leb (suc i) (levelOf l)) v ls
   unfolding tally
   tally-split i [] = refl
   tally-split i (l ∷ ls) = omega (arith, level-split i (levelOf l) (v l), tally-split i ls)
 
-  tally-over : (n : ℕ) (ls : List Lash) → ((j : ℕ) → j < length ls → levelOf (getD ls j blankLash) ≤ n) → tally (λ l. leb (suc n) (levelOf l)) v ls ≡ 0
+  tally-over :
+      (n : ℕ) (ls : List Lash) →
+      ((j : ℕ) → j < length ls → levelOf (getD ls j blankLash) ≤ n) →
+      tally (λ l. leb (suc n) (levelOf l)) v ls ≡ 0
   unfolding tally
   tally-over n [] h = refl
   tally-over n (l ∷ ls) h =
@@ -144,12 +150,16 @@ module _ {n : ℕ} {k : List ℕ} {ts : List Tier} {m : ℕ} {ls : List Lash} {�
       rw (
         filled-padded (λ i. rackingFigure (rackingPart (getD k i 0) d i)) (pos 0) 10 n racking (h .few) (l .racking-is),
         filled-padded (compressionFigure k ts ls d) 0 11 (suc n) compression (omega (arith, h .few))
-        (refilled (λ i q. rw (h .weighed .vmax-is i, lees i (omega arith), windwards i (omega arith)) refl) (l .compression-is)),
+            (refilled (λ i q. rw (h .weighed .vmax-is i, lees i (omega arith), windwards i (omega arith)) refl) (l .compression-is)),
         filled-padded (tensionFigure k ts ls d) 0 10 n tension (h .few)
-        (refilled (λ i q. rw (h .weighed .vmin-is i, lees (suc i) (omega arith), windwards (suc i) (omega arith)) refl) (l .tension-is)),
-        filled-padded (λ j. pullFigure d (getD ls j blankLash)) 0 8 (length ls) lash-tension (omega (arith, h .few-lashes)) (rw counted (u .pull-is)),
-        filled-padded (λ j. athwartFigure d (getD ls j blankLash)) 0 8 (length ls) athwart (omega (arith, h .few-lashes)) (rw counted (u .athwart-is)),
-        filled-padded (λ j. verticalFigure d (getD ls j blankLash)) 0 8 (length ls) vertical (omega (arith, h .few-lashes)) (rw counted (u .vertical-is)),
+            (refilled (λ i q. rw (h .weighed .vmin-is i, lees (suc i) (omega arith), windwards (suc i) (omega arith)) refl)
+            (l .tension-is)),
+        filled-padded (λ j. pullFigure d (getD ls j blankLash)) 0 8 (length ls) lash-tension (omega (arith, h .few-lashes))
+            (rw counted (u .pull-is)),
+        filled-padded (λ j. athwartFigure d (getD ls j blankLash)) 0 8 (length ls) athwart (omega (arith, h .few-lashes))
+            (rw counted (u .athwart-is)),
+        filled-padded (λ j. verticalFigure d (getD ls j blankLash)) 0 8 (length ls) vertical (omega (arith, h .few-lashes))
+            (rw counted (u .vertical-is)),
       ) refl
     where
       under : (j : ℕ) → j < length ls → levelOf (getD ls j blankLash) ≤ n

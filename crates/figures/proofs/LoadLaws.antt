@@ -78,11 +78,22 @@ module _ {rule : LoadRule} {n : ℕ} {ts : List Tier} where
         wind-small = hg;
       }
 
-  pub loaded-all : {loads : List ℕ} {p g i : ℕ} → length ts ≡ n → n ≤ 10 → i ≤ 0 → LoadedDown rule n ts loads p g i → loads ≡ loadsOf rule ts
+  pub loaded-all :
+      {loads : List ℕ} {p g i : ℕ} →
+      length ts ≡ n →
+      n ≤ 10 →
+      i ≤ 0 →
+      LoadedDown rule n ts loads p g i →
+      loads ≡ loadsOf rule ts
   unfolding loadsOf
   loaded-all {loads} {i = i} stacked few low s =
-      filled-padded (λ j. levelLoad (rule .share) (rule .factor) (getD ts j blankTier) (getD ts (suc j) blankTier)) 0 10 (length ts) loads (omega arith)
-      (record { long = s .loaded .long; each = λ j h. s .loaded .each j (omega arith) (omega arith) .0; rest = λ j h. s .loaded .rest j (omega arith) })
+      filled-padded (λ j. levelLoad (rule .share) (rule .factor) (getD ts j blankTier) (getD ts (suc j) blankTier)) 0 10 (length ts) loads
+      (omega arith)
+      (record {
+        long = s .loaded .long;
+        each = λ j h. s .loaded .each j (omega arith) (omega arith) .0;
+        rest = λ j h. s .loaded .rest j (omega arith);
+      })
 
 abbrev Weight : (Tier → ℕ) → List Tier → ℕ → ℕ → Type 0
 Weight acceleration ts j x = (x ≡ halfWeight acceleration ts j) × (x ≤ 2 ^ 40)
@@ -94,7 +105,11 @@ pub record Carried (acceleration : Tier → ℕ) (n : ℕ) (ts : List Tier) (wei
   pub sum-is : sum ≡ verticalUnits acceleration (drop i ts)
   pub sum-small : sum ≤ (n - i) * (30480 * 3000)
 
-units-peel : (acceleration : Tier → ℕ) (ts : List Tier) (i : ℕ) → i < length ts → verticalUnits acceleration (drop i ts) ≡ verticalUnits acceleration (drop (suc i) ts) + getD ts i blankTier .mass * acceleration (getD ts i blankTier)
+units-peel :
+    (acceleration : Tier → ℕ) (ts : List Tier) (i : ℕ) →
+    i < length ts →
+    verticalUnits acceleration (drop i ts) ≡
+    verticalUnits acceleration (drop (suc i) ts) + getD ts i blankTier .mass * acceleration (getD ts i blankTier)
 unfolding verticalUnits
 units-peel acceleration ts i h = rw (drop-cons ts i blankTier h) (omega arith)
 
@@ -139,7 +154,12 @@ module _ {acceleration : Tier → ℕ} {n : ℕ} {ts : List Tier} (stacked : len
       }
 
   -- at every level
-  pub carried-all : {weights : List ℕ} {sum i : ℕ} → i ≤ 0 → Carried acceleration n ts weights sum i → (j : ℕ) → Weight acceleration ts j (getD weights j 0)
+  pub carried-all :
+      {weights : List ℕ} {sum i : ℕ} →
+      i ≤ 0 →
+      Carried acceleration n ts weights sum i →
+      (j : ℕ) →
+      Weight acceleration ts j (getD weights j 0)
   unfolding halfWeight
   carried-all h s j =
       elim (decLt j n) [

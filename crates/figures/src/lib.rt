@@ -37,7 +37,8 @@ fn end_figures(
 ) -> EndFigures
     requires { ⌜ Workable n (now k) (take n tiers) m (take m lashes) (now loads) (now vmax) (now vmin) ⌝ }
     requires { ⌜ (length (now k) ≡ 10) × (length (now loads) ≡ 10) × (length (now vmax) ≡ 11) × (length (now vmin) ≡ 11) ⌝ }
-    ensures { λ r. ⌜ r ≡ figuresAt n (now (k .entry)) (take n tiers) (take m lashes) (solved n (now (k .entry)) (stiffnessesOf (take m lashes)) (now (loads .entry))) ⌝ }
+    ensures { λ r. ⌜ r ≡ figuresAt n (now (k .entry)) (take n tiers) (take m lashes)
+        (solved n (now (k .entry)) (stiffnessesOf (take m lashes)) (now (loads .entry))) ⌝ }
 {
     let mut lengths = [0u64; 8];
     let mut stiffnesses = [0u64; 8];

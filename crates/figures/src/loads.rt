@@ -49,7 +49,8 @@ struct TierLoad {
 
 fn tier_load(t: Tier) -> TierLoad
     requires { ⌜ TierLimits t ⌝ }
-    ensures { λ r. ⌜ (r .transverse ≡ transverseUnits t) × (r .transverse ≤ 30480 * 1500) × (r .wind ≡ windUnits t) × (r .wind ≤ 27 * 12192 * 2896) ⌝ }
+    ensures { λ r. ⌜ (r .transverse ≡ transverseUnits t) × (r .transverse ≤ 30480 * 1500)
+        × (r .wind ≡ windUnits t) × (r .wind ≤ 27 * 12192 * 2896) ⌝ }
 {
     TierLoad {
         transverse: (t.mass as u64) * (t.aT as u64),
@@ -62,7 +63,8 @@ fn level_load(share: u64, factor: u64, tier: TierLoad, over: TierLoad) -> u64
     requires { ⌜ (share ≤ 20) × (factor ≤ 1000) ⌝ }
     requires { ⌜ (tier .transverse ≤ 30480 * 1500) × (tier .wind ≤ 27 * 12192 * 2896) ⌝ }
     requires { ⌜ (over .transverse ≤ 30480 * 1500) × (over .wind ≤ 27 * 12192 * 2896) ⌝ }
-    ensures { λ r. ⌜ (r ≡ (981 * factor * (share * tier .transverse + (20 - share) * over .transverse) + 40000 * (tier .wind + over .wind)) * 2 ^ 28 / 4000000000) × (r ≤ 2 ^ 46) ⌝ }
+    ensures { λ r. ⌜ (r ≡ (981 * factor * (share * tier .transverse + (20 - share) * over .transverse) + 40000 * (tier .wind + over .wind))
+        * 2 ^ 28 / 4000000000) × (r ≤ 2 ^ 46) ⌝ }
 {
     let shared = share * tier.transverse + (20 - share) * over.transverse;
     scaled(
@@ -102,7 +104,10 @@ pub fn loads_of(
     requires { ⌜ (now loads ≡ replicate 10 0) × (now vmax ≡ replicate 11 0) × (now vmin ≡ replicate 11 0) ⌝ }
     ensures { λ _. ⌜ Loaded rule n (take n tiers) (now (loads .exit)) × Weighed (take n tiers) (now (vmax .exit)) (now (vmin .exit)) ⌝ }
 {
-    let mut over = TierLoad { transverse: 0, wind: 0 };
+    let mut over = TierLoad {
+        transverse: 0,
+        wind: 0,
+    };
     let mut vmax_units = 0;
     let mut vmin_units = 0;
     let mut i = n;

@@ -1,9 +1,9 @@
--- The summed bound of elimination in whole numbers, for any tier count and any springs, lashes and loads: each level's residual by the remainders of
--- its divisions and the rounding of its inputs (Residuals), then stability (Stability).
-use mathlib.Core.Path.{_≡_, refl, sym, ap, ap₂, subst, fun-ext, _∙_}
+-- The summed bound of elimination in whole numbers, for any tier count and any springs, lashes and loads: each level's residual by the
+-- remainders of its divisions and the rounding of its inputs (Residuals), then stability (Stability).
+use mathlib.Core.Path.{_≡_, sym, ap, ap₂, subst, fun-ext, _∙_}
 use mathlib.Core.Bool.{cond}
 use mathlib.Core.List.{List}
-use Prim.Native.Nat.{ℕ, zero, suc, _+_, _*_, _-_, _≤_, _<_, _^_, max}
+use Prim.Native.Nat.{ℕ, zero, suc, _+_, _*_, _-_, _≤_, _<_, max}
 use native.Mathlib.Omega.{arith}
 use native.Mathlib.Decide.{decLe}
 use lib.Dec.{lit<}
@@ -15,7 +15,24 @@ use Rattle.arith.specs.Lists.{from, below}
 use Rattle.arith.proofs.Polynomials.{v, kp, _⊕_, _⊖_, _⊗_, ⊖_}
 use Rattle.arith.proofs.Rings.{∀₁, ∀₃, ∀₄, ∀₁₂, by-ring, by-cert, to, times, num, _⊞_, _⊠_}
 use Rattle.arith.proofs.Rationals.{
-  ℚR, ℚ, mk, _+ℚ_, _-ℚ_, _*ℚ_, negℚ, _/ℚ_, recipℚ, absℚ, _≤ℚ_, _<ℚ_, nn-int, int-plus, int-times, recip-times, recip-nn, to-⊑,
+  ℚR,
+  ℚ,
+  mk,
+  _+ℚ_,
+  _-ℚ_,
+  _*ℚ_,
+  negℚ,
+  _/ℚ_,
+  recipℚ,
+  absℚ,
+  _≤ℚ_,
+  _<ℚ_,
+  nn-int,
+  int-plus,
+  int-times,
+  recip-times,
+  recip-nn,
+  to-⊑,
 }
 use Rattle.arith.proofs.RationalTerms.{qq}
 use Rattle.arith.proofs.Signs.{on, same-le}
@@ -24,12 +41,13 @@ use Rattle.arith.proofs.FractionsInRationals.{sumℚ, mk-int, mk-div, mk-sum, o
 use Rattle.springs.specs.Equations.{Tier, Lash, tierAt, shift, stiffnessAt, loadAt, racking, Solves}
 use Rattle.springs.specs.Promise.{stiffnessScale, loadScale, shiftScale, Near}
 use Rattle.springs.specs.inner.Elimination.{divisor, shiftUp}
-use Rattle.springs.specs.inner.Bound.{springAt, levelError, summedError, shiftBy, Bounded, SummedBound}
+use Rattle.springs.specs.inner.Bound.{springAt, levelError, summedError, shiftBy, SummedBound}
 use Rattle.springs.proofs.Chain.{natℚ, force, load}
 use Rattle.springs.proofs.Levels.{springs, lashes, loads, shifts, mk-stiffness, mk-load, mk-racking, no-spring, spring-pos}
 use Rattle.springs.proofs.Stability.{lash-errors, racking-errors, mk-errors}
 use Rattle.springs.proofs.Inputs.{rounded-low, rounded-high}
-use Rattle.springs.proofs.Recursion.{x, y, d, stiffness-top, load-top, stiffness-step, load-step, shift-deck, shift-step, shift-behind}
+use Rattle.springs.proofs.Recursion.{x, y, d, stiffness-top, load-top, stiffness-step, load-step, shift-deck, shift-step}
+use Rattle.springs.proofs.Recursion.{shift-behind}
 use Rattle.springs.proofs.Residuals.{Handed, handed, handed-none, balance-low, balance-high}
 
 -- m x is at most b in size
@@ -44,8 +62,8 @@ S = natℚ stiffnessScale
 abbrev pub unit : ℕ
 unit = stiffnessScale * shiftScale
 
--- K and L the springs under and over a level, k its lashes and κ theirs as found, q its load and ω it as found; f₀ f₁ f₂ the shifts found under it,
--- of it and over it, p d e the same in units
+-- K and L the springs under and over a level, k its lashes and κ theirs as found, q its load and ω it as found; f₀ f₁ f₂ the shifts found
+-- under it, of it and over it, p d e the same in units
 high-law :
     (K L k κ ω q f₀ f₁ f₂ p d e : ℚ) →
     natℚ shiftScale *ℚ f₀ ≡ p →
@@ -202,12 +220,14 @@ module _ (n : ℕ) (k κ ω : List ℕ) where
       low : negℚ (natℚ c +ℚ S) ≤ℚ G i
       low =
           rw (← (spring i l), ← (shift-step n k κ ω i l)) at
-          (balance-low (getD k i 0) (getD κ i 0) (getD ω i 0) (xs (suc i)) (ys (suc i)) (ds i) (stiff i l) (force (springs ts) units (suc i)) (springs ts (suc i)) handed-up)
+          (balance-low (getD k i 0) (getD κ i 0) (getD ω i 0) (xs (suc i)) (ys (suc i)) (ds i) (stiff i l)
+          (force (springs ts) units (suc i)) (springs ts (suc i)) handed-up)
 
       high : G i ≤ℚ units (suc i) +ℚ S *ℚ springs ts (suc i)
       high =
           rw (← (spring i l), ← (shift-step n k κ ω i l)) at
-          (balance-high (getD k i 0) (getD κ i 0) (getD ω i 0) (xs (suc i)) (ys (suc i)) (ds i) (stiff i l) (force (springs ts) units (suc i)) (springs ts (suc i)) handed-up)
+          (balance-high (getD k i 0) (getD κ i 0) (getD ω i 0) (xs (suc i)) (ys (suc i)) (ds i) (stiff i l)
+          (force (springs ts) units (suc i)) (springs ts (suc i)) handed-up)
 
       -- what level i + 1 is out of balance by under the shifts found
       abbrev out : ℚ
@@ -233,7 +253,8 @@ module _ (n : ℕ) (k κ ω : List ℕ) where
           (f-is (suc i))
           (f-is (suc (suc i)))
           high
-          (subst (λ z. S *ℚ z ≤ℚ kq +ℚ natℚ 4) (mk-stiffness ls (suc i)) (rounded-high stiffnessScale 4 (getD κ i 0) (stiffnessAt ls (suc i)) (near .held i l)))
+          (subst (λ z. S *ℚ z ≤ℚ kq +ℚ natℚ 4) (mk-stiffness ls (suc i))
+          (rounded-high stiffnessScale 4 (getD κ i 0) (stiffnessAt ls (suc i)) (near .held i l)))
           (subst (λ z. oq ≤ℚ natℚ loadScale *ℚ z) (mk-load ts i) (rounded-low loadScale 4 (getD ω i 0) (loadAt ts i) (near .loaded i l)))
           (nn-int (ds (suc i))))
         where
@@ -252,8 +273,10 @@ module _ (n : ℕ) (k κ ω : List ℕ) where
           (f-is i)
           (f-is (suc i))
           (f-is (suc (suc i)))
-          (subst (λ z. kq ≤ℚ S *ℚ z) (mk-stiffness ls (suc i)) (rounded-low stiffnessScale 4 (getD κ i 0) (stiffnessAt ls (suc i)) (near .held i l)))
-          (subst (λ z. natℚ loadScale *ℚ z ≤ℚ oq +ℚ natℚ 4) (mk-load ts i) (rounded-high loadScale 4 (getD ω i 0) (loadAt ts i) (near .loaded i l)))
+          (subst (λ z. kq ≤ℚ S *ℚ z) (mk-stiffness ls (suc i))
+          (rounded-low stiffnessScale 4 (getD κ i 0) (stiffnessAt ls (suc i)) (near .held i l)))
+          (subst (λ z. natℚ loadScale *ℚ z ≤ℚ oq +ℚ natℚ 4) (mk-load ts i)
+          (rounded-high loadScale 4 (getD ω i 0) (loadAt ts i) (near .loaded i l)))
           (nn-int (ds (suc i)))))
         where
           less : (a c g : ℚ) → negℚ (c +ℚ S) ≤ℚ g → a ≤ℚ natℚ (4 * stiffnessScale) -ℚ g → a ≤ℚ c +ℚ natℚ (5 * stiffnessScale)
@@ -278,7 +301,8 @@ module _ (n : ℕ) (k κ ω : List ℕ) where
         none : natℚ unit *ℚ natℚ 0 ≤ℚ natℚ 0
         none = simp qq (nn-int 0)
     levels i (suc m) b =
-        both (size i) (sumℚ size (from (suc i) m)) (errors i) (sumℚ errors (from (suc i) m)) (level i (omega arith)) (levels (suc i) m (omega arith))
+        both (size i) (sumℚ size (from (suc i) m)) (errors i) (sumℚ errors (from (suc i) m)) (level i (omega arith))
+        (levels (suc i) m (omega arith))
       where
         both : (a s b t : ℚ) → natℚ unit *ℚ a ≤ℚ b → natℚ unit *ℚ s ≤ℚ t → natℚ unit *ℚ (a +ℚ s) ≤ℚ b +ℚ t
         both = ∀₄ ℚR _ λ ρ. simp qq λ h l. by-cert (to h ⊞ to l) tt
@@ -300,7 +324,8 @@ module _ (n : ℕ) (k κ ω : List ℕ) where
           (≤ℚ-trans (sumℚ (λ l. mk (l .stiffness) *ℚ absℚ (f (l .level) -ℚ shifts Ds (l .level))) ls)
           (sumℚ size (below (length ts)))
           (mk (summedError n k κ ω))
-          (lash-errors ts ls Ds (near .stiff) sol f (no-f 0 (shift-deck n k κ ω)) (λ j b. no-f j (shift-behind n k κ ω j (omega (arith, near .tiers)))))
+          (lash-errors ts ls Ds (near .stiff) sol f (no-f 0 (shift-deck n k κ ω))
+          (λ j b. no-f j (shift-behind n k κ ω j (omega (arith, near .tiers)))))
           summed))
 
       racking-bound :
@@ -320,4 +345,7 @@ module _ (n : ℕ) (k κ ω : List ℕ) where
           one K a b r = simp toℚ
 
 pub summed-bound : SummedBound
-summed-bound n k κ ω ts ls Ds near sol = record { lashes = lash-bound n k κ ω ts ls near Ds sol; rackings = racking-bound n k κ ω ts ls near Ds sol }
+summed-bound n k κ ω ts ls Ds near sol = record {
+  lashes = lash-bound n k κ ω ts ls near Ds sol;
+  rackings = racking-bound n k κ ω ts ls near Ds sol;
+}

@@ -7,7 +7,7 @@ use native.Mathlib.Decide.{ℕ-discrete, decLe}
 use lib.ListN.{getD, length, set, replicate, length-set}
 use lib.Seq.{getD-set-same, getD-set-other}
 use Rattle.springs.specs.Promise.{farthest, Solvable}
-use Rattle.springs.specs.inner.Elimination.{stiffnessDown, loadDown, shiftUp, solved, InRange, mostLoad, HandedDown}
+use Rattle.springs.specs.inner.Elimination.{stiffnessDown, loadDown, shiftUp, solved, InRange, mostLoadTogether, HandedDown}
 use Rattle.springs.proofs.Recursion as R
 use Rattle.springs.proofs.Ranges.{in-range, load-in-range, far-at}
 
@@ -54,7 +54,7 @@ module _ (n : ℕ) (k κ ω x y : List ℕ) (i j : ℕ) (next : i ≡ suc j) (s 
   given-y : getD y i 0 ≡ R.y n k κ ω (suc j)
   given-y = d .done .load i (omega arith) (d .within) ∙ ap (R.y n k κ ω) next
 
-  pub down-ready : InRange (getD k j 0) (getD κ j 0) (getD x i 0) × (getD ω j 0 + getD y i 0 ≤ mostLoad)
+  pub down-ready : InRange (getD k j 0) (getD κ j 0) (getD x i 0) × (getD ω j 0 + getD y i 0 ≤ mostLoadTogether)
   down-ready =
       let l : j < n = omega (arith, d .within) in
       rw (given-x, given-y) (in-range n k κ ω s j l, load-in-range n k κ ω s j l)
@@ -118,39 +118,39 @@ module _
     (h : HandedDown 1 n k κ ω x y)
     (t : Up n k κ ω d i)
   where
-  taken-x : getD x j 0 ≡ R.x n k κ ω (suc i)
-  taken-x = h .stiffness j (omega arith) (omega arith) ∙ ap (R.x n k κ ω) next
+    taken-x : getD x j 0 ≡ R.x n k κ ω (suc i)
+    taken-x = h .stiffness j (omega arith) (omega arith) ∙ ap (R.x n k κ ω) next
 
-  taken-y : getD y j 0 ≡ R.y n k κ ω (suc i)
-  taken-y = h .load j (omega arith) (omega arith) ∙ ap (R.y n k κ ω) next
+    taken-y : getD y j 0 ≡ R.y n k κ ω (suc i)
+    taken-y = h .load j (omega arith) (omega arith) ∙ ap (R.y n k κ ω) next
 
-  under : getD d i 0 ≡ R.d n k κ ω i
-  under = t .done i (omega arith)
+    under : getD d i 0 ≡ R.d n k κ ω i
+    under = t .done i (omega arith)
 
-  pub up-ready : InRange (getD k i 0) (getD κ i 0) (getD x j 0) × (getD ω i 0 + getD y j 0 ≤ mostLoad) × (getD d i 0 ≤ farthest)
-  up-ready = rw (taken-x, taken-y, under) (in-range n k κ ω s i inside, load-in-range n k κ ω s i inside, far-at n k κ ω s i)
+    pub up-ready : InRange (getD k i 0) (getD κ i 0) (getD x j 0) × (getD ω i 0 + getD y j 0 ≤ mostLoadTogether) × (getD d i 0 ≤ farthest)
+    up-ready = rw (taken-x, taken-y, under) (in-range n k κ ω s i inside, load-in-range n k κ ω s i inside, far-at n k κ ω s i)
 
-  pub up-next :
-      (u : ℕ) →
-      u ≡ shiftUp (getD k i 0) (getD κ i 0) (getD ω i 0) (getD x j 0) (getD y j 0) (getD d i 0) →
-      Up n k κ ω (set d j u) j
-  up-next u e = record {
-    within = omega arith;
-    long = length-set d j u ∙ t .long;
-    done = λ m b. done m b (ℕ-discrete m j);
-    rest = λ m b. getD-set-other d j m u 0 (λ z. omega arith) ∙ t .rest m (omega arith);
-  }
-    where
-      here : u ≡ R.d n k κ ω j
-      here =
-          e
-          ∙ rw (taken-x, taken-y, under) (sym (R.shift-step n k κ ω i inside))
-          ∙ ap (R.d n k κ ω) (sym next)
+    pub up-next :
+        (u : ℕ) →
+        u ≡ shiftUp (getD k i 0) (getD κ i 0) (getD ω i 0) (getD x j 0) (getD y j 0) (getD d i 0) →
+        Up n k κ ω (set d j u) j
+    up-next u e = record {
+      within = omega arith;
+      long = length-set d j u ∙ t .long;
+      done = λ m b. done m b (ℕ-discrete m j);
+      rest = λ m b. getD-set-other d j m u 0 (λ z. omega arith) ∙ t .rest m (omega arith);
+    }
+      where
+        here : u ≡ R.d n k κ ω j
+        here =
+            e
+            ∙ rw (taken-x, taken-y, under) (sym (R.shift-step n k κ ω i inside))
+            ∙ ap (R.d n k κ ω) (sym next)
 
-      done : (m : ℕ) → m ≤ j → Dec (m ≡ j) → getD (set d j u) m 0 ≡ R.d n k κ ω m
-      done m b (yes z) =
-          subst (λ (a : ℕ). getD (set d j u) a 0 ≡ R.d n k κ ω a) (sym z) (getD-set-same d j u 0 (omega (arith, t .long, s .few)) ∙ here)
-      done m b (no z) = getD-set-other d j m u 0 z ∙ t .done m (omega arith)
+        done : (m : ℕ) → m ≤ j → Dec (m ≡ j) → getD (set d j u) m 0 ≡ R.d n k κ ω m
+        done m b (yes z) =
+            subst (λ (a : ℕ). getD (set d j u) a 0 ≡ R.d n k κ ω a) (sym z) (getD-set-same d j u 0 (omega (arith, t .long, s .few)) ∙ here)
+        done m b (no z) = getD-set-other d j m u 0 z ∙ t .done m (omega arith)
 
 -- after the last turn
 pub up-done : (n : ℕ) (k κ ω d : List ℕ) (i : ℕ) → i ≡ n → Up n k κ ω d i → d ≡ solved n k κ ω

@@ -9,8 +9,9 @@ use native.Mathlib.Decide.{decLe}
 use lib.ListN.{getD}
 use Rattle.springs.specs.Equations.{doorSpring, closedSpring}
 use Rattle.springs.specs.Promise.{stiffnessScale, mostLoaded, farthest, Solvable}
-use Rattle.springs.specs.inner.Elimination.{divisor, stiffnessDown, loadDown, shiftUp, InRange, mostLoad}
-use Rattle.springs.proofs.Recursion.{x, y, d, stiffness-top, load-top, stiffness-step, load-step, shift-deck, shift-step, shift-behind}
+use Rattle.springs.specs.inner.Elimination.{divisor, stiffnessDown, loadDown, shiftUp, InRange, mostLoadTogether}
+use Rattle.springs.proofs.Recursion.{x, y, d, stiffness-top, load-top, stiffness-step, load-step, shift-deck, shift-step}
+use Rattle.springs.proofs.Recursion.{shift-behind}
 
 pub quotient-le : (x c b : ℕ) → 0 < c → x ≤ b * c → x / c ≤ b
 quotient-le x c b p h = le-of-mul-le-mul-right (omega (arith, div-add-mod' x c)) p
@@ -32,7 +33,13 @@ load-le k κ ω x y p = quotient-le (k * (ω + y) * stiffnessScale) (divisor k �
 
 pub shift-le : (k κ ω x y p : ℕ) → doorSpring ≤ k → doorSpring * shiftUp k κ ω x y p ≤ ω + y + doorSpring * p
 unfolding shiftUp
-shift-le k κ ω x y p h = go (ω + y) (shiftUp k κ ω x y p) (omega (arith, div-add-mod' ((ω + y + k * p) * stiffnessScale) (divisor k κ x), mul-le-mul-left (shiftUp k κ ω x y p) (more (k * stiffnessScale) (κ + x))))
+shift-le k κ ω x y p h =
+    go (ω + y) (shiftUp k κ ω x y p)
+    (omega (
+      arith,
+      div-add-mod' ((ω + y + k * p) * stiffnessScale) (divisor k κ x),
+      mul-le-mul-left (shiftUp k κ ω x y p) (more (k * stiffnessScale) (κ + x)),
+    ))
   where
     more : (a b : ℕ) → a ≤ a + b
     more a b = omega arith
@@ -49,16 +56,20 @@ shift-le k κ ω x y p h = go (ω + y) (shiftUp k κ ω x y p) (omega (arith, di
 
 -- what a step scales by 2^22 is at most 2^28 times its divisor, and the divisor is below 2^42
 module _ (k κ x : ℕ) (r : InRange k κ x) where
-  pub scalable : (a : ℕ) → a / divisor k κ x ≤ 2 ^ 28 → (0 < divisor k κ x) × (divisor k κ x * stiffnessScale < 2 ^ 64) × ((a / divisor k κ x + 1) * stiffnessScale < 2 ^ 64)
+  pub scalable :
+      (a : ℕ) →
+      a / divisor k κ x ≤ 2 ^ 28 →
+      (0 < divisor k κ x) × (divisor k κ x * stiffnessScale < 2 ^ 64) × ((a / divisor k κ x + 1) * stiffnessScale < 2 ^ 64)
   scalable a h = (omega (arith, r .low), omega (arith, r .high, r .held, r .above), omega arith)
 
   pub stiffness-fits : k * (κ + x) / divisor k κ x ≤ 2 ^ 28
-  stiffness-fits = quotient-le (k * (κ + x)) (divisor k κ x) (2 ^ 28) (omega (arith, r .low)) (omega (arith, mul-le-mul-right (κ + x) (r .high)))
+  stiffness-fits =
+      quotient-le (k * (κ + x)) (divisor k κ x) (2 ^ 28) (omega (arith, r .low)) (omega (arith, mul-le-mul-right (κ + x) (r .high)))
 
-  pub load-fits : (a : ℕ) → a ≤ mostLoad → k * a / divisor k κ x ≤ 2 ^ 28
+  pub load-fits : (a : ℕ) → a ≤ mostLoadTogether → k * a / divisor k κ x ≤ 2 ^ 28
   load-fits a h = quotient-le (k * a) (divisor k κ x) (2 ^ 28) (omega (arith, r .low)) (omega (arith, mul-le-mul-left k h))
 
-  pub shift-fits : (a p : ℕ) → a ≤ mostLoad → p ≤ farthest → (a + k * p) / divisor k κ x ≤ 2 ^ 28
+  pub shift-fits : (a p : ℕ) → a ≤ mostLoadTogether → p ≤ farthest → (a + k * p) / divisor k κ x ≤ 2 ^ 28
   shift-fits a p h l = quotient-le (a + k * p) (divisor k κ x) (2 ^ 28) (omega (arith, r .low)) (omega (arith, mul-le-mul-left k l, r .low))
 
 -- 1 + 2 + .. + m
@@ -104,16 +115,21 @@ module _ (n : ℕ) (k κ ω : List ℕ) (s : Solvable n k κ ω) where
   load-most j zero e = subst (λ (z : ℕ). ys z ≤ 0 * mostLoaded) {x = n} {y = j} (omega arith) (omega (arith, load-top n k κ ω))
   load-most j (suc m) e =
       let l : j < n = omega arith in
-      omega
-      (arith, load-step n k κ ω j l, load-le (getD k j 0) (getD κ j 0) (getD ω j 0) (xs (suc j)) (ys (suc j)) (stiff j l),
-      s .loaded j l, load-most (suc j) m (omega arith), add-one m)
+      omega (
+        arith,
+        load-step n k κ ω j l,
+        load-le (getD k j 0) (getD κ j 0) (getD ω j 0) (xs (suc j)) (ys (suc j)) (stiff j l),
+        s .loaded j l,
+        load-most (suc j) m (omega arith),
+        add-one m,
+      )
 
   -- a step at tier j + 1 is in range
   module _ (j : ℕ) (l : j < n) where
     pub in-range : InRange (getD k j 0) (getD κ j 0) (xs (suc j))
     in-range = record { low = s .springs j l .0; high = s .springs j l .1; held = s .held j l; above = stiffness-most (suc j) l }
 
-    pub load-in-range : getD ω j 0 + ys (suc j) ≤ mostLoad
+    pub load-in-range : getD ω j 0 + ys (suc j) ≤ mostLoadTogether
     load-in-range = omega (arith, s .loaded j l, load-most (suc j) (n - suc j) (omega arith), s .few)
 
   shift-most : (j m : ℕ) → j + m ≡ n → doorSpring * ds j + triangle m * mostLoaded ≤ triangle n * mostLoaded
@@ -122,10 +138,15 @@ module _ (n : ℕ) (k κ ω : List ℕ) (s : Solvable n k κ ω) where
       (omega (arith, shift-deck n k κ ω))
   shift-most (suc j) m e =
       let l : j < n = omega arith in
-      omega
-      (arith, shift-most j (suc m) (omega arith), shift-step n k κ ω j l,
-      shift-le (getD k j 0) (getD κ j 0) (getD ω j 0) (xs (suc j)) (ys (suc j)) (ds j) (s .springs j l .0), s .loaded j l,
-      load-most (suc j) m e, add-one m)
+      omega (
+        arith,
+        shift-most j (suc m) (omega arith),
+        shift-step n k κ ω j l,
+        shift-le (getD k j 0) (getD κ j 0) (getD ω j 0) (xs (suc j)) (ys (suc j)) (ds j) (s .springs j l .0),
+        s .loaded j l,
+        load-most (suc j) m e,
+        add-one m,
+      )
 
   -- a shift is at most 2^12 mm
   pub far-at : (j : ℕ) → ds j ≤ farthest

@@ -1,15 +1,14 @@
 -- The solver's recursion level by level: what is handed down to a level and its shift, of those next to it; and the entries of `solved`.
-use mathlib.Core.Path.{_≡_, refl, sym, ap, ap₂, subst, _∙_}
+use mathlib.Core.Path.{_≡_, refl, sym, ap, _∙_}
 use mathlib.Core.Bool.{cond}
-use mathlib.Core.List.{List, map}
-use Prim.Native.Nat.{ℕ, zero, suc, _+_, _-_, _≤_, _<_}
+use mathlib.Core.List.{List}
+use Prim.Native.Nat.{ℕ, zero, suc, _-_, _≤_, _<_}
 use native.Mathlib.Nat.{zero-add}
 use native.Mathlib.Omega.{arith}
 use native.Mathlib.Decide.{decLe}
 use lib.ListN.{length, getD, List·getD-eq-default}
 use lib.Seq.{ext-getD}
 use borrow.Author.Tests.{lt-ltb, le-ltb}
-use Rattle.arith.specs.Lists.{below}
 use Rattle.arith.proofs.Arrays.{length-entries, entry}
 use Rattle.springs.specs.inner.Elimination.{stiffnessDown, loadDown, shiftUp, stiffnessTo, loadTo, shiftAt, solved}
 

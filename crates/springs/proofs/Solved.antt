@@ -1,5 +1,5 @@
--- What the solver returns, by its name `solved`: it is as near to the exact shifts as specs/Promise says, has 11 entries, and depends on the first n
--- springs, lashes and loads alone.
+-- What the solver returns, by its name `solved`: it is as near to the exact shifts as specs/Promise says, has 11 entries, and depends on
+-- the first n springs, lashes and loads alone.
 use mathlib.Core.Path.{_≡_, refl, sym, ap, subst, fun-ext, _∙_}
 use mathlib.Core.List.{List, map}
 use Prim.Native.Nat.{ℕ, zero, suc, _+_, _*_, _-_, _≤_, _<_}
@@ -22,7 +22,16 @@ use Rattle.arith.proofs.FractionsInRationals.{sumℚ, toℚ}
 use Rattle.arith.proofs.FractionLaws.{⊑-trans}
 use Rattle.springs.specs.Equations.{closedSpring, Tier, Lash, tierAt, shift, racking, Solves}
 use Rattle.springs.specs.Promise.{
-  stiffnessScale, farthest, shiftScale, found, Near, Solvable, errorHundredths, lashError, rackingError, Promised,
+  stiffnessScale,
+  farthest,
+  shiftScale,
+  found,
+  Near,
+  Solvable,
+  errorHundredths,
+  lashError,
+  rackingError,
+  Promised,
 }
 use Rattle.springs.specs.inner.Elimination.{stiffnessTo, loadTo, shiftAt, solved}
 use Rattle.springs.specs.inner.Bound.{springAt, levelError, summedError, shiftBy}
@@ -154,33 +163,40 @@ module _
     (lashes : (i : ℕ) → i < n → getD κ i 0 ≡ getD κ' i 0)
     (loads : (i : ℕ) → i < n → getD ω i 0 ≡ getD ω' i 0)
   where
-  same-stiffness : (i m : ℕ) → i + m ≡ n → stiffnessTo k κ i m ≡ stiffnessTo k' κ' i m
-  unfolding stiffnessTo
-  same-stiffness i zero h = refl
-  same-stiffness i (suc m) h =
-      let l : i < n = omega arith in
-      rw (springs i l, lashes i l, same-stiffness (suc i) m (omega arith))
+    same-stiffness : (i m : ℕ) → i + m ≡ n → stiffnessTo k κ i m ≡ stiffnessTo k' κ' i m
+    unfolding stiffnessTo
+    same-stiffness i zero h = refl
+    same-stiffness i (suc m) h =
+        let l : i < n = omega arith in
+        rw (springs i l, lashes i l, same-stiffness (suc i) m (omega arith))
 
-  same-load : (i m : ℕ) → i + m ≡ n → loadTo k κ ω i m ≡ loadTo k' κ' ω' i m
-  unfolding loadTo
-  same-load i zero h = refl
-  same-load i (suc m) h =
-      let l : i < n = omega arith in
-      let e : suc i + m ≡ n = omega arith in
-      rw (springs i l, lashes i l, loads i l, same-stiffness (suc i) m e, same-load (suc i) m e)
+    same-load : (i m : ℕ) → i + m ≡ n → loadTo k κ ω i m ≡ loadTo k' κ' ω' i m
+    unfolding loadTo
+    same-load i zero h = refl
+    same-load i (suc m) h =
+        let l : i < n = omega arith in
+        let e : suc i + m ≡ n = omega arith in
+        rw (springs i l, lashes i l, loads i l, same-stiffness (suc i) m e, same-load (suc i) m e)
 
-  same-shift : (i : ℕ) → shiftAt n k κ ω i ≡ shiftAt n k' κ' ω' i
-  same-shift zero = R.shift-deck n k κ ω ∙ sym (R.shift-deck n k' κ' ω')
-  same-shift (suc i) = go (same-shift i) (decLe (suc i) n)
-    where
-      go : shiftAt n k κ ω i ≡ shiftAt n k' κ' ω' i → Dec (suc i ≤ n) → shiftAt n k κ ω (suc i) ≡ shiftAt n k' κ' ω' (suc i)
-      go under (yes l) =
-          let e : suc i + (n - suc i) ≡ n = omega arith in
-          rw
-          (R.shift-step n k κ ω i l, R.shift-step n k' κ' ω' i l, springs i l, lashes i l, loads i l, same-stiffness (suc i) (n - suc i) e,
-          same-load (suc i) (n - suc i) e, under)
-      go under (no l) = R.shift-behind n k κ ω (suc i) (omega arith) ∙ sym (R.shift-behind n k' κ' ω' (suc i) (omega arith))
+    same-shift : (i : ℕ) → shiftAt n k κ ω i ≡ shiftAt n k' κ' ω' i
+    same-shift zero = R.shift-deck n k κ ω ∙ sym (R.shift-deck n k' κ' ω')
+    same-shift (suc i) = go (same-shift i) (decLe (suc i) n)
+      where
+        go : shiftAt n k κ ω i ≡ shiftAt n k' κ' ω' i → Dec (suc i ≤ n) → shiftAt n k κ ω (suc i) ≡ shiftAt n k' κ' ω' (suc i)
+        go under (yes l) =
+            let e : suc i + (n - suc i) ≡ n = omega arith in
+            rw (
+              R.shift-step n k κ ω i l,
+              R.shift-step n k' κ' ω' i l,
+              springs i l,
+              lashes i l,
+              loads i l,
+              same-stiffness (suc i) (n - suc i) e,
+              same-load (suc i) (n - suc i) e,
+              under,
+            )
+        go under (no l) = R.shift-behind n k κ ω (suc i) (omega arith) ∙ sym (R.shift-behind n k' κ' ω' (suc i) (omega arith))
 
-  pub solved-same : solved n k κ ω ≡ solved n k' κ' ω'
-  unfolding solved
-  solved-same = ap (λ g. map g (below 11)) (fun-ext same-shift)
+    pub solved-same : solved n k κ ω ≡ solved n k' κ' ω'
+    unfolding solved
+    solved-same = ap (λ g. map g (below 11)) (fun-ext same-shift)

@@ -9,7 +9,9 @@ use Rattle.springs.specs.inner.Elimination.{divisor, stiffnessDown, load
 
 module _ (k κ x : ℕ) (stiff : 0 < k) (free : κ + x ≡ 0) where
   cancelled : (a : ℕ) → scaledDown a stiffnessScale (divisor k κ x) ≡ a / k
-  cancelled a = ap (λ (c : ℕ). a * stiffnessScale / c) {x = divisor k κ x} {y = k * stiffnessScale} (omega arith) ∙ mul-div-mul-right a k (omega arith)
+  cancelled a =
+      ap (λ (c : ℕ). a * stiffnessScale / c) {x = divisor k κ x} {y = k * stiffnessScale} (omega arith)
+      ∙ mul-div-mul-right a k (omega arith)
 
   pub stiffness-unheld : stiffnessDown k κ x ≡ 0
   unfolding stiffnessDown

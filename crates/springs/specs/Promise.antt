@@ -21,8 +21,8 @@ pub record Rounded (scale slack x : ℕ) (y : Frac) : Type 0 where
   pub low : nat x ⊑ nat scale *q y
   pub high : nat scale *q y ⊑ nat (x + slack)
 
--- an exact chain that the solver's inputs stand for: n tiers of springs k; of each level over them the lashes' stiffness κ and the load ω, each a
--- sum of at most four numbers rounded down
+-- an exact chain that the solver's inputs stand for: n tiers of springs k; of each level over them the lashes' stiffness κ and the load ω,
+-- each a sum of at most four numbers rounded down
 pub record Near (n : ℕ) (k κ ω : List ℕ) (ts : List Tier) (ls : List Lash) : Type 0 where
   pub tiers : length ts ≡ n
   pub stiff : Stiff ts ls
@@ -34,8 +34,8 @@ pub record Near (n : ℕ) (k κ ω : List ℕ) (ts : List Tier) (ls : List Lash)
 abbrev pub found : List ℕ → ℕ → Frac
 found d i = nat (getD d i 0) /q nat shiftScale
 
--- the most that document 01's limits allow at a level, rounded up: lashes of 620,000 N/mm (four of 153,960) and a load of 2^18 N (243,323); and
--- the farthest shift then, 2^12 mm (3,262)
+-- the most that document 01's limits allow at a level, rounded up: lashes of 620,000 N/mm (four of 153,960) and a load of 2^18 N (243,323);
+-- and the farthest shift then, 2^12 mm (3,262)
 abbrev pub mostHeld : ℕ
 mostHeld = 620000 * stiffnessScale
 

@@ -1,4 +1,5 @@
--- What holds of an end's equations for any tier count and any spring and lash stiffer than zero. Each is proved in proofs/: OneSolution, Growth, Stability.
+-- What holds of an end's equations for any tier count and any spring and lash stiffer than zero. Each is proved in proofs/: OneSolution,
+-- Growth, Stability.
 use mathlib.Core.List.{List}
 use mathlib.Core.Path.{_≡_}
 use Prim.Native.Nat.{ℕ, suc, _<_}

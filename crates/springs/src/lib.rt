@@ -1,11 +1,11 @@
-// One end of a stack as a chain of springs: the shifts of its levels, in whole numbers. From the top down, each level learns what stiffness and
-// load the tiers over it hand down to it; then, from the deck up, each level's shift follows from the one under it.
+// One end of a stack as a chain of springs: the shifts of its levels, in whole numbers. From the top down, each level learns what stiffness
+// and load the tiers over it hand down to it; then, from the deck up, each level's shift follows from the one under it.
 // Arrays are lent as slices, so that no call copies them.
 ghost use mathlib.Core.Path.{_≡_};
 ghost use Prim.Native.Nat.{_+_, _<_, _≤_};
 ghost use lib.ListN.{length, getD};
 ghost use Rattle.springs.specs.Promise.{farthest, Solvable, Promised};
-ghost use Rattle.springs.specs.inner.Elimination.{stiffnessDown, loadDown, shiftUp, solved, InRange, mostLoad, HandedDown};
+ghost use Rattle.springs.specs.inner.Elimination.{stiffnessDown, loadDown, shiftUp, solved, InRange, mostLoadTogether, HandedDown};
 use arith::rounding::scaled;
 
 // Stiffnesses are in 2^-22 N/mm. At a level that nothing holds, above the uppermost lash, the scale cancels: that spares divisions.
@@ -25,7 +25,7 @@ fn stiffness_down(k: u64, kappa: u64, x: u64) -> u64
 
 // The load that it hands down, of its own, omega, and the load y handed to it.
 fn load_down(k: u64, kappa: u64, omega: u64, x: u64, y: u64) -> u64
-    requires { ⌜ InRange k kappa x × (omega + y ≤ mostLoad) ⌝ }
+    requires { ⌜ InRange k kappa x × (omega + y ≤ mostLoadTogether) ⌝ }
     ensures { λ r. ⌜ r ≡ loadDown k kappa omega x y ⌝ }
 {
     let stiffness = kappa + x;
@@ -38,7 +38,7 @@ fn load_down(k: u64, kappa: u64, omega: u64, x: u64, y: u64) -> u64
 
 // Its shift, where the level under it has the shift p.
 fn shift_up(k: u64, kappa: u64, omega: u64, x: u64, y: u64, p: u64) -> u64
-    requires { ⌜ InRange k kappa x × (omega + y ≤ mostLoad) × (p ≤ farthest) ⌝ }
+    requires { ⌜ InRange k kappa x × (omega + y ≤ mostLoadTogether) × (p ≤ farthest) ⌝ }
     ensures { λ r. ⌜ r ≡ shiftUp k kappa omega x y p ⌝ }
 {
     let stiffness = kappa + x;
@@ -82,8 +82,8 @@ fn climb(n: usize, k: &[u64], kappa: &[u64], omega: &[u64], x: &[u64], y: &[u64]
     d
 }
 
-// The shifts of levels 0 to n, in 2^-28 mm, of n tiers: k their springs, in N/mm; of the level over each, kappa the stiffness of its lashes, in
-// 2^-22 N/mm, and omega its load, in 2^-28 N.
+// The shifts of levels 0 to n, in 2^-28 mm, of n tiers: k their springs, in N/mm; of the level over each, kappa the stiffness of its lashes,
+// in 2^-22 N/mm, and omega its load, in 2^-28 N. Behind n stand zeros.
 pub fn solve(n: usize, k: &[u64], kappa: &[u64], omega: &[u64]) -> [u64; 11]
     requires { ⌜ Solvable n (now k) (now kappa) (now omega) × (n ≤ length (now k)) × (n ≤ length (now kappa)) × (n ≤ length (now omega)) ⌝ }
     ensures promised { λ r. ⌜ Promised n (now (k .entry)) (now (kappa .entry)) (now (omega .entry)) r ⌝ }

@@ -26,7 +26,8 @@ use Rattle.statics.specs.Loads.{Rule, StandsFor}
 use Rattle.statics.specs.Lashes.{pull, athwartPart, verticalPart}
 use Rattle.statics.specs.Ends.{EndSolved, endTiers, endLashes}
 use Rattle.sheet.specs.Ends.{End, tiersOf, lashesOf}
-use Rattle.statics.specs.Posts.{athwartOf, moment, weightAbove, verticals, inCompression, inTension, onLee, onWindward, lee, windward, compression, tension, greater, lower, atMost}
+use Rattle.statics.specs.Posts.{athwartOf, moment, weightAbove, verticals, inCompression, inTension, onLee, onWindward, lee, windward}
+use Rattle.statics.specs.Posts.{compression, tension, greater, lower, atMost}
 use Rattle.statics.specs.Forces as F
 use Rattle.statics.specs.Forces.{lashForce}
 use Rattle.statics.specs.Reported.{reportedSize, EndReported, Fitting, EndFigured}
@@ -34,9 +35,11 @@ use Rattle.sheet.specs.inner.Limits.{TierLimits, SheetLimits}
 use Rattle.statics.proofs.EndChain.{tier-limits, end-each, end-length, end-stiff}
 use Rattle.statics.proofs.OneSolution.{solutionOf, exists, leeward}
 use Rattle.statics.proofs.LoadsGrow.{stands-proper}
-use Rattle.statics.proofs.Within.{UpTo, Within, up-none, up-more, within-up, within-less, within-neg, within-sum, within-more, within-same, within-over, within-choice, reported-below}
+use Rattle.statics.proofs.Within.{UpTo, Within, up-none, up-more, within-up, within-less, within-neg, within-sum, within-more}
+use Rattle.statics.proofs.Within.{within-same, within-over, within-choice, reported-below}
 use Rattle.statics.proofs.LoadBounds.{each-drop, weight-up, tier-up, turning-up}
-use Rattle.statics.proofs.LashBounds.{part-up, all-least, one-part, from-part, all-from, pull-part, vertical-part, verticals-part, arms-part, keeps-lee, keeps-windward}
+use Rattle.statics.proofs.LashBounds.{part-up, all-least, one-part, from-part, all-from, pull-part, vertical-part, verticals-part}
+use Rattle.statics.proofs.LashBounds.{arms-part, keeps-lee, keeps-windward}
 
 module _ {rule : Rule} {c : LoadRule} (stands : StandsFor c rule) (e : End) {t : Sheet} (f : SheetLimits t) where
   few : length (tiersOf t) ≤ 10
@@ -54,15 +57,27 @@ module _ {rule : Rule} {c : LoadRule} (stands : StandsFor c rule) (e : End) {t :
     abbrev parts : Frac
     parts = sumq (athwartOf Ds) (lashesOf e t)
 
-    balance : (i : ℕ) → i < t .ntiers → mk (S.racking (endTiers rule e t) Ds i) ≡ mk (S.tierAt (endTiers rule e t) i .Q -q S.athwartFrom (endLashes e t) Ds (suc i))
-    balance i h = of-≈ (S.racking (endTiers rule e t) Ds i) (S.tierAt (endTiers rule e t) i .Q -q S.athwartFrom (endLashes e t) Ds (suc i)) (s .solves .balance i (omega (arith, end-length rule e t f)))
+    balance :
+        (i : ℕ) →
+        i < t .ntiers →
+        mk (S.racking (endTiers rule e t) Ds i) ≡ mk (S.tierAt (endTiers rule e t) i .Q -q S.athwartFrom (endLashes e t) Ds (suc i))
+    balance i h =
+        of-≈ (S.racking (endTiers rule e t) Ds i) (S.tierAt (endTiers rule e t) i .Q -q S.athwartFrom (endLashes e t) Ds (suc i))
+        (s .solves .balance i (omega (arith, end-length rule e t f)))
 
     -- the lashes hold no more than the load of the lowest tier
     pub parts-up : UpTo 2440000 parts
     parts-up =
         record {
           least = all-least (t .ntiers) Ds lee-q (lashesOf e t) (end-each e f);
-          most = rw (all-from (t .ntiers) Ds lee-q (lashesOf e t) (end-each e f)) (go (springs (endTiers rule e t) 0) (shifts Ds 1) (shifts Ds 0) (mk (S.tierAt (endTiers rule e t) 0 .Q)) (mk (S.athwartFrom (endLashes e t) Ds 1)) (sym (mk-racking (endTiers rule e t) Ds 0) ∙ balance 0 (f .some) ∙ mk-sub (S.tierAt (endTiers rule e t) 0 .Q) (S.athwartFrom (endLashes e t) Ds 1)) (spring-nn (endTiers rule e t) (endLashes e t) (end-stiff rule e t f) 0) (lee-q 1) (deck Ds) (load-up 0 .most));
+          most =
+              rw (all-from (t .ntiers) Ds lee-q (lashesOf e t) (end-each e f))
+              (go (springs (endTiers rule e t) 0) (shifts Ds 1) (shifts Ds 0) (mk (S.tierAt (endTiers rule e t) 0 .Q))
+              (mk (S.athwartFrom (endLashes e t) Ds 1))
+              (sym (mk-racking (endTiers rule e t) Ds 0)
+              ∙ balance 0 (f .some)
+              ∙ mk-sub (S.tierAt (endTiers rule e t) 0 .Q) (S.athwartFrom (endLashes e t) Ds 1))
+              (spring-nn (endTiers rule e t) (endLashes e t) (end-stiff rule e t f) 0) (lee-q 1) (deck Ds) (load-up 0 .most));
         }
       where
         go : (K d p Q A : ℚ) →
@@ -93,7 +108,8 @@ module _ {rule : Rule} {c : LoadRule} (stands : StandsFor c rule) (e : End) {t :
     unfolding moment
     moment-within i =
         within-less
-        (turning-up rule c stands (drop i (tiersOf t)) (each-drop (tiersOf t) (tier-limits f) i) (omega (arith, few, length-drop i (tiersOf t))))
+        (turning-up rule c stands (drop i (tiersOf t)) (each-drop (tiersOf t) (tier-limits f) i)
+        (omega (arith, few, length-drop i (tiersOf t))))
         (part-up parts-up (arms-part (t .ntiers) Ds lee-q (tiersOf t) (tier-limits f) few i (lashesOf e t) (end-each e f)))
 
     -- the two sums at a level, and the greater or lower of them
@@ -107,12 +123,15 @@ module _ {rule : Rule} {c : LoadRule} (stands : StandsFor c rule) (e : End) {t :
       lee-within : Within 200000000 (lee rule (tiersOf t) (lashesOf e t) Ds i acceleration counts)
       lee-within =
           within-more (omega arith)
-          (within-sum (within-sum weight-within turned-within) (within-up (part-up parts-up (verticals-part (t .ntiers) Ds lee-q onLee keeps-lee (counts i) (lashesOf e t) (end-each e f)))))
+          (within-sum (within-sum weight-within turned-within)
+          (within-up (part-up parts-up (verticals-part (t .ntiers) Ds lee-q onLee keeps-lee (counts i) (lashesOf e t) (end-each e f)))))
 
       windward-within : Within 200000000 (windward rule (tiersOf t) (lashesOf e t) Ds i acceleration counts)
       windward-within =
           within-more (omega arith)
-          (within-sum (within-sum weight-within (within-neg turned-within)) (within-up (part-up parts-up (verticals-part (t .ntiers) Ds lee-q onWindward keeps-windward (counts i) (lashesOf e t) (end-each e f)))))
+          (within-sum (within-sum weight-within (within-neg turned-within))
+          (within-up
+          (part-up parts-up (verticals-part (t .ntiers) Ds lee-q onWindward keeps-windward (counts i) (lashesOf e t) (end-each e f)))))
 
     nothing : Within 200000000 (nat 0)
     nothing = within-up (up-more (omega arith) up-none)
@@ -128,14 +147,17 @@ module _ {rule : Rule} {c : LoadRule} (stands : StandsFor c rule) (e : End) {t :
     unfolding compression
     compression-within i =
         greater-within {x = nat 0} nothing
-        (greater-within (lee-within (λ u. u .aVmax) (λ u h. h .aVmax) inCompression i) (windward-within (λ u. u .aVmax) (λ u h. h .aVmax) inCompression i))
+        (greater-within (lee-within (λ u. u .aVmax) (λ u h. h .aVmax) inCompression i)
+        (windward-within (λ u. u .aVmax) (λ u h. h .aVmax) inCompression i))
 
     pub tension-within : (i : ℕ) →
         Within 200000000 (tension rule (tiersOf t) (lashesOf e t) Ds i)
     unfolding tension
     tension-within i =
         greater-within {x = nat 0} nothing
-        (within-neg (lower-within (lee-within (λ u. u .aVmin) (λ u h. omega (arith, h .aVmin)) inTension i) (windward-within (λ u. u .aVmin) (λ u h. omega (arith, h .aVmin)) inTension i)))
+        (within-neg
+        (lower-within (lee-within (λ u. u .aVmin) (λ u h. omega (arith, h .aVmin)) inTension i)
+        (windward-within (λ u. u .aVmin) (λ u h. omega (arith, h .aVmin)) inTension i)))
 
     -- every exact force is within 200,000,000 N
     force-within : (x : F.Force) (i : ℕ) → i < F.entryCount x e t → Within 200000000 (F.exactForce x rule e t Ds i)

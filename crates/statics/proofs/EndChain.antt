@@ -1,4 +1,4 @@
--- The exact chain of an end of a taken sheet: its springs and lashes are stiffer than zero, its level loads those of the whole numbers and not below zero.
+-- The exact chain of an end of a taken sheet: its springs and lashes are stiffer than zero, its level loads those of the whole numbers.
 use mathlib.Core.Path.{_≡_, refl, sym, ap, subst, _∙_}
 use mathlib.Core.List.{List, [], _∷_}
 use Prim.Native.Nat.{ℕ, zero, suc, _*_, _-_, _^_, _≤_, _<_}

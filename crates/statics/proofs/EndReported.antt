@@ -28,10 +28,13 @@ use Rattle.statics.specs.Loads.{Rule}
 use Rattle.statics.specs.Lashes.{pull, athwartPart, verticalPart}
 use Rattle.statics.specs.Ends.{springOf, endTiers, endLashes, EndSolved}
 use Rattle.sheet.specs.Ends.{End, tiersOf, lashesOf}
-use Rattle.statics.specs.Posts.{weightAbove, moment, verticals, onLee, onWindward, inCompression, inTension, lee, windward, compression, tension}
+use Rattle.statics.specs.Posts.{weightAbove, moment, verticals, onLee, onWindward, inCompression, inTension, lee, windward}
+use Rattle.statics.specs.Posts.{compression, tension}
 use Rattle.statics.specs.Forces as F
 use Rattle.statics.specs.Reported.{Reported, reportedSize, EndReported}
-use Rattle.statics.specs.inner.WholeNumbers.{rackingPart, halfWeight, momentPart, upwards, leePart, windwardPart, leeFound, windwardFound, compressionFigure, tensionFigure, pullFigure, athwartFigure, verticalFigure, rackingFigure}
+use Rattle.statics.specs.inner.WholeNumbers.{rackingPart, halfWeight, momentPart, upwards, leePart, windwardPart, leeFound}
+use Rattle.statics.specs.inner.WholeNumbers.{windwardFound, compressionFigure, tensionFigure, pullFigure, athwartFigure}
+use Rattle.statics.specs.inner.WholeNumbers.{verticalFigure, rackingFigure}
 use Rattle.statics.specs.inner.Computed.{springsOf, figuresAt}
 use Rattle.sheet.specs.inner.Limits.{SheetLimits}
 use Rattle.statics.proofs.Errors.{Off}
@@ -44,7 +47,8 @@ use Rattle.statics.proofs.EachLash.{Each}
 use Rattle.statics.proofs.ShiftErrors.{shiftErrorq, shiftErrorAt, shiftErrors, shift-errors-q, shift-error-le}
 use Rattle.statics.proofs.Verticals.{verticals-off, lee-post, windward-post}
 use Rattle.statics.proofs.Weights.{weight-off}
-use Rattle.statics.proofs.Moment.{rackingMoment, moment-is}
+use Rattle.statics.proofs.Moment.{moment-is}
+use Rattle.statics.specs.Theorems.{rackingMoment}
 use Rattle.statics.proofs.Racking.{racking-off, racking-reported, racking-directed}
 use Rattle.statics.proofs.PostSums.{moment-off, lee-off, windward-off}
 use Rattle.statics.proofs.PostFigures.{compression-reported, tension-reported}
@@ -192,7 +196,8 @@ module _
     D = shift Ds (levelOf lash)
 
     shift-error-small : shiftErrorAt d Ds lash ≤ℚ shiftErrorBound
-    shift-error-small = ≤ℚ-trans (shiftErrorAt d Ds lash) (shiftErrors d Ds ls) shiftErrorBound (shift-error-le d Ds ls each j h) shift-errors-small
+    shift-error-small =
+        ≤ℚ-trans (shiftErrorAt d Ds lash) (shiftErrors d Ds ls) shiftErrorBound (shift-error-le d Ds ls each j h) shift-errors-small
 
     pulled : Reported 9 (pull lash D) (pullFigure d lash)
     pulled = pull-reported d lash D (each .at j h) (near .far (levelOf lash)) shift-error-small 9 (lit≤ tt)

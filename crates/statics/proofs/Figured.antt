@@ -59,5 +59,6 @@ module _ {rule : Rule} {c : LoadRule} (stands : StandsFor c rule) (e : End) {t :
       figured stands e f (omega arith)
       (λ Ds s.
       reported rule e t d Ds f s
-      (promised-close rule e t (springsOf e ts) (stiffnessesOf ls) (loadsOf c ts) d Ds lash-error racking-error promised (near stands e f) s))
+      (promised-close rule e t (springsOf e ts) (stiffnessesOf ls) (loadsOf c ts) d Ds lash-error racking-error promised
+      (near stands e f) s))
       blank

@@ -67,7 +67,8 @@ module _ {rule : Rule} {c : LoadRule} (stands : StandsFor c rule) (e : End) {t :
   loaded-most : (i : ℕ) → i < t .ntiers → getD ω i 0 ≤ mostLoaded
   loaded-most i l =
       rw (loaded-at i l)
-      (load-most (c .share) (c .factor) (tier i) (tier (suc i)) (stands .share-most) (stands .factor-most) (tier-limits f i) (tier-limits f (suc i)))
+      (load-most (c .share) (c .factor) (tier i) (tier (suc i)) (stands .share-most) (stands .factor-most) (tier-limits f i)
+      (tier-limits f (suc i)))
 
   pub solvable : Solvable (t .ntiers) k κ ω
   solvable =

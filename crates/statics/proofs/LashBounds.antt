@@ -1,4 +1,4 @@
--- The exact forces of an end's lashes, at shifts not to windward: each is at least zero and at most so many times the sum of all athwart parts.
+-- The lash forces of an end of a taken sheet, at shifts not to windward: parts of the athwart parts' sum, which the loads bound.
 use mathlib.Core.Path.{_≡_, refl, sym, ap, ap₂, _∙_}
 use mathlib.Core.Bool.{Bool, true, false}
 use mathlib.Core.List.{List, [], _∷_}
@@ -81,7 +81,10 @@ module _ (n : ℕ) (Ds : List Frac) (lee : (i : ℕ) → natℚ 0 ≤ℚ mk (S.s
   at l = S.shift Ds (levelOf l)
 
   part-least : (l : Lash) → LashLimits n l → natℚ 0 ≤ℚ mk (athwartOf Ds l)
-  part-least l f = rw (athwart-is l (at l)) (nn-times (stiffness l) (mk (at l)) (rw (mk-int (pos 0)) at (<→≤ (of-⊏ (nat 0) (athwartPart l (nat 1)) (stiffness-above l f)))) (lee (levelOf l)))
+  part-least l f =
+      rw (athwart-is l (at l))
+      (nn-times (stiffness l) (mk (at l)) (rw (mk-int (pos 0)) at (<→≤ (of-⊏ (nat 0) (athwartPart l (nat 1)) (stiffness-above l f))))
+      (lee (levelOf l)))
 
   -- all athwart parts
   abbrev pub allParts : List Lash → Frac
@@ -129,7 +132,10 @@ module _ (n : ℕ) (Ds : List Frac) (lee : (i : ℕ) → natℚ 0 ≤ℚ mk (S.s
       let rest = one-part ls (each-rest f) j (omega arith) in
       record {
         least = rest .least;
-        most = rw (mk-add (athwartOf Ds l) (allParts ls)) (go (mk (athwartOf Ds l)) (mk (allParts ls)) (mk (athwartOf Ds (getD ls j blankLash))) (part-least l (each-first f)) (rest .most));
+        most =
+            rw (mk-add (athwartOf Ds l) (allParts ls))
+            (go (mk (athwartOf Ds l)) (mk (allParts ls)) (mk (athwartOf Ds (getD ls j blankLash))) (part-least l (each-first f))
+            (rest .most));
       }
     where
       go : (x y z : ℚ) → natℚ 0 ≤ℚ x → z ≤ℚ natℚ 1 *ℚ y → z ≤ℚ natℚ 1 *ℚ (x +ℚ y)
@@ -151,7 +157,9 @@ module _ (n : ℕ) (Ds : List Frac) (lee : (i : ℕ) → natℚ 0 ≤ℚ mk (S.s
   all-from [] f = refl
   all-from (l ∷ ls) f =
       mk-add (athwartOf Ds l) (allParts ls)
-      ∙ ap₂ _+ℚ_ (sym (chain-part l) ∙ ap (λ c. mk (given c (athwartPart l (nat 1) *q at l))) (sym (le-leb 1 (levelOf l) (each-first f .raised)))) (all-from ls (each-rest f))
+      ∙ ap₂ _+ℚ_
+      (sym (chain-part l) ∙ ap (λ c. mk (given c (athwartPart l (nat 1) *q at l))) (sym (le-leb 1 (levelOf l) (each-first f .raised))))
+      (all-from ls (each-rest f))
       ∙ sym (mk-add (given (leb 1 (levelOf l)) (athwartPart l (nat 1) *q at l)) (S.athwartFrom (chainLashes ls) Ds 1))
 
   -- tension and vertical part of a lash: its athwart part times N / LY
@@ -184,10 +192,12 @@ module _ (n : ℕ) (Ds : List Frac) (lee : (i : ℕ) → natℚ 0 ≤ℚ mk (S.s
       go = ∀₃ ℚR _ λ ρ. simp qq λ h l. by-cert (to h ⊠ to l) tt
 
   pub pull-part : (l : Lash) → LashLimits n l → PartOf 42 (athwartOf Ds l) (pull l (at l))
-  pull-part l f = turned-part 42 l f (lashLength l) (length-ratio f) (pull l (at l)) (pull-is l (length-above f) (omega (arith, f .ly)) (at l))
+  pull-part l f =
+      turned-part 42 l f (lashLength l) (length-ratio f) (pull l (at l)) (pull-is l (length-above f) (omega (arith, f .ly)) (at l))
 
   pub vertical-part : (l : Lash) → LashLimits n l → PartOf 40 (athwartOf Ds l) (verticalPart l (at l))
-  vertical-part l f = turned-part 40 l f (l .lz) (vertical-ratio f) (verticalPart l (at l)) (vertical-is l (length-above f) (omega (arith, f .ly)) (at l))
+  vertical-part l f =
+      turned-part 40 l f (l .lz) (vertical-ratio f) (verticalPart l (at l)) (vertical-is l (length-above f) (omega (arith, f .ly)) (at l))
 
   -- the vertical parts on one post of the lashes that count; `post` keeps a part or drops it
   pub verticals-part : (post : Lashing → Frac → Frac) →
@@ -197,7 +207,9 @@ module _ (n : ℕ) (Ds : List Frac) (lee : (i : ℕ) → natℚ 0 ≤ℚ mk (S.s
       PartOf 40 (allParts ls) (verticals post counts ls Ds)
   verticals-part post keeps counts ls f =
       sum-part (λ l. given (counts l) (post (lashingOf l) (verticalPart l (at l))))
-      (λ l lf. part-given (counts l) (part-least l lf) (λ e. keeps (lashingOf l) (verticalPart l (at l)) (PartOf 40 (athwartOf Ds l)) (vertical-part l lf) (part-none (part-least l lf))))
+      (λ l lf.
+      part-given (counts l) (part-least l lf)
+      (λ e. keeps (lashingOf l) (verticalPart l (at l)) (PartOf 40 (athwartOf Ds l)) (vertical-part l lf) (part-none (part-least l lf))))
       ls f
 
   -- the athwart parts over level i, each × its height over it
@@ -206,10 +218,15 @@ module _ (n : ℕ) (Ds : List Frac) (lee : (i : ℕ) → natℚ 0 ≤ℚ mk (S.s
       length ts ≤ 10 →
       (i : ℕ) (ls : List Lash) →
       Each n ls →
-      PartOf 28960 (allParts ls) (sumq (λ l. given (ltb i (levelOf l)) (athwartOf Ds l *q (nat (levelHeight ts (levelOf l)) -q nat (levelHeight ts i)))) ls)
+      PartOf 28960 (allParts ls)
+      (sumq (λ l. given (ltb i (levelOf l)) (athwartOf Ds l *q (nat (levelHeight ts (levelOf l)) -q nat (levelHeight ts i)))) ls)
   arms-part ts tf few i ls f =
       sum-part (λ l. given (ltb i (levelOf l)) (athwartOf Ds l *q (nat (levelHeight ts (levelOf l)) -q nat (levelHeight ts i))))
-      (λ l lf. part-given (ltb i (levelOf l)) (part-least l lf) (λ e. arm (athwartOf Ds l) (levelHeight ts (levelOf l)) (levelHeight ts i) (part-least l lf) (height-rises ts i (levelOf l) (omega (arith, ltb-true i (levelOf l) e))) (omega (arith, height-most ts tf (levelOf l)))))
+      (λ l lf.
+      part-given (ltb i (levelOf l)) (part-least l lf)
+      (λ e.
+      arm (athwartOf Ds l) (levelHeight ts (levelOf l)) (levelHeight ts i) (part-least l lf)
+      (height-rises ts i (levelOf l) (omega (arith, ltb-true i (levelOf l) e))) (omega (arith, height-most ts tf (levelOf l)))))
       ls f
     where
       arm-mk : (A : Frac) (h k : ℕ) → mk (A *q (nat h -q nat k)) ≡ mk A *ℚ (natℚ h -ℚ natℚ k)

@@ -57,7 +57,8 @@ module _ (d : List ℕ) (l : Lash) (D : Frac) (long : 0 < lashLength l) where
             (rw (int-times (pos s) (pos n)) at (down-low down)) (newtons-times (pos q)) (newtons-nn 257);
         below =
             low k (mk D) x (natℚ n) (natℚ s) (natℚ q) (newtons (pos q)) m (newtons (pos 257))
-            (stiffness-nn l long) (stiffness-high l long) (nn-int n) (nat-q n (2 ^ 40) far) (found-times d (levelOf l)) (ge-neg-q (x -ℚ mk D))
+            (stiffness-nn l long) (stiffness-high l long) (nn-int n) (nat-q n (2 ^ 40) far) (found-times d (levelOf l))
+            (ge-neg-q (x -ℚ mk D))
             (rw (int-times (pos s) (pos n)) at (down-high down)) (newtons-times (pos q)) (newtons-times (pos 257));
       }
     where
@@ -94,7 +95,8 @@ module _ (d : List ℕ) (l : Lash) (D : Frac) (long : 0 < lashLength l) where
       low =
           ∀₉ ℚR _ λ ρ. simp qq λ k0 h n0 n1 e l f i j.
           part (2 ^ 50 - 1)
-          (to f ⊞ to h ⊠ to n0 ⊞ to n1 ⊞ num (2 ^ 50) ⊠ (to k0 ⊠ to l) ⊞ times (⊖ (kp (2 ^ 22) ⊗ v 0)) e ⊞ times (kp (2 ^ 32)) i ⊞ times (kp (2 ^ 32)) j)
+          (to f ⊞ to h ⊠ to n0 ⊞ to n1 ⊞ num (2 ^ 50) ⊠ (to k0 ⊠ to l) ⊞ times (⊖ (kp (2 ^ 22) ⊗ v 0)) e ⊞ times (kp (2 ^ 32)) i ⊞ times
+          (kp (2 ^ 32)) j)
           tt
 
 module _ {n : ℕ} (d : List ℕ) (l : Lash) (D : Frac) (f : LashLimits n l) (far : getD d (levelOf l) 0 ≤ 2 ^ 40) where
@@ -123,7 +125,8 @@ module _ {n : ℕ} (d : List ℕ) (l : Lash) (D : Frac) (f : LashLimits n l) (fa
     pub athwart-reported : Reported m (athwartPart l D) (athwartFigure d l)
     unfolding athwartFigure
     athwart-reported =
-        covers-reported {b = 2} m (athwartPart l D) (omega arith) (rw athwart-is (padded-covers (F.part d l) lashPad off lash-pad lash-over))
+        covers-reported {b = 2} m (athwartPart l D) (omega arith)
+        (rw athwart-is (padded-covers (F.part d l) lashPad off lash-pad lash-over))
 
     pub pull-reported : Reported m (pull l D) (pullFigure d l)
     unfolding pullFigure

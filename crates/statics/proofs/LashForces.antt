@@ -64,7 +64,8 @@ module _ (l : Lash) (long : 0 < lashLength l) (wide : 0 < l .ly) where
   pub pull-is : (D : Frac) → mk (pull l D) ≡ stiffness l *ℚ mk D *ℚ (natℚ (lashLength l) /ℚ natℚ (l .ly))
   pull-is D =
       pull-q l D
-      ∙ go (E l) (natℚ (l .ly)) (mk D) (per-square l) (per-length l) (natℚ (lashLength l)) (recipℚ (natℚ (l .ly))) (unit-length l long) (recip-nat (l .ly) wide)
+      ∙ go (E l) (natℚ (l .ly)) (mk D) (per-square l) (per-length l) (natℚ (lashLength l)) (recipℚ (natℚ (l .ly))) (unit-length l long)
+      (recip-nat (l .ly) wide)
       ∙ ap (λ k. k *ℚ mk D *ℚ (natℚ (lashLength l) /ℚ natℚ (l .ly))) (sym (stiffness-q l))
     where
       go :

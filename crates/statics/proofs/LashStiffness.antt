@@ -25,7 +25,8 @@ module _ {n : ℕ} (l : Lash) (f : LashLimits n l) where
   -- L³ ≤ 42³ LY³
   cube-most : lashLength l * lashLength l * lashLength l ≤ l .modulus * l .area * (l .ly * l .ly) * 2 ^ 22
   cube-most =
-      go (lashLength l) (l .ly) (l .modulus * l .area) (mul-le-mul (mul-le-mul ratio ratio) ratio) (mul-le-mul-left (l .ly * l .ly) (f .ly-most)) (mul-le-mul-right (l .ly * l .ly) (mul-le-mul (f .modulus) (f .area)))
+      go (lashLength l) (l .ly) (l .modulus * l .area) (mul-le-mul (mul-le-mul ratio ratio) ratio)
+      (mul-le-mul-left (l .ly * l .ly) (f .ly-most)) (mul-le-mul-right (l .ly * l .ly) (mul-le-mul (f .modulus) (f .area)))
     where
       ratio : lashLength l ≤ 42 * l .ly
       ratio = length-ratio f
@@ -45,7 +46,11 @@ module _ {n : ℕ} (l : Lash) (f : LashLimits n l) where
   pub stiffness-above : nat 0 ⊏ athwartPart l (nat 1)
   stiffness-above =
       to-⊏ (nat 0) (athwartPart l (nat 1))
-      (rw (mk-int (pos 0)) (lt-of (natℚ 0) (stiffness l) (λ h. none (natℚ (stiffnessOf l)) (natℚ (2 ^ 22)) (stiffness l) (nat-q 1 (stiffnessOf l) stiffness-some) (nn-int (2 ^ 22)) (stiffness-low l (length-above f)) h)))
+      (rw (mk-int (pos 0))
+      (lt-of (natℚ 0) (stiffness l)
+      (λ h.
+      none (natℚ (stiffnessOf l)) (natℚ (2 ^ 22)) (stiffness l) (nat-q 1 (stiffnessOf l) stiffness-some) (nn-int (2 ^ 22))
+      (stiffness-low l (length-above f)) h)))
     where
       none : (x s y : ℚ) → natℚ 1 ≤ℚ x → natℚ 0 ≤ℚ s → x ≤ℚ s *ℚ y → y ≤ℚ natℚ 0 → ⊥
       none = ∀₃ ℚR _ λ ρ. simp qq λ a b h l. contra (to a ⊞ to h ⊞ to b ⊠ to l) tt
@@ -76,7 +81,9 @@ module _ {n : ℕ} (l : Lash) (f : LashLimits n l) where
       let E = l .modulus * l .area in
       let S = l .ly * l .ly in
       scaled (E * S) (L * L * L)
-      (le-nat (E * S) (155000 * (L * L * L)) (under-cube (pos E) (pos S) (pos L) (nat-le E 200000000 (mul-le-mul (f .modulus-most) (f .area-most))) (nn-pos S) (nat-le (S + 250000) (L * L) (omega (arith, length-least l .enough, mul-le-mul (f .lz) (f .lz)))) (nn-pos L)))
+      (le-nat (E * S) (155000 * (L * L * L))
+      (under-cube (pos E) (pos S) (pos L) (nat-le E 200000000 (mul-le-mul (f .modulus-most) (f .area-most))) (nn-pos S)
+      (nat-le (S + 250000) (L * L) (omega (arith, length-least l .enough, mul-le-mul (f .lz) (f .lz)))) (nn-pos L)))
     where
       scaled : (x c : ℕ) → x ≤ 155000 * c → x * 2 ^ 22 / c ≤ 155000 * 2 ^ 22
       scaled x c h = div-le-of-le-mul c (omega arith)

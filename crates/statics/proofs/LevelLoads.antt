@@ -1,4 +1,5 @@
--- The load on a level, Q of the tier under it less Q of the tier over it, from the two tiers alone; in whole numbers it is rounded down, below 2^18 N.
+-- The load on a level, Q of the tier under it less Q of the tier over it, from the two tiers alone; in whole numbers it is rounded
+-- down, below 2^18 N.
 use mathlib.Core.Path.{_≡_, refl, sym, ap, ap₂, _∙_}
 use mathlib.Core.Bool.{Bool, true, false, cond}
 use mathlib.Core.List.{List, [], _∷_}
@@ -37,7 +38,10 @@ wind-frac : (t : Tier) → nat 50000 *q wind t ≈ nat (windUnits t)
 unfolding wind windUnits recip
 wind-frac t = go (exposed t)
   where
-    go : (c : Bool) → nat 50000 *q given c (half *q nat 1080 *q thousandths (boxLength t) *q thousandths (t .height)) ≈ nat (cond c (27 * boxLength t * t .height) 0)
+    go :
+        (c : Bool) →
+        nat 50000 *q given c (half *q nat 1080 *q thousandths (boxLength t) *q thousandths (t .height)) ≈ nat
+        (cond c (27 * boxLength t * t .height) 0)
     go true = record { cross = ap pos (omega arith) }
     go false = record { cross = refl }
 
@@ -59,7 +63,8 @@ transverse-times : (factor : Frac) (t : Tier) →
 unfolding transverseUnits
 transverse-times factor t =
     ap (λ z. natℚ 200000 *ℚ z) (transverse-mk factor t)
-    ∙ law (natℚ 200000) (mk (half *q weight t *q thousandths (t .aT))) (mk factor) (natℚ (981 * transverseUnits t)) (half-weight-times t (t .aT))
+    ∙ law (natℚ 200000) (mk (half *q weight t *q thousandths (t .aT))) (mk factor) (natℚ (981 * transverseUnits t))
+    (half-weight-times t (t .aT))
   where
     law : (c b f p : ℚ) → c *ℚ b ≡ p → c *ℚ (b *ℚ f) ≡ p *ℚ f
     law = ∀₄ ℚR _ λ ρ. simp qq λ e. by-eqs (mul-eq (v 2) e) tt
@@ -107,14 +112,19 @@ module _ (rule : Rule) where
   pub load-between : (e : End) (ts : List Tier) (i : ℕ) →
       mk (loadAt (chainTiers rule e ts) i) ≡ between (getD ts i blankTier) (getD ts (suc i) blankTier)
   unfolding chainTiers between
-  load-between e [] i = mk-sub (nat 0) (nat 0) ∙ ap₂ _-ℚ_ (mk-int (pos 0)) (mk-int (pos 0)) ∙ law (mk (rule .share)) (mk (transverse (rule .factor) blankTier)) (mk half) (mk (wind blankTier)) (no-transverse (rule .factor)) no-wind
+  load-between e [] i =
+      mk-sub (nat 0) (nat 0)
+      ∙ ap₂ _-ℚ_ (mk-int (pos 0)) (mk-int (pos 0))
+      ∙ law (mk (rule .share)) (mk (transverse (rule .factor) blankTier)) (mk half) (mk (wind blankTier))
+      (no-transverse (rule .factor)) no-wind
     where
       law : (S F h P : ℚ) → F ≡ natℚ 0 → P ≡ natℚ 0 → natℚ 0 -ℚ natℚ 0 ≡ S *ℚ F +ℚ h *ℚ P +ℚ (F +ℚ P -ℚ (S *ℚ F +ℚ h *ℚ P))
       law = ∀₄ ℚR _ λ ρ. simp qq λ e f. by-eqs (mul-eq (kn 0) e ⊹ mul-eq (kn 0) f) tt
   load-between e (t ∷ []) zero =
       mk-sub (load rule t []) (nat 0)
       ∙ ap₂ _-ℚ_ (load-mk t [] ∙ ap (λ z. own t +ℚ z) above-none) (mk-int (pos 0))
-      ∙ law (own t) (mk (rule .share)) (mk (transverse (rule .factor) blankTier)) (mk half) (mk (wind blankTier)) (no-transverse (rule .factor)) no-wind
+      ∙ law (own t) (mk (rule .share)) (mk (transverse (rule .factor) blankTier)) (mk half) (mk (wind blankTier))
+      (no-transverse (rule .factor)) no-wind
     where
       law : (o S F h P : ℚ) → F ≡ natℚ 0 → P ≡ natℚ 0 → o +ℚ natℚ 0 -ℚ natℚ 0 ≡ o +ℚ (F +ℚ P -ℚ (S *ℚ F +ℚ h *ℚ P))
       law = ∀₅ ℚR _ λ ρ. simp qq λ e f. by-eqs (mul-eq (v 1 ⊖ kp 1) e ⊹ mul-eq (v 3 ⊖ kp 1) f) tt
@@ -137,7 +147,8 @@ pub transverse-number : (factor : Frac) (f : ℕ) →
     natℚ 200000000 *ℚ mk (transverse factor t) ≡ natℚ (981 * f * transverseUnits t)
 transverse-number factor f factor-is t =
     simp nat-times
-    (law (mk (transverse factor t)) (natℚ (transverseUnits t)) (mk factor) (natℚ f) (simp nat-times at (transverse-times factor t)) (times-q 1000 f factor factor-is))
+    (law (mk (transverse factor t)) (natℚ (transverseUnits t)) (mk factor) (natℚ f) (simp nat-times at (transverse-times factor t))
+    (times-q 1000 f factor factor-is))
   where
     law : (F p g f : ℚ) →
         natℚ 200000 *ℚ F ≡ natℚ 981 *ℚ p *ℚ g →
@@ -158,7 +169,10 @@ module _ (rule : Rule) (c : LoadRule) (stands : StandsFor c rule) where
       ≡ natℚ (s * (981 * f * transverseUnits t) + (20 - s) * (981 * f * transverseUnits u) + 40000 * (windUnits t + windUnits u))
   unfolding between
   between-times t u =
-      law (mk (rule .share)) (mk (transverse (rule .factor) t)) (mk (wind t)) (mk (transverse (rule .factor) u)) (mk (wind u)) (mk half) (natℚ s) (natℚ (20 - s)) (natℚ (981 * f * transverseUnits t)) (natℚ (981 * f * transverseUnits u)) (natℚ (windUnits t)) (natℚ (windUnits u)) (times-q 20 s (rule .share) (stands .share)) (transverse-number (rule .factor) f (stands .factor) t) (transverse-number (rule .factor) f (stands .factor) u) (wind-times t) (wind-times u) half-times rest
+      law (mk (rule .share)) (mk (transverse (rule .factor) t)) (mk (wind t)) (mk (transverse (rule .factor) u)) (mk (wind u)) (mk half)
+      (natℚ s) (natℚ (20 - s)) (natℚ (981 * f * transverseUnits t)) (natℚ (981 * f * transverseUnits u)) (natℚ (windUnits t))
+      (natℚ (windUnits u)) (times-q 20 s (rule .share) (stands .share)) (transverse-number (rule .factor) f (stands .factor) t)
+      (transverse-number (rule .factor) f (stands .factor) u) (wind-times t) (wind-times u) half-times rest
       ∙ sym (spread s (20 - s) (981 * f * transverseUnits t) (981 * f * transverseUnits u) (windUnits t) (windUnits u))
     where
       rest : natℚ s +ℚ natℚ (20 - s) ≡ natℚ 20
@@ -202,7 +216,8 @@ module _ (rule : Rule) (c : LoadRule) (stands : StandsFor c rule) where
       let u = getD ts (suc i) blankTier in
       let Q = loadAt (chainTiers rule e ts) i in
       let exact = ap (λ z. natℚ 4000000000 *ℚ z) (load-between rule e ts i) ∙ between-times t u in
-      rounded-same (2 ^ 28) 1 (levelLoad s f t u) _ Q (quotient-is 4000000000 _ Q (omega arith) (exact ∙ ap natℚ (omega arith))) (rounded-quotient _ (2 ^ 28) 4000000000 (omega arith))
+      rounded-same (2 ^ 28) 1 (levelLoad s f t u) _ Q (quotient-is 4000000000 _ Q (omega arith) (exact ∙ ap natℚ (omega arith)))
+      (rounded-quotient _ (2 ^ 28) 4000000000 (omega arith))
 
 -- pushes and gusts of a tier within its limits
 pub transverse-most : {t : Tier} → TierLimits t → transverseUnits t ≤ 45720000
@@ -221,5 +236,6 @@ wind-most {t} tf = wind-within (exposed t) (eqb (t .size) 20) (t .height) (tf .h
 pub load-most : (s f : ℕ) (t u : Tier) → s ≤ 20 → f ≤ 1000 → TierLimits t → TierLimits u → levelLoad s f t u ≤ 2 ^ 46
 unfolding levelLoad
 load-most s f t u s20 f1 tf uf =
-    let shares : s * transverseUnits t + (20 - s) * transverseUnits u ≤ 914400000 = omega (arith, mul-le-mul-left s (transverse-most tf), mul-le-mul-left (20 - s) (transverse-most uf)) in
+    let shares : s * transverseUnits t + (20 - s) * transverseUnits u ≤ 914400000 =
+    omega (arith, mul-le-mul-left s (transverse-most tf), mul-le-mul-left (20 - s) (transverse-most uf)) in
     div-le-of-le-mul 4000000000 (omega (arith, mul-le-mul f1 shares, wind-most tf, wind-most uf))

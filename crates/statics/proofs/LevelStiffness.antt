@@ -30,11 +30,20 @@ level-most n (l ∷ ls) f i = sum (eqb i (levelOf l)) (stiffness-most l (each-fi
     sum true h more = omega arith
     sum false h more = omega arith
 
-pub level-rounded : (n : ℕ) (ls : List Lash) → Each n ls → (i : ℕ) → Rounded (2 ^ 22) (atLevel i ls) (levelStiffness ls i) (stiffnessAt (chainLashes ls) i)
+pub level-rounded :
+    (n : ℕ) (ls : List Lash) →
+    Each n ls →
+    (i : ℕ) →
+    Rounded (2 ^ 22) (atLevel i ls) (levelStiffness ls i) (stiffnessAt (chainLashes ls) i)
 unfolding levelStiffness atLevel chainLash sumq
 level-rounded n [] f i = rounded-none (2 ^ 22)
-level-rounded n (l ∷ ls) f i = rounded-sum _ _ _ _ _ _ _ (mine (eqb i (levelOf l)) (stiffness-rounded l (length-above (each-first f)))) (level-rounded n ls (each-rest f) i)
+level-rounded n (l ∷ ls) f i =
+    rounded-sum _ _ _ _ _ _ _ (mine (eqb i (levelOf l)) (stiffness-rounded l (length-above (each-first f))))
+    (level-rounded n ls (each-rest f) i)
   where
-    mine : (c : Bool) → Rounded (2 ^ 22) 1 (stiffnessOf l) (athwartPart l (nat 1)) → Rounded (2 ^ 22) (cond c 1 0) (cond c (stiffnessOf l) 0) (given c (athwartPart l (nat 1)))
+    mine :
+        (c : Bool) →
+        Rounded (2 ^ 22) 1 (stiffnessOf l) (athwartPart l (nat 1)) →
+        Rounded (2 ^ 22) (cond c 1 0) (cond c (stiffnessOf l) 0) (given c (athwartPart l (nat 1)))
     mine true h = h
     mine false h = rounded-none (2 ^ 22)

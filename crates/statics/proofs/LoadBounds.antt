@@ -1,4 +1,5 @@
--- The exact loads of tiers within document 01's limits: none below zero; of ten tiers at most 2,440,000 N, 4,600,000 N of weight, turning over at most 28,960 mm.
+-- The exact loads of tiers within document 01's limits: none below zero; of ten tiers at most 2,440,000 N, 4,600,000 N of weight, with
+-- arms of at most 28,960 mm.
 use mathlib.Core.Path.{_≡_, refl, sym, ap, subst, _∙_}
 use mathlib.Core.List.{List, [], _∷_}
 use Prim.Native.Nat.{ℕ, zero, suc, _+_, _*_, _≤_}
@@ -25,7 +26,8 @@ use Rattle.statics.specs.Posts.{levelHeight, turning, weightAbove}
 use Rattle.statics.specs.inner.WholeNumbers.{transverseUnits, windUnits}
 use Rattle.sheet.specs.inner.Limits.{TierLimits}
 use Rattle.statics.proofs.WholeNumbers.{nat-plus, times-q}
-use Rattle.statics.proofs.LevelLoads.{above, above-none, above-mk, half-times, half-weight-times, wind-times, transverse-number, transverse-most, wind-most}
+use Rattle.statics.proofs.LevelLoads.{above, above-none, above-mk, half-times, half-weight-times, wind-times, transverse-number}
+use Rattle.statics.proofs.LevelLoads.{transverse-most, wind-most}
 use Rattle.statics.proofs.Within.{UpTo, up-none, up-more, up-sum, up-quotient, up-share}
 
 -- the limits of each tier of a list, and of none
@@ -58,7 +60,8 @@ module _ (acceleration : Tier → ℕ) (limit : (t : Tier) → TierLimits t → 
   verticalForce-up : (t : Tier) → TierLimits t → UpTo 460000 (verticalForce acceleration t)
   unfolding verticalForce
   verticalForce-up t f =
-      up-quotient 200000 (981 * (t .mass * acceleration t)) 460000 (verticalForce acceleration t) (omega arith) (half-weight-times t (acceleration t)) (omega (arith, mul-le-mul (f .mass) (limit t f)))
+      up-quotient 200000 (981 * (t .mass * acceleration t)) 460000 (verticalForce acceleration t) (omega arith)
+      (half-weight-times t (acceleration t)) (omega (arith, mul-le-mul (f .mass) (limit t f)))
 
   uprights-up : (ts : List Tier) → EachTier ts → UpTo (460000 * length ts) (sumq (verticalForce acceleration) ts)
   unfolding sumq
@@ -81,11 +84,15 @@ wind-up t f = up-quotient 50000 (windUnits t) 19100 (wind t) (omega arith) (wind
 -- F, P, Q and what turns about a level: share in twentieths, factor in thousandths, at most 1
 module _ (rule : Rule) (c : LoadRule) (stands : StandsFor c rule) where
   share-up : UpTo 1 (rule .share)
-  share-up = up-quotient 20 (c .share) 1 (rule .share) (omega arith) (times-q 20 (c .share) (rule .share) (stands .share)) (omega (arith, stands .share-most))
+  share-up =
+      up-quotient 20 (c .share) 1 (rule .share) (omega arith) (times-q 20 (c .share) (rule .share) (stands .share))
+      (omega (arith, stands .share-most))
 
   transverse-up : (t : Tier) → TierLimits t → UpTo 224900 (transverse (rule .factor) t)
   transverse-up t tf =
-      up-quotient 200000000 (981 * c .factor * transverseUnits t) 224900 (transverse (rule .factor) t) (omega arith) (transverse-number (rule .factor) (c .factor) (stands .factor) t) (omega (arith, mul-le-mul (stands .factor-most) (transverse-most tf)))
+      up-quotient 200000000 (981 * c .factor * transverseUnits t) 224900 (transverse (rule .factor) t) (omega arith)
+      (transverse-number (rule .factor) (c .factor) (stands .factor) t)
+      (omega (arith, mul-le-mul (stands .factor-most) (transverse-most tf)))
 
   -- F + P of a tier, and of a list of them
   passed-up : (t : Tier) → TierLimits t → UpTo 244000 (transverse (rule .factor) t +q wind t)
@@ -143,7 +150,9 @@ module _ (rule : Rule) (c : LoadRule) (stands : StandsFor c rule) where
   turning-least (t ∷ ts) tf foot h =
       let next = foot +q nat (t .height) in
       rw turning-mk
-      (go (mk (transverse (rule .factor) t)) (mk (wind t)) (mk foot) (mk (rule .share)) (mk half) (natℚ (t .height)) (mk (turning rule next ts)) (transverse-up t (tf 0) .least) (wind-up t (tf 0) .least) h (share-up .least) (half-up .least) (nn-int (t .height)) (turning-least ts (λ j. tf (suc j)) next (foot-least foot (t .height) h)))
+      (go (mk (transverse (rule .factor) t)) (mk (wind t)) (mk foot) (mk (rule .share)) (mk half) (natℚ (t .height))
+      (mk (turning rule next ts)) (transverse-up t (tf 0) .least) (wind-up t (tf 0) .least) h (share-up .least) (half-up .least)
+      (nn-int (t .height)) (turning-least ts (λ j. tf (suc j)) next (foot-least foot (t .height) h)))
     where
       go : (F P a S k h T : ℚ) →
           natℚ 0 ≤ℚ F →
@@ -170,7 +179,12 @@ module _ (rule : Rule) (c : LoadRule) (stands : StandsFor c rule) where
       nothing = ∀₁ ℚR _ λ ρ. simp qq (by-cert (num 0) tt)
   turning-most (t ∷ ts) tf foot h room =
       rw (turning-mk, above-mk rule t ts)
-      (go (mk (transverse (rule .factor) t)) (mk (wind t)) (mk foot) (mk (rule .share)) (mk half) (natℚ (t .height)) (natℚ (2896 * length ts)) (mk (turning rule (foot +q nat (t .height)) ts)) (mk (above rule ts)) (transverse-up t (tf 0) .least) (wind-up t (tf 0) .least) (share-up .most) (half-up .most) (nn-int (t .height)) (nat-q (t .height) 2896 (tf 0 .height)) (nn-int (2896 * length ts)) here (turning-most ts (λ j. tf (suc j)) (foot +q nat (t .height)) (foot-least foot (t .height) h) (rw foot-mk (next (mk foot) (natℚ (t .height)) (natℚ (2896 * length ts)) (nat-q (t .height) 2896 (tf 0 .height)) here))))
+      (go (mk (transverse (rule .factor) t)) (mk (wind t)) (mk foot) (mk (rule .share)) (mk half) (natℚ (t .height))
+      (natℚ (2896 * length ts)) (mk (turning rule (foot +q nat (t .height)) ts)) (mk (above rule ts)) (transverse-up t (tf 0) .least)
+      (wind-up t (tf 0) .least) (share-up .most) (half-up .most) (nn-int (t .height)) (nat-q (t .height) 2896 (tf 0 .height))
+      (nn-int (2896 * length ts)) here
+      (turning-most ts (λ j. tf (suc j)) (foot +q nat (t .height)) (foot-least foot (t .height) h)
+      (rw foot-mk (next (mk foot) (natℚ (t .height)) (natℚ (2896 * length ts)) (nat-q (t .height) 2896 (tf 0 .height)) here))))
     where
       here : mk foot +ℚ (natℚ 2896 +ℚ natℚ (2896 * length ts)) ≤ℚ natℚ 28960
       here = subst (λ z. mk foot +ℚ z ≤ℚ natℚ 28960) (ap natℚ (more (length ts)) ∙ nat-plus 2896 (2896 * length ts)) room
@@ -205,7 +219,9 @@ module _ (rule : Rule) (c : LoadRule) (stands : StandsFor c rule) where
   turning-up ts tf few =
       record {
         least = turning-least ts tf (nat 0) zero-least;
-        most = go (mk (turning rule (nat 0) ts)) (mk (above rule ts)) (turning-most ts tf (nat 0) zero-least room) (up-more (omega arith) (above-up ts tf) .most);
+        most =
+            go (mk (turning rule (nat 0) ts)) (mk (above rule ts)) (turning-most ts tf (nat 0) zero-least room)
+            (up-more (omega arith) (above-up ts tf) .most);
       }
     where
       zero-least : natℚ 0 ≤ℚ mk (nat 0)

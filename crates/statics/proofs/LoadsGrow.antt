@@ -1,4 +1,5 @@
--- Level loads in fractions, for any share from 0 to 1 and any factor not below zero: none is below zero, and none is less under heavier boxes.
+-- Level loads in fractions, for any share from 0 to 1 and any factor not below zero: none is below zero, and none is less under
+-- heavier boxes.
 use mathlib.Core.Path.{_≡_, refl, sym, ap, subst, _∙_}
 use mathlib.Core.List.{List}
 use Prim.Native.Nat.{ℕ, suc, _*_, _≤_}
@@ -67,7 +68,8 @@ module _ (rule : Rule) (p : Proper rule) where
   between-least : (t u : Tier) → natℚ 0 ≤ℚ between rule t u
   unfolding between
   between-least t u =
-      go S (mk half) (F t) (mk (wind t)) (F u) (mk (wind u)) share-least share-most half-times (force-least t) (wind-least t) (force-least u) (wind-least u)
+      go S (mk half) (F t) (mk (wind t)) (F u) (mk (wind u)) share-least share-most half-times (force-least t) (wind-least t)
+      (force-least u) (wind-least u)
     where
       go : (S h F P G O : ℚ) →
           natℚ 0 ≤ℚ S →
@@ -91,7 +93,9 @@ module _ (rule : Rule) (p : Proper rule) where
   force-grows : {t u : Tier} → HeavierTier t u → F t ≤ℚ F u
   force-grows {t} {u} h =
       rw (transverse-mk (rule .factor) t, transverse-mk (rule .factor) u)
-      (go (base t) (base u) (mk (rule .factor)) (natℚ (981 * (t .mass * t .aT))) (natℚ (981 * (u .mass * u .aT))) (half-weight-times t (t .aT)) (half-weight-times u (u .aT)) (nat-q (981 * (t .mass * t .aT)) (981 * (u .mass * u .aT)) more) factor-least)
+      (go (base t) (base u) (mk (rule .factor)) (natℚ (981 * (t .mass * t .aT))) (natℚ (981 * (u .mass * u .aT)))
+      (half-weight-times t (t .aT)) (half-weight-times u (u .aT))
+      (nat-q (981 * (t .mass * t .aT)) (981 * (u .mass * u .aT)) more) factor-least)
     where
       same : t .aT ≡ u .aT
       same = sym (ap (λ (x : Tier). x .aT) (h .same))
@@ -131,7 +135,8 @@ stands-proper {c} {rule} s =
     let share = times-q 20 (c .share) (rule .share) (s .share) in
     let factor = times-q 1000 (c .factor) (rule .factor) (s .factor) in
     record {
-      share-least = to-⊑ (nat 0) (rule .share) (rw (mk-int (pos 0)) (least-20 (mk (rule .share)) (natℚ (c .share)) share (nn-int (c .share))));
+      share-least =
+          to-⊑ (nat 0) (rule .share) (rw (mk-int (pos 0)) (least-20 (mk (rule .share)) (natℚ (c .share)) share (nn-int (c .share))));
       share-most =
           to-⊑ (rule .share) (nat 1)
           (rw (mk-int (pos 1)) (most (mk (rule .share)) (natℚ (c .share)) share (nat-q (c .share) 20 (s .share-most))));

@@ -31,7 +31,8 @@ module _ {m n : ℕ} (wider : m ≤ n) where
       to-⊏ s (x +q nat n)
       (rw (mk-add x (nat n), mk-int (pos n))
       (lt-of (mk s) (mk x +ℚ natℚ n)
-      (λ l. lt-not (rw (mk-add x (nat m), mk-int (pos m)) at (of-⊏ s (x +q nat m) h)) (go (mk s) (mk x) (natℚ m) (natℚ n) (nat-q m n wider) l))))
+      (λ l.
+      lt-not (rw (mk-add x (nat m), mk-int (pos m)) at (of-⊏ s (x +q nat m) h)) (go (mk s) (mk x) (natℚ m) (natℚ n) (nat-q m n wider) l))))
     where
       go : (s x m n : ℚ) → m ≤ℚ n → x +ℚ n ≤ℚ s → x +ℚ m ≤ℚ s
       go = ∀₄ ℚR _ λ ρ. simp qq λ h l. by-cert (to h ⊞ to l) tt

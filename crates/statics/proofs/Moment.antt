@@ -1,4 +1,5 @@
--- The moment of document 01 at a level, of F, P and athwart lash parts by their heights over it, is the sum of height × racking of the tiers above.
+-- The moment of document 01 at a level, of F, P and athwart lash parts by their heights over it, is the sum of height × racking of the
+-- tiers above.
 use mathlib.Core.Path.{_≡_, refl, sym, ap, ap₂, fun-ext, _∙_}
 use mathlib.Core.Bool.{Bool, true, false}
 use mathlib.Core.List.{List, [], _∷_}
@@ -21,15 +22,11 @@ use Rattle.statics.specs.Loads.{half, transverse, wind, load, Rule}
 use Rattle.statics.specs.Lashes.{athwartPart}
 use Rattle.statics.specs.Ends.{chainTiers, chainLash, chainLashes}
 use Rattle.sheet.specs.Ends.{End}
+use Rattle.statics.specs.Theorems.{rackingMoment, MomentByRackings}
 use Rattle.statics.specs.Posts.{levelHeight, turning, athwartOf, moment}
 use Rattle.statics.proofs.EndChain.{chain-length}
 use Rattle.statics.proofs.LashForces.{athwart-is}
 use Rattle.statics.proofs.Arms.{Q, held, turns, racked, turned-back, balance}
-
--- height × racking, summed over the tiers from number i + 1 on
-unfoldable pub rackingMoment : (ℕ → Frac) → List Tier → ℕ → Frac
-rackingMoment R [] i = nat 0
-rackingMoment R (t ∷ ts) i = nat (t .height) *q R i +q rackingMoment R ts (suc i)
 
 mk-given : (b : Bool) (x : Frac) → mk (given b x) ≡ givenℚ b (mk x)
 unfolding int
@@ -79,7 +76,8 @@ module _ (rule : Rule) (Ds : List Frac) where
   load-q : (t : Tier) (above : List Tier) → mk (load rule t above) ≡ Q F P athwart (mk (rule .share)) (mk half) t above
   unfolding load Q F P _+ℚ_ _*ℚ_
   load-q t above =
-      ap (λ y. mk (rule .share *q transverse (rule .factor) t +q half *q wind t) +ℚ y) (mk-sum (λ u. transverse (rule .factor) u +q wind u) above)
+      ap (λ y. mk (rule .share *q transverse (rule .factor) t +q half *q wind t) +ℚ y)
+      (mk-sum (λ u. transverse (rule .factor) u +q wind u) above)
 
   held-q : (ls : List Lash) (i : ℕ) → mk (S.athwartFrom (chainLashes ls) Ds i) ≡ held F P athwart (mk (rule .share)) (mk half) ls i
   unfolding held athwart sumq sumℚ chainLash int
@@ -100,7 +98,10 @@ module _ (rule : Rule) (Ds : List Frac) where
         j < length ts →
         mk (R k) ≡ mk (S.tierAt (chainTiers rule e ts) j .Q -q S.athwartFrom (chainLashes ls) Ds (suc k))
 
-    racked-q : (ts : List Tier) (i : ℕ) → Balanced ts i → racked F P athwart (mk (rule .share)) (mk half) ls ts i ≡ mk (rackingMoment R ts i)
+    racked-q :
+        (ts : List Tier) (i : ℕ) →
+        Balanced ts i →
+        racked F P athwart (mk (rule .share)) (mk half) ls ts i ≡ mk (rackingMoment R ts i)
     unfolding Balanced racked rackingMoment chainTiers int
     racked-q [] i b = refl
     racked-q (t ∷ ts) i b =
@@ -136,7 +137,7 @@ module _ (rule : Rule) (e : End) where
         here = ap (λ c. S.tierAt c j) (chain-drop i ts) ∙ getD-drop i chain j S.noTier ∙ ap (S.tierAt chain) h
 
     -- M of a level, at any solution of an end's equations and for any share
-    pub moment-is : moment rule ts ls Ds i ≈ rackingMoment (S.racking (chainTiers rule e ts) Ds) (drop i ts) i
+    pub moment-is : MomentByRackings rule e ts ls Ds i
     moment-is =
         to-≈ (moment rule ts ls Ds i) (rackingMoment (S.racking chain Ds) (drop i ts) i)
         (moment-q rule Ds ts ls i

@@ -31,4 +31,5 @@ module _ (rule : Rule) (e : End) {t : Sheet} (f : SheetLimits t) where
 
   pub leeward : Proper rule → NoWindwardShift rule e t
   leeward p Ds s i =
-      no-shift-to-windward (endTiers rule e t) (endLashes e t) Ds (end-stiff rule e t f) (s .solves) (λ j h. loads-leeward rule p e (tiersOf t) j) i
+      no-shift-to-windward (endTiers rule e t) (endLashes e t) Ds (end-stiff rule e t f) (s .solves)
+      (λ j h. loads-leeward rule p e (tiersOf t) j) i

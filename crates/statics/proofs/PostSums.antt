@@ -23,7 +23,7 @@ use Rattle.statics.specs.inner.WholeNumbers.{rackingPart, momentPart, le
 use Rattle.statics.proofs.Errors.{Off, off-neg, off-add, off-more, off-times, off-share}
 use Rattle.statics.proofs.Scales.{newtons, newtons-add, newtons-neg, newtons-scale, nothing-off, quot-off}
 use Rattle.statics.proofs.Pads.{roundedRackingError, tierError, verticalsError, sumError, postError, post-room}
-use Rattle.statics.proofs.Moment.{rackingMoment}
+use Rattle.statics.specs.Theorems.{rackingMoment}
 
 racking-error-nn : natℚ 0 ≤ℚ roundedRackingError
 racking-error-nn = nn-times (natℚ 6) (recipℚ (natℚ 100)) (nn-int 6) (recip-nn (natℚ 100))

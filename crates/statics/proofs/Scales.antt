@@ -12,7 +12,8 @@ use Rattle.arith.specs.Rounding.{roundedUp}
 use Rattle.arith.specs.Fractions.{nat}
 use Rattle.arith.proofs.Rings.{∀₂, ∀₃, ∀₄, ∀₅, by-ring, by-cert, to, _⊞_, _⊠_}
 use Rattle.arith.proofs.Integers.{_≼_}
-use Rattle.arith.proofs.Rationals.{ℚR, ℚ, mk, int, _+ℚ_, _*ℚ_, _/ℚ_, recipℚ, negℚ, _≤ℚ_, <→≤, recip-times, recip-nn, int-plus, int-times, nn-int, nn-times}
+use Rattle.arith.proofs.Rationals.{ℚR, ℚ, mk, int, _+ℚ_, _*ℚ_, _/ℚ_, recipℚ, negℚ, _≤ℚ_, <→≤, recip-times, recip-nn, int-plus, int-times}
+use Rattle.arith.proofs.Rationals.{nn-int, nn-times}
 use Rattle.arith.proofs.RationalTerms.{qq, q-int-neg}
 use Rattle.arith.proofs.Signs.{div-eq, le-int}
 use Rattle.arith.proofs.RationalOrder.{above-0, unit, unit-times, nat-q, div-le}

@@ -54,7 +54,8 @@ module _ (d : List ℕ) (Ds : List Frac) where
     shift-errors-nn : (ls : List Lash) → Each n ls → natℚ 0 ≤ℚ shiftErrors ls
     unfolding sumℚ
     shift-errors-nn [] f = nn-int 0
-    shift-errors-nn (l ∷ ls) f = nn-plus (shiftErrorAt l) (shiftErrors ls) (shift-error-at-nn l (each-first f)) (shift-errors-nn ls (each-rest f))
+    shift-errors-nn (l ∷ ls) f =
+        nn-plus (shiftErrorAt l) (shiftErrors ls) (shift-error-at-nn l (each-first f)) (shift-errors-nn ls (each-rest f))
 
     pub shift-error-le : (ls : List Lash) → Each n ls → (j : ℕ) → j < length ls → shiftErrorAt (getD ls j blankLash) ≤ℚ shiftErrors ls
     unfolding sumℚ
@@ -67,7 +68,8 @@ module _ (d : List ℕ) (Ds : List Frac) where
         go : (x y : ℚ) → natℚ 0 ≤ℚ y → x ≤ℚ x +ℚ y
         go = ∀₂ ℚR _ λ ρ. simp qq λ h. by-cert (to h) tt
     shift-error-le (l ∷ ls) f (suc j) h =
-        go (shiftErrorAt l) (shiftErrors ls) (shiftErrorAt (getD ls j blankLash)) (shift-error-at-nn l (each-first f)) (shift-error-le ls (each-rest f) j (omega arith))
+        go (shiftErrorAt l) (shiftErrors ls) (shiftErrorAt (getD ls j blankLash)) (shift-error-at-nn l (each-first f))
+        (shift-error-le ls (each-rest f) j (omega arith))
       where
         go : (x y z : ℚ) → natℚ 0 ≤ℚ x → z ≤ℚ y → z ≤ℚ x +ℚ y
         go = ∀₃ ℚR _ λ ρ. simp qq λ h l. by-cert (to h ⊞ to l) tt

@@ -101,7 +101,8 @@ module _
   added-off l f =
       let D = shift Ds (levelOf l) in
       counted-off (counts l) (part (lashingOf l) (upward d l)) (force (lashingOf l) (verticalPart l D))
-      (post .takes (verticalError (shiftErrorAt d Ds l)) (upward d l) (verticalPart l D) (lashingOf l) (upward-off d l D f (far (levelOf l))))
+      (post .takes (verticalError (shiftErrorAt d Ds l)) (upward d l) (verticalPart l D) (lashingOf l)
+      (upward-off d l D f (far (levelOf l))))
 
   all-off :
       {n : ℕ} (ls : List Lash) →
@@ -110,10 +111,15 @@ module _
   unfolding upwards sumq sumℚ
   all-off [] f =
       nothing-off
-      (nn-plus (natℚ 40 *ℚ natℚ 0) (natℚ 0 *ℚ cost) (nn-times (natℚ 40) (natℚ 0) (nn-int 40) (nn-int 0)) (nn-times (natℚ 0) cost (nn-int 0) cost-nn))
+      (nn-plus (natℚ 40 *ℚ natℚ 0) (natℚ 0 *ℚ cost) (nn-times (natℚ 40) (natℚ 0) (nn-int 40) (nn-int 0))
+      (nn-times (natℚ 0) cost (nn-int 0) cost-nn))
   all-off (l ∷ ls) f =
       let rest = upwards part counts d ls in
-      rw (mk-add (addedq l) (verticals force counts ls Ds), newtons-add (pos (added l)) (pos rest), one-more (shiftErrorAt d Ds l) (shiftErrors d Ds ls) (length ls))
+      rw (
+        mk-add (addedq l) (verticals force counts ls Ds),
+        newtons-add (pos (added l)) (pos rest),
+        one-more (shiftErrorAt d Ds l) (shiftErrors d Ds ls) (length ls),
+      )
       (off-add (added-off l (each-first f)) (all-off ls (each-rest f)))
 
   pub verticals-off :
@@ -125,7 +131,8 @@ module _
   unfolding cost
   verticals-off ls f few small =
       off-more
-      (go (shiftErrors d Ds ls) shiftErrorBound (natℚ (length ls)) cost verticalsError small (nat-q (length ls) 8 few) cost-nn verticals-room)
+      (go (shiftErrors d Ds ls) shiftErrorBound (natℚ (length ls)) cost verticalsError small
+      (nat-q (length ls) 8 few) cost-nn verticals-room)
       (all-off ls f)
     where
       go :

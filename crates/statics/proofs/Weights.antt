@@ -66,9 +66,11 @@ module _ (acceleration : Tier → ℕ) where
   unfolding unitary
   half-is ts =
       let L = verticalUnits acceleration ts in
-      div-eq (mk (sumq (verticalForce acceleration) ts) /ℚ natℚ 2) (newtons (pos (981 * L * 2 ^ 18))) (natℚ 400000) (above-0 400000 (lit≤ tt))
+      div-eq (mk (sumq (verticalForce acceleration) ts) /ℚ natℚ 2) (newtons (pos (981 * L * 2 ^ 18))) (natℚ 400000)
+      (above-0 400000 (lit≤ tt))
       (ap (λ z. z /ℚ natℚ 2 *ℚ natℚ 400000) (units-is ts)
-      ∙ go (natℚ L) (recipℚ (natℚ 2)) (recipℚ (natℚ 100)) (recipℚ (natℚ 1000)) (recip-nat 2 (lit≤ tt)) (recip-nat 100 (lit≤ tt)) (recip-nat 1000 (lit≤ tt))
+      ∙ go (natℚ L) (recipℚ (natℚ 2)) (recipℚ (natℚ 100)) (recipℚ (natℚ 1000)) (recip-nat 2 (lit≤ tt)) (recip-nat 100 (lit≤ tt))
+      (recip-nat 1000 (lit≤ tt))
       ∙ sym (newtons-whole (981 * L) ∙ int-times (pos 981) (pos L)))
     where
       go :
@@ -80,7 +82,8 @@ module _ (acceleration : Tier → ℕ) where
       go =
           ∀₄ ℚR _ λ ρ. simp qq λ i j k.
           by-eqs
-          (mul-eq (kp 981 ⊗ v 0 ⊗ (kp 2 ⊗ v 1 ⊕ kp 1) ⊗ (kp 100 ⊗ v 2) ⊗ (kp 1000 ⊗ v 3)) i ⊹ mul-eq (kp 981 ⊗ v 0 ⊗ (kp 1000 ⊗ v 3)) j ⊹ mul-eq (kp 981 ⊗ v 0) k)
+          (mul-eq (kp 981 ⊗ v 0 ⊗ (kp 2 ⊗ v 1 ⊕ kp 1) ⊗ (kp 100 ⊗ v 2) ⊗ (kp 1000 ⊗ v 3)) i ⊹ mul-eq
+          (kp 981 ⊗ v 0 ⊗ (kp 1000 ⊗ v 3)) j ⊹ mul-eq (kp 981 ⊗ v 0) k)
           tt
 
   pub weight-off :

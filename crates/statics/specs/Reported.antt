@@ -22,19 +22,22 @@ pub record Directed (margin : ℕ) (exact : Frac) (shown : ℤ) : Type 0 where
   pub leeward : nat margin ⊑ exact → pos 0 <ℤ shown
   pub windward : exact ⊑ negq (nat margin) → shown <ℤ pos 0
 
--- the reported size at an entry; that of a racking is its value without the sign
+-- the reported number at an entry, and its size: its value without the sign
+abbrev pub reportedNumber : Force → EndFigures → ℕ → ℤ
+reportedNumber racking f i = getD (f .racking) i (pos 0)
+reportedNumber compression f i = pos (getD (f .compression) i 0)
+reportedNumber tension f i = pos (getD (f .tension) i 0)
+reportedNumber lashTension f j = pos (getD (f .pull) j 0)
+reportedNumber lashAthwart f j = pos (getD (f .athwart) j 0)
+reportedNumber lashVertical f j = pos (getD (f .vertical) j 0)
+
 abbrev pub reportedSize : Force → EndFigures → ℕ → ℕ
-reportedSize racking f i = natAbs (getD (f .racking) i (pos 0))
-reportedSize compression f i = getD (f .compression) i 0
-reportedSize tension f i = getD (f .tension) i 0
-reportedSize lashTension f j = getD (f .pull) j 0
-reportedSize lashAthwart f j = getD (f .athwart) j 0
-reportedSize lashVertical f j = getD (f .vertical) j 0
+reportedSize x f i = natAbs (reportedNumber x f i)
 
 -- every force of an end, at shifts Ds of its levels
 pub record EndReported (margin : ℕ) (rule : Rule) (e : End) (t : Sheet) (Ds : List Frac) (f : EndFigures) : Type 0 where
   pub forces : (x : Force) (i : ℕ) → i < entryCount x e t → Reported margin (exactForce x rule e t Ds i) (reportedSize x f i)
-  pub ways : (i : ℕ) → i < t .ntiers → Directed margin (exactForce racking rule e t Ds i) (getD (f .racking) i (pos 0))
+  pub ways : (i : ℕ) → i < t .ntiers → Directed margin (exactForce racking rule e t Ds i) (reportedNumber racking f i)
 
 -- the figures fit the answer's four bytes, signed or not
 pub record Fitting (f : EndFigures) : Type 0 where

@@ -1,4 +1,4 @@
-// The figures that are reported of a stack. Its exact forces are in specs/; proofs/ shows that figures computed in whole numbers report them.
+// What is reported of a stack. Its exact forces are in specs/; proofs/ shows that figures computed in whole numbers report them.
 
 // The figures of one end: racking per tier, compression per level from 0, tension per level from 0, and each lash's tension,
 // athwart and vertical part, all in N.

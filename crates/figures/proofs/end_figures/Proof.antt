@@ -49,8 +49,12 @@ solve-requires : tie.Need-solve-requires
 solve-requires c κs =
     let g = c .before .before .before .before in
     let b = entered g in
-    let p = b .pre in
-    (end-solvable (p .0) (counted b) (g .gear-of .ensures .1), omega (arith, p .0 .few, p .1 .0), omega (arith, p .0 .few, g .gear-of .kept .1 .1 .1 .1 .0), omega (arith, p .0 .few, p .1 .1))
+    let p = b .pre in (
+      end-solvable (p .0) (counted b) (g .gear-of .ensures .1),
+      omega (arith, p .0 .few, p .1 .0),
+      omega (arith, p .0 .few, g .gear-of .kept .1 .1 .1 .1 .0),
+      omega (arith, p .0 .few, p .1 .1),
+    )
 
 slice-aggregate-lash-figures : tie.Need-slice-aggregate-lash-figures
 slice-aggregate-lash-figures c = search needs
@@ -95,7 +99,9 @@ returns c =
     let κ = stiffnesses-named (take (b .args .m) (b .args .lashes)) (g .gear-of .kept .1 .1 .1 .1 .0) (g .gear-of .ensures .1) in
     let d = s .solve .ensures .1 ∙ ap (λ (κ : List ℕ). S.solved (b .args .n) (b .args .k .now) κ (b .args .loads .now)) κ in
     end-named (b .pre .0) (counted b) (p .lash-figures .ensures .0) (posts .0) (posts .1) (v .level-figures .ensures)
-    ∙ ap (λ (d : List ℕ). figuresAt (b .args .n) (b .args .k .now) (take (b .args .n) (b .args .tiers)) (take (b .args .m) (b .args .lashes)) d) d
+    ∙ ap
+    (λ (d : List ℕ).
+    figuresAt (b .args .n) (b .args .k .now) (take (b .args .n) (b .args .tiers)) (take (b .args .m) (b .args .lashes)) d) d
 
 pub end-figures-spec : {M : Type 1} → statement M
 end-figures-spec =

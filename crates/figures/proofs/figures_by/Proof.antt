@@ -48,8 +48,10 @@ end-figures-requires c κs =
     let l = c .before .before .before .before .before .before .before in
     let p = entered l .pre .0 in
     let e = l .loads-of .ensures in
-    let long = l .loads-of .kept .1 .1 .1 in
-    (rw (door-springs (tiersOf (entered l .args .s))) (workable (sheet-limits p) door _ _ _ _ _ (p .door .few) (e .0) (e .1)), (refl, long .0, long .1 .0, long .1 .1 .0))
+    let long = l .loads-of .kept .1 .1 .1 in (
+      rw (door-springs (tiersOf (entered l .args .s))) (workable (sheet-limits p) door _ _ _ _ _ (p .door .few) (e .0) (e .1)),
+      (refl, long .0, long .1 .0, long .1 .1 .0),
+    )
 
 slice-aggregate-end-figures-5 : tie.Need-slice-aggregate-end-figures-5
 slice-aggregate-end-figures-5 c = search needs
@@ -68,8 +70,10 @@ end-figures-requires-2 c κs =
     let l = loaded (c .before .before .before .before) in
     let p = entered l .pre .0 in
     let e = l .loads-of .ensures in
-    let long = l .loads-of .kept .1 .1 .1 in
-    (rw (closed-springs (tiersOf (entered l .args .s))) (workable (sheet-limits p) closed _ _ _ _ _ (p .closed .few) (e .0) (e .1)), (refl, long .0, long .1 .0, long .1 .1 .0))
+    let long = l .loads-of .kept .1 .1 .1 in (
+      rw (closed-springs (tiersOf (entered l .args .s))) (workable (sheet-limits p) closed _ _ _ _ _ (p .closed .few) (e .0) (e .1)),
+      (refl, long .0, long .1 .0, long .1 .1 .0),
+    )
 
 returns : tie.Need-returns
 unfolding figuresBy

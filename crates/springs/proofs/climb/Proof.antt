@@ -13,6 +13,10 @@ Inv-loop n k kappa omega x y d₀ i₀ d i = Up n k kappa omega d i
 abbrev μ-loop : tie.MeasureT-loop
 μ-loop n k kappa omega x y d₀ i₀ d i = n - i
 
+-- from the loop back to the call
+abbrev entered : tie.At-loop Inv-loop μ-loop → tie.Start Inv-loop μ-loop
+entered l = l .before .before .before .before .before .before
+
 loop-holds : tie.Need-loop-holds Inv-loop μ-loop
 loop-holds c =
     let g = c .before .before .before .before .before .args in
@@ -60,7 +64,7 @@ array-read-shift-up c = search needs
 shift-up-requires : tie.Need-shift-up-requires Inv-loop μ-loop
 shift-up-requires c κs =
     let l = c .before .before .before .before .before .before in
-    let b = l .before .before .before .before .before .before in
+    let b = entered l in
     let g = b .args in
     up-ready (g .n) (g .k .now) (g .kappa .now) (g .omega .now) (g .x .now) (g .y .now) (l .loop .d) (l .loop .i) (l .loop .i + 1)
     (add-one (l .loop .i))
@@ -81,7 +85,7 @@ loop-less c = search needs
 loop-again : tie.Need-loop-again Inv-loop μ-loop
 loop-again c =
     let l = c .before .before .before .before .before .before .before in
-    let b = l .before .before .before .before .before .before in
+    let b = entered l in
     let g = b .args in
     up-next (g .n) (g .k .now) (g .kappa .now) (g .omega .now) (g .x .now) (g .y .now) (l .loop .d) (l .loop .i) (l .loop .i + 1)
     (add-one (l .loop .i))
@@ -95,7 +99,7 @@ loop-again c =
 returns : tie.Need-returns Inv-loop μ-loop
 returns c =
     let l = c .before in
-    let b = l .before .before .before .before .before .before in
+    let b = entered l in
     let g = b .args in
     up-done (g .n) (g .k .now) (g .kappa .now) (g .omega .now) (l .loop .d) (l .loop .i)
     (omega (arith, l .loop .inv .within))

@@ -30,7 +30,10 @@ add-scaled c = search needs
 
 scaled-requires : tie.Need-scaled-requires
 scaled-requires c κs =
-    let b = c .before in let a = b .args in scalable (a .k) (a .kappa) (a .x) (b .pre .0) (a .k * (a .omega + a .y)) (load-fits (a .k) (a .kappa) (a .x) (b .pre .0) (a .omega + a .y) (b .pre .1))
+    let b = c .before in
+    let a = b .args in
+    scalable (a .k) (a .kappa) (a .x) (b .pre .0) (a .k * (a .omega + a .y))
+    (load-fits (a .k) (a .kappa) (a .x) (b .pre .0) (a .omega + a .y) (b .pre .1))
 
 returns-2 : tie.Need-returns-2
 unfolding loadDown

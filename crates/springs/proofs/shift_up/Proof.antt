@@ -39,7 +39,10 @@ add-scaled-2 c = search needs
 
 scaled-requires : tie.Need-scaled-requires
 scaled-requires c κs =
-    let b = c .before in let a = b .args in scalable (a .k) (a .kappa) (a .x) (b .pre .0) (a .omega + a .y + a .k * a .p) (shift-fits (a .k) (a .kappa) (a .x) (b .pre .0) (a .omega + a .y) (a .p) (b .pre .1) (b .pre .2))
+    let b = c .before in
+    let a = b .args in
+    scalable (a .k) (a .kappa) (a .x) (b .pre .0) (a .omega + a .y + a .k * a .p)
+    (shift-fits (a .k) (a .kappa) (a .x) (b .pre .0) (a .omega + a .y) (a .p) (b .pre .1) (b .pre .2))
 
 returns-2 : tie.Need-returns-2
 unfolding shiftUp

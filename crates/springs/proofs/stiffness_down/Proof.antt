@@ -27,7 +27,9 @@ add-scaled c = search needs
 
 scaled-requires : tie.Need-scaled-requires
 scaled-requires c κs =
-    let b = c .before in let a = b .args in scalable (a .k) (a .kappa) (a .x) (b .pre) (a .k * (a .kappa + a .x)) (stiffness-fits (a .k) (a .kappa) (a .x) (b .pre))
+    let b = c .before in
+    let a = b .args in
+    scalable (a .k) (a .kappa) (a .x) (b .pre) (a .k * (a .kappa + a .x)) (stiffness-fits (a .k) (a .kappa) (a .x) (b .pre))
 
 returns-2 : tie.Need-returns-2
 unfolding stiffnessDown

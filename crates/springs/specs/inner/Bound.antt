@@ -15,8 +15,9 @@ use Rattle.springs.specs.inner.Elimination.{divisor, stiffnessTo, shiftA
 abbrev pub springAt : ℕ → List ℕ → ℕ → ℕ
 springAt n k i = cond (ltb i n) (getD k i 0) 0
 
--- the most that level i + 1 may be out of balance by, in 2^-50 N. Too much to leeward: four units of the lashes' stiffness and one of what is handed
--- down, at its shift, and the rounded shift over it; too little: the remainder of its own shift, one unit of load handed down and four of its own
+-- the most that level i + 1 may be out of balance by, in 2^-50 N. Too much to leeward: four units of the lashes' stiffness and one of what
+-- is handed down, at its shift, and the rounded shift over it; too little: the remainder of its own shift, one unit of load handed down and
+-- four of its own
 abbrev pub levelError : ℕ → List ℕ → List ℕ → List ℕ → ℕ → ℕ
 levelError n k κ ω i =
     max (5 * shiftAt n k κ ω (suc i) + springAt n k (suc i) * stiffnessScale)

@@ -1,8 +1,9 @@
--- The solver's steps in whole numbers, elimination from the top down and then the shifts from the deck up; and what they give by name, `solved`.
+-- The solver's steps in whole numbers: elimination from the top down, then the shifts from the deck up. Other crates cite `solved` alone,
+-- and by its name.
 use mathlib.Core.Bool.{cond}
 use mathlib.Core.List.{List, map}
 use mathlib.Core.Path.{_≡_}
-use Prim.Native.Nat.{ℕ, zero, suc, _+_, _*_, _-_, _<_, _≤_}
+use Prim.Native.Nat.{ℕ, zero, suc, _+_, _*_, _-_, _≤_}
 use lib.Dec.{ltb}
 use lib.ListN.{getD}
 use Rattle.arith.specs.Lists.{below}
@@ -26,7 +27,8 @@ loadDown k κ ω x y = scaledDown (k * (ω + y)) stiffnessScale (divisor k κ x)
 unfoldable pub shiftUp : ℕ → ℕ → ℕ → ℕ → ℕ → ℕ → ℕ
 shiftUp k κ ω x y p = scaledDown (ω + y + k * p) stiffnessScale (divisor k κ x)
 
--- all levels: what the m tiers over level i, springs k, with the lashes κ and the loads ω of the levels over them, hand down to it: stiffness ..
+-- all levels: what the m tiers over level i, springs k, with the lashes κ and the loads ω of the levels over them, hand down to it:
+-- stiffness ..
 unfoldable pub stiffnessTo : List ℕ → List ℕ → ℕ → ℕ → ℕ
 stiffnessTo k κ i zero = 0
 stiffnessTo k κ i (suc m) = stiffnessDown (getD k i 0) (getD κ i 0) (stiffnessTo k κ (suc i) m)
@@ -41,7 +43,8 @@ unfoldable pub shiftAt : ℕ → List ℕ → List ℕ → List ℕ → ℕ → 
 shiftAt n k κ ω zero = 0
 shiftAt n k κ ω (suc i) =
     cond (ltb i n)
-    (shiftUp (getD k i 0) (getD κ i 0) (getD ω i 0) (stiffnessTo k κ (suc i) (n - suc i)) (loadTo k κ ω (suc i) (n - suc i)) (shiftAt n k κ ω i))
+    (shiftUp (getD k i 0) (getD κ i 0) (getD ω i 0) (stiffnessTo k κ (suc i) (n - suc i)) (loadTo k κ ω (suc i) (n - suc i))
+    (shiftAt n k κ ω i))
     0
 
 -- what `solve` returns: the shifts of levels 0 to 10
@@ -56,8 +59,8 @@ pub record InRange (k κ x : ℕ) : Type 0 where
   pub above : x ≤ closedSpring * stiffnessScale
 
 -- the most load of a level with what is handed down to it: that of ten levels
-abbrev pub mostLoad : ℕ
-mostLoad = 10 * mostLoaded
+abbrev pub mostLoadTogether : ℕ
+mostLoadTogether = 10 * mostLoaded
 
 -- x and y hold at each level from i up to n what is handed down to it
 pub record HandedDown (i n : ℕ) (k κ ω x y : List ℕ) : Type 0 where

@@ -1,4 +1,5 @@
--- What the check computes of a sheet, by name: a function of the sheet and of what the loads go by. Cited whole; nothing here need be believed.
+-- What the check computes of a sheet, by name: a function of the sheet and of what the loads go by. It is cited whole and need not be
+-- believed.
 use mathlib.Core.List.{List, map}
 use Prim.Native.Nat.{ℕ, suc, _*_}
 use lib.IntN.{pos}
@@ -15,7 +16,8 @@ use Rattle.statics.specs.declared.Figures.{Figures}
 use Rattle.statics.specs.declared.LoadRule.{LoadRule}
 use Rattle.statics.specs.Ends.{springOf}
 use Rattle.sheet.specs.Ends.{End, door, closed, tiersOf, lashesOf}
-use Rattle.statics.specs.inner.WholeNumbers.{levelLoad, levelStiffness, rackingPart, rackingFigure, compressionFigure, tensionFigure, pullFigure, athwartFigure, verticalFigure}
+use Rattle.statics.specs.inner.WholeNumbers.{levelLoad, levelStiffness, rackingPart, rackingFigure, compressionFigure, tensionFigure}
+use Rattle.statics.specs.inner.WholeNumbers.{pullFigure, athwartFigure, verticalFigure}
 
 -- the solver's inputs, in arrays of ten: springs of the tiers; of the level over each, the stiffness of its lashes and its load
 abbrev pub springsOf : End → List Tier → List ℕ

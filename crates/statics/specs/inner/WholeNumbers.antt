@@ -1,5 +1,6 @@
--- Contracts of inner functions: the whole numbers that the check computes with. What they are worth is proved; nothing here need be believed.
--- Scales: stiffness in 2^-22 N/mm, shifts in 2^-28 mm, level loads in 2^-28 N; lash parts, rackings and post sums in 2^-18 N, moments in 2^-18 N·mm.
+-- The whole numbers that the check computes with. What they are worth is proved; nothing here need be believed.
+-- Scales: stiffness in 2^-22 N/mm, shifts in 2^-28 mm, level loads in 2^-28 N; lash parts, rackings and post sums in 2^-18 N, moments in
+-- 2^-18 N·mm.
 use mathlib.Core.Path.{_≡_}
 use mathlib.Core.Bool.{Bool, true, false, cond}
 use mathlib.Core.List.{List, [], _∷_}
@@ -35,7 +36,9 @@ windUnits t = cond (exposed t) (27 * boxLength t * t .height) 0
 -- the load on the level between a tier and the tier over it: share in twentieths, factor in thousandths, all over 4,000,000,000
 unfoldable pub levelLoad : ℕ → ℕ → Tier → Tier → ℕ
 levelLoad share factor t over =
-    (981 * factor * (share * transverseUnits t + (20 - share) * transverseUnits over) + 40000 * (windUnits t + windUnits over)) * 2 ^ 28 / 4000000000
+    (981 * factor * (share * transverseUnits t + (20 - share) * transverseUnits over) + 40000 * (windUnits t + windUnits over))
+    * 2 ^ 28
+    / 4000000000
 
 -- mass × acceleration of the tiers, and half of V above level i
 unfoldable pub verticalUnits : (Tier → ℕ) → List Tier → ℕ

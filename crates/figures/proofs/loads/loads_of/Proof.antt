@@ -7,7 +7,8 @@ use native.Mathlib.Omega.{arith}
 use Rattle.sheet.specs.Layout.{blankTier}
 use Rattle.sheet.specs.inner.Limits.{TierLimits}
 use borrow.Author.Needs.{needs}
-use Rattle.figures.proofs.LoadLaws.{LoadedDown, loaded-none, loaded-more, loaded-all, Carried, carried-none, carried-more, carried-all}
+use Rattle.figures.proofs.LoadLaws.{LoadedDown, loaded-none, loaded-more, loaded-all, Carried, carried-none, carried-more}
+use Rattle.figures.proofs.LoadLaws.{carried-all}
 use Rattle.figures.proofs.loads.loads_of.Statement.{statement}
 use Rattle.figures.proofs.loads.loads_of.Tie as tie
 

@@ -27,8 +27,10 @@ returns : tie.Need-returns
 unfolding windUnits
 returns c =
     let e = c .before .box-length .ensures in
-    let b = c .before .before .before .before in
-    (simp (← c .before .before .before .exposed .ensures, c .before .before .if1 .taken, e .0), omega (arith, mul-le-mul (e .1) (b .pre .height)))
+    let b = c .before .before .before .before in (
+      simp (← c .before .before .before .exposed .ensures, c .before .before .if1 .taken, e .0),
+      omega (arith, mul-le-mul (e .1) (b .pre .height)),
+    )
 
 returns-2 : tie.Need-returns-2
 unfolding windUnits

@@ -30,7 +30,7 @@ returns-2 : tie.Need-returns-2
 returns-2 c = (
   c .put-line .ensures .0,
   reply-refused (omega arith) (c .before .before .before .before .before .check .ensures) (c .before .before .before .outcome2 .given .1)
-  (c .put-line .ensures .1),
+      (c .put-line .ensures .1),
 )
 
 pub reply-spec : {M : Type 1} → statement M

@@ -76,10 +76,10 @@ returns c =
     let s = g .before .before in
     let z = s .pre .0 in
     let p =
-        whole (s .args .t) (s .args .f) z (g .findings-of .ensures .0) (w .write1 .ensures) (w .before .verdict-of .ensures .0)
-        (a .write-end .ensures .0) (b .write-end2 .ensures .0) (d .write12 .ensures) (v .write-found .ensures) in
+    whole (s .args .t) (s .args .f) z (g .findings-of .ensures .0) (w .write1 .ensures) (w .before .verdict-of .ensures .0)
+    (a .write-end .ensures .0) (b .write-end2 .ensures .0) (d .write12 .ensures) (v .write-found .ensures) in
     let h : b .write-end2 .result + 1 + 3 * g .findings-of .result .count ≤ 834 =
-        omega (arith, g .findings-of .ensures .1, b .write-end2 .ensures .1, a .write-end .ensures .1, z .tiers, z .door-few, z .closed-few) in
+    omega (arith, g .findings-of .ensures .1, b .write-end2 .ensures .1, a .write-end .ensures .1, z .tiers, z .door-few, z .closed-few) in
     (p .place ∙ zero-add _, from-start p (le-trans h (s .pre .3)))
 
 pub write-answer-spec : {M : Type 1} → statement M
