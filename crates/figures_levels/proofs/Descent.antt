@@ -13,7 +13,7 @@ use Rattle.arith.proofs.Sizes.{small-weaken, small-add, small-pos}
 use Rattle.sheet.specs.declared.Tier.{Tier}
 use Rattle.springs.specs.Equations.{closedSpring}
 use Rattle.statics.specs.inner.WholeNumbers.{rackingPart, rackingFigure, momentPart, compressionFrom, tensionFrom}
-use Rattle.figures_levels.specs.inner.Levels.{total, Measured, compressionAt, tensionAt, Levelled}
+use Rattle.figures_levels.specs.inner.Levels.{total, LevelInputs, compressionAt, tensionAt, LevelsFigured}
 use Rattle.statics.proofs.Arrays.{Between, between-none, fill-below, fill-above, filled, peel, peeled-off}
 use Rattle.figures_levels.proofs.LevelLaws.{turned, racking-small}
 
@@ -54,7 +54,7 @@ part-small k d j h s = racking-small h (s (suc j)) (s j)
 abbrev most-turn : ℕ
 most-turn = 2896 * 2 ^ 45
 
-pub record Descended
+pub record FiguredFrom
     (n : ℕ) (k : List ℕ) (ts : List Tier) (d vmax vmin lee windward : List ℕ)
     (racking : List ℤ) (compressions tensions : List ℕ) (moment : ℤ) (lees windwards i : ℕ) : Type 0 where
   pub within : i ≤ n
@@ -69,11 +69,11 @@ pub record Descended
   pub windwards-small : windwards ≤ (suc n - i) * 2 ^ 58
 
 module _ {n : ℕ} {k : List ℕ} {ts : List Tier} {d vmax vmin lee windward : List ℕ}
-    (m : Measured n k ts d vmax vmin lee windward) (stacked : length ts ≡ n) where
+    (m : LevelInputs n k ts d vmax vmin lee windward) (stacked : length ts ≡ n) where
   pub at-top :
       {v : ℕ} →
       v ≡ compressionFrom (getD vmax n 0) (pos 0) (getD lee n 0) (getD windward n 0) →
-      Descended
+      FiguredFrom
       n
       k
       ts
@@ -110,7 +110,7 @@ module _ {n : ℕ} {k : List ℕ} {ts : List Tier} {d vmax vmin lee windward : L
     -- to the level under tier j, with the values that the code has there
     to-under :
         {j : ℕ} {p : ℤ} {h : ℕ} {r moment′ : ℤ} {lees′ windwards′ compression tension : ℕ} →
-        Descended n k ts d vmax vmin lee windward racking compressions tensions moment lees windwards (suc j) →
+        FiguredFrom n k ts d vmax vmin lee windward racking compressions tensions moment lees windwards (suc j) →
         p ≡ rackingPart (getD k j 0) d j →
         h ≡ getD ts j blankTier .height →
         r ≡ rackingFigure p →
@@ -119,7 +119,7 @@ module _ {n : ℕ} {k : List ℕ} {ts : List Tier} {d vmax vmin lee windward : L
         windwards′ ≡ windwards + getD windward j 0 →
         compression ≡ compressionFrom (getD vmax j 0) (pos h *ℤ p +ℤ moment) (lees + getD lee j 0) (windwards + getD windward j 0) →
         tension ≡ tensionFrom (getD vmin j 0) (pos h *ℤ p +ℤ moment) lees windwards →
-        Descended
+        FiguredFrom
         n
         k
         ts
@@ -176,7 +176,7 @@ module _ {n : ℕ} {k : List ℕ} {ts : List Tier} {d vmax vmin lee windward : L
     pub turned-once :
         {i : ℕ} {p : ℤ} {h : ℕ} {r moment′ : ℤ} {lees′ windwards′ compression tension : ℕ} →
         0 < i →
-        Descended n k ts d vmax vmin lee windward racking compressions tensions moment lees windwards i →
+        FiguredFrom n k ts d vmax vmin lee windward racking compressions tensions moment lees windwards i →
         p ≡ quotZ (pos (getD k (i - 1) 0 * getD d i 0) -ℤ pos (getD k (i - 1) 0 * getD d (i - 1) 0)) (pos 1024) →
         h ≡ getD ts (i - 1) blankTier .height →
         r ≡ rackingFigure p →
@@ -190,7 +190,7 @@ module _ {n : ℕ} {k : List ℕ} {ts : List Tier} {d vmax vmin lee windward : L
         (lees + getD lee (i - 1) 0)
         (windwards + getD windward (i - 1) 0) →
         tension ≡ tensionFrom (getD vmin (i - 1) 0) (pos h *ℤ p +ℤ moment) lees windwards →
-        Descended
+        FiguredFrom
         n
         k
         ts
@@ -210,15 +210,15 @@ module _ {n : ℕ} {k : List ℕ} {ts : List Tier} {d vmax vmin lee windward : L
     turned-once {i} up s ep =
         let e : i ≡ suc (i - 1) = omega arith in
         to-under
-        (subst (λ (z : ℕ). Descended n k ts d vmax vmin lee windward racking compressions tensions moment lees windwards z) e s)
+        (subst (λ (z : ℕ). FiguredFrom n k ts d vmax vmin lee windward racking compressions tensions moment lees windwards z) e s)
         (ep ∙ ap (λ (z : ℕ). quotZ (pos (getD k (i - 1) 0 * getD d z 0) -ℤ pos (getD k (i - 1) 0 * getD d (i - 1) 0)) (pos 1024)) e)
 
     pub at-foot :
         {i : ℕ} →
         i ≤ 0 →
-        Descended n k ts d vmax vmin lee windward racking compressions tensions moment lees windwards i →
-        Levelled n k ts d vmax vmin lee windward racking compressions tensions
+        FiguredFrom n k ts d vmax vmin lee windward racking compressions tensions moment lees windwards i →
+        LevelsFigured n k ts d vmax vmin lee windward racking compressions tensions
     at-foot {i} h s =
         let e : i ≡ 0 = omega arith in
-        let f = subst (λ (z : ℕ). Descended n k ts d vmax vmin lee windward racking compressions tensions moment lees windwards z) e s in
+        let f = subst (λ (z : ℕ). FiguredFrom n k ts d vmax vmin lee windward racking compressions tensions moment lees windwards z) e s in
         record { racking-is = filled (f .racked); compression-is = filled (f .pressed); tension-is = filled (f .tensed) }

@@ -9,7 +9,7 @@ ghost use Rattle.arith.specs.Sizes.{Small};
 ghost use Rattle.springs.specs.Equations.{closedSpring};
 ghost use Rattle.statics.specs.Posts.{postSpacing};
 ghost use Rattle.statics.specs.inner.WholeNumbers.{rackingFigure, postFigure, notBelow, compressionFrom, tensionFrom};
-ghost use Rattle.figures_levels.specs.inner.Levels.{greaterOf, leeOf, windwardOf, Measured, Levelled};
+ghost use Rattle.figures_levels.specs.inner.Levels.{greaterOf, leeOf, windwardOf, LevelInputs, LevelsFigured};
 use arith::rounding::ceil_signed;
 use sheet::Tier;
 use statics::NEWTON;
@@ -199,9 +199,9 @@ pub fn level_figures<'a>(
     lee: &'a [u64],
     windward: &'a [u64],
 ) -> LevelFigures
-    requires { ⌜ Measured n (now k) (take n tiers) (now d) (now vmax) (now vmin) (now lee) (now windward) ⌝ }
+    requires { ⌜ LevelInputs n (now k) (take n tiers) (now d) (now vmax) (now vmin) (now lee) (now windward) ⌝ }
     requires { ⌜ (length (now k) ≡ 10) × (length (now d) ≡ 11) × (length (now vmax) ≡ 11) × (length (now vmin) ≡ 11) ⌝ }
-    ensures { λ r. ⌜ Levelled n (now (k .entry)) (take n tiers) (now (d .entry)) (now (vmax .entry)) (now (vmin .entry))
+    ensures { λ r. ⌜ LevelsFigured n (now (k .entry)) (take n tiers) (now (d .entry)) (now (vmax .entry)) (now (vmin .entry))
         (now (lee .entry)) (now (windward .entry)) (r .racking) (r .compression) (r .tension) ⌝ }
 {
     let mut racking = [0i32; 10];

@@ -12,7 +12,7 @@ use Rattle.arith.proofs.Sizes.{small-pos, small-weaken}
 use Rattle.sheet.specs.declared.Tier.{Tier}
 use Rattle.sheet.specs.Layout.{blankTier}
 use Rattle.statics.specs.inner.WholeNumbers.{leeFound, windwardFound}
-use Rattle.figures_levels.proofs.Descent.{Descended, at-top, turned-once, at-foot}
+use Rattle.figures_levels.proofs.Descent.{FiguredFrom, at-top, turned-once, at-foot}
 use Rattle.figures_levels.proofs.Words.{held}
 use Rattle.figures_levels.proofs.level_figures.Statement.{statement}
 use Rattle.figures_levels.proofs.level_figures.Tie as tie
@@ -20,7 +20,7 @@ use Rattle.figures_levels.proofs.level_figures.Tie as tie
 abbrev Inv-loop : tie.InvT-loop
 Inv-loop n k d vmax vmin lee windward tiers racking₀ compression₀ tension₀ above₀ i₀ racking compression tension above i =
     let parts = above .parts in
-    Descended n k (take n tiers) d vmax vmin lee windward racking compression tension (above .moment) (parts .lee) (parts .windward) i
+    FiguredFrom n k (take n tiers) d vmax vmin lee windward racking compression tension (above .moment) (parts .lee) (parts .windward) i
 
 abbrev μ-loop : tie.MeasureT-loop
 μ-loop n k d vmax vmin lee windward tiers racking₀ compression₀ tension₀ above₀ i₀ racking compression tension above i =

@@ -28,7 +28,7 @@ abbrev pub windwardOf : ℕ → ℤ → PostParts → ℤ
 windwardOf weight couple parts = pos weight -ℤ couple +ℤ pos (parts .windward)
 
 -- what the figures of the levels are computed from: vmax and vmin are half of V, with A_Vmax and A_Vmin
-pub record Measured (n : ℕ) (k : List ℕ) (ts : List Tier) (d vmax vmin lee windward : List ℕ) : Type 0 where
+pub record LevelInputs (n : ℕ) (k : List ℕ) (ts : List Tier) (d vmax vmin lee windward : List ℕ) : Type 0 where
   pub few : n ≤ 10
   pub springs : (i : ℕ) → i < n → getD k i 0 ≤ closedSpring
   pub heights : (i : ℕ) → i < n → getD ts i blankTier .height ≤ 2896
@@ -57,7 +57,7 @@ module _ (n : ℕ) (k : List ℕ) (ts : List Tier) (d vmax vmin lee windward : L
       (total (drop (suc i) (take (suc n) lee)))
       (total (drop (suc i) (take (suc n) windward)))
 
-  pub record Levelled (racking : List ℤ) (compression tension : List ℕ) : Type 0 where
+  pub record LevelsFigured (racking : List ℤ) (compression tension : List ℕ) : Type 0 where
     pub racking-is : Filled 10 (pos 0) n (λ i. rackingFigure (rackingPart (getD k i 0) d i)) racking
     pub compression-is : Filled 11 0 (suc n) compressionAt compression
     pub tension-is : Filled 10 0 n tensionAt tension
