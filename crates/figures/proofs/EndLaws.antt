@@ -28,8 +28,8 @@ use Rattle.statics.specs.inner.WholeNumbers.{Filled, levelStiffness, upward, up
 use Rattle.statics.specs.inner.WholeNumbers.{momentPart, compressionFigure, tensionFigure, pullFigure, athwartFigure, verticalFigure}
 use Rattle.statics.specs.inner.Computed.{springsOf, stiffnessesOf, figuresAt}
 use Rattle.figures.specs.inner.Ends.{Loaded, Weighed, Workable}
-use Rattle.figures_levels.specs.inner.Levels.{total, momentOf, Measured, Levelled}
-use Rattle.figures_lashes.specs.inner.Lashes.{Held, Pulled, Borne}
+use Rattle.figures_levels.specs.inner.Levels.{total, LevelInputs, LevelsFigured}
+use Rattle.figures_lashes.specs.inner.Lashes.{LevelStiffnesses, LashesFigured, VerticalsOn}
 use Rattle.arith.specs.Lists.{from, below}
 use Rattle.arith.proofs.Arrays.{length-entries}
 use Rattle.statics.proofs.Arrays.{entry-at, filled-padded}
@@ -100,7 +100,7 @@ module _ {n : ℕ} {k : List ℕ} {ts : List Tier} {m : ℕ} {ls : List Lash} {�
   pub each-ten : (j : ℕ) → j < m → LashLimits 10 (getD ls j blankLash)
   each-ten j q = lash-wider (h .few) (h .each j (omega arith))
 
-  pub end-solvable : {κ : List ℕ} → Held ls κ → Solvable n k κ ω
+  pub end-solvable : {κ : List ℕ} → LevelStiffnesses ls κ → Solvable n k κ ω
   end-solvable s =
       record {
         few = h .few;
@@ -112,17 +112,17 @@ module _ {n : ℕ} {k : List ℕ} {ts : List Tier} {m : ℕ} {ls : List Lash} {�
   pub end-measured :
       {κ d lee windward : List ℕ} →
       Promised n k κ ω d →
-      Borne leePart ls d lee →
-      Borne windwardPart ls d windward →
-      Measured n k ts d vmax vmin lee windward
+      VerticalsOn leePart ls d lee →
+      VerticalsOn windwardPart ls d windward →
+      LevelInputs n k ts d vmax vmin lee windward
   end-measured o u v =
       record {
         few = h .few;
         springs = λ i q. h .springs i q .1;
         heights = h .heights;
         shifts = o .far;
-        most-light = h .weighed .most-light;
-        least-light = h .weighed .least-light;
+        vmax-light = h .weighed .most-light;
+        vmin-light = h .weighed .least-light;
         lee-small = u .small;
         windward-small = v .small;
         lee-long = u .long;
@@ -132,10 +132,10 @@ module _ {n : ℕ} {k : List ℕ} {ts : List Tier} {m : ℕ} {ls : List Lash} {�
   -- the figures put together are those of the definition
   pub end-named :
       {d lash-tension athwart vertical lee windward : List ℕ} {racking : List ℤ} {compression tension : List ℕ} →
-      Pulled m ls d lash-tension athwart vertical →
-      Borne leePart ls d lee →
-      Borne windwardPart ls d windward →
-      Levelled n k ts d vmax vmin lee windward racking compression tension →
+      LashesFigured m ls d lash-tension athwart vertical →
+      VerticalsOn leePart ls d lee →
+      VerticalsOn windwardPart ls d windward →
+      LevelsFigured n k ts d vmax vmin lee windward racking compression tension →
       record {
         racking = racking;
         compression = compression;
@@ -145,7 +145,7 @@ module _ {n : ℕ} {k : List ℕ} {ts : List Tier} {m : ℕ} {ls : List Lash} {�
         vertical = vertical;
       }
       ≡ figuresAt n k ts ls d
-  unfolding figuresAt compressionFigure tensionFigure momentPart momentOf
+  unfolding figuresAt compressionFigure tensionFigure momentPart
   end-named {d} {lash-tension} {athwart} {vertical} {lee} {windward} {racking} {compression} {tension} u x y l =
       rw (
         filled-padded (λ i. rackingFigure (rackingPart (getD k i 0) d i)) (pos 0) 10 n racking (h .few) (l .racking-is),
@@ -155,7 +155,7 @@ module _ {n : ℕ} {k : List ℕ} {ts : List Tier} {m : ℕ} {ls : List Lash} {�
             (refilled (λ i q. rw (h .weighed .vmin-is i, lees (suc i) (omega arith), windwards (suc i) (omega arith)) refl)
             (l .tension-is)),
         filled-padded (λ j. pullFigure d (getD ls j blankLash)) 0 8 (length ls) lash-tension (omega (arith, h .few-lashes))
-            (rw counted (u .pull-is)),
+            (rw counted (u .lash-tension-is)),
         filled-padded (λ j. athwartFigure d (getD ls j blankLash)) 0 8 (length ls) athwart (omega (arith, h .few-lashes))
             (rw counted (u .athwart-is)),
         filled-padded (λ j. verticalFigure d (getD ls j blankLash)) 0 8 (length ls) vertical (omega (arith, h .few-lashes))
@@ -172,7 +172,7 @@ module _ {n : ℕ} {k : List ℕ} {ts : List Tier} {m : ℕ} {ls : List Lash} {�
       windwards = sum-from windwardPart n d ls windward (omega (arith, h .few, y .long)) under (y .each)
 
 -- the stiffnesses by level, as an array of ten
-pub stiffnesses-named : (ls : List Lash) {κ : List ℕ} → length κ ≡ 10 → Held ls κ → κ ≡ stiffnessesOf ls
+pub stiffnesses-named : (ls : List Lash) {κ : List ℕ} → length κ ≡ 10 → LevelStiffnesses ls κ → κ ≡ stiffnessesOf ls
 unfolding stiffnessesOf
 stiffnesses-named ls {κ} long s =
     ext-getD 0 κ (map (λ i. levelStiffness ls (suc i)) (below 10)) (long ∙ sym (length-entries (λ i. levelStiffness ls (suc i)) 0 10))

@@ -43,9 +43,9 @@ fn end_figures(
     let mut lengths = [0u64; 8];
     let mut stiffnesses = [0u64; 8];
     let mut kappa = [0u64; 10];
-    figures_lashes::gear_of(lashes, m, &mut lengths, &mut stiffnesses, &mut kappa);
+    figures_lashes::lash_stiffnesses(lashes, m, &mut lengths, &mut stiffnesses, &mut kappa);
     let d = springs::solve(n, k, &kappa, loads);
-    let pulls = figures_lashes::lash_figures(lashes, m, &lengths, &stiffnesses, &d);
+    let lash_forces = figures_lashes::lash_figures(lashes, m, &lengths, &stiffnesses, &d);
     let levels = figures_levels::level_figures(
         n,
         k,
@@ -53,15 +53,15 @@ fn end_figures(
         &d,
         vmax,
         vmin,
-        &pulls.lee,
-        &pulls.windward,
+        &lash_forces.lee,
+        &lash_forces.windward,
     );
     let racking = levels.racking;
     let compression = levels.compression;
     let tension = levels.tension;
-    let pull = pulls.pull;
-    let athwart = pulls.athwart;
-    let vertical = pulls.vertical;
+    let pull = lash_forces.tension;
+    let athwart = lash_forces.athwart;
+    let vertical = lash_forces.vertical;
     EndFigures {
         racking,
         compression,

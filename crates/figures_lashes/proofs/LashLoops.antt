@@ -1,5 +1,5 @@
 -- The two loops over an end's lashes: what they have found before lash j, and one turn of each.
-use Prim.Native.Nat.{ℕ, zero, suc, _+_, _*_, _-_, _/_, _^_, _<_, _≤_}
+use Prim.Native.Nat.{ℕ, suc, _+_, _*_, _-_, _/_, _^_, _<_, _≤_}
 use mathlib.Core.Bool.{Bool, true, false, cond}
 use mathlib.Core.List.{List, _∷_}
 use mathlib.Core.Path.{_≡_, refl, sym, _∙_}
@@ -18,7 +18,7 @@ use Rattle.sheet.specs.inner.Limits.{LashLimits}
 use Rattle.statics.specs.Lashes.{lashLength}
 use Rattle.statics.specs.inner.WholeNumbers.{lashPad, stiffnessOf, part, upward}
 use Rattle.statics.specs.inner.WholeNumbers.{pullFigure, athwartFigure, verticalFigure, leePart, windwardPart}
-use Rattle.figures_lashes.specs.inner.Lashes.{carriedLash, verticalFrom, Geared, Held, Pulled, Borne}
+use Rattle.figures_lashes.specs.inner.Lashes.{carriedLash, verticalFrom, LashesMeasured, LevelStiffnesses, LashesFigured, VerticalsOn}
 use Rattle.statics.proofs.Arrays.{Between, between-none, fill-above, filled}
 use Rattle.statics.proofs.LashStiffness.{stiffness-most}
 use Rattle.figures_lashes.proofs.LashLaws.{part-le, upward-le}
@@ -108,7 +108,7 @@ module _ {m : ℕ} {ls : List Lash} (g : Listed m ls) where
       {lengths stiffnesses levels : List ℕ} {j : ℕ} →
       m ≤ j →
       MeasuredTo m ls lengths stiffnesses levels j →
-      Geared m ls lengths stiffnesses × Held ls levels
+      LashesMeasured m ls lengths stiffnesses × LevelStiffnesses ls levels
   measured-all {j = j} h s =
       let e : j ≡ m = omega (arith, s .within) in (
         record { long = filled (rw e at (s .long)); stiff = filled (rw e at (s .stiff)) },
@@ -129,9 +129,9 @@ abbrev on : (Lashing → ℕ → ℕ) → List ℕ → Lash → ℕ
 on post d l = post (lashingOf l) (upward d l)
 
 -- the second loop
-pub record FiguredTo (m : ℕ) (ls : List Lash) (d pull athwart vertical lee windward : List ℕ) (j : ℕ) : Type 0 where
+pub record FiguredTo (m : ℕ) (ls : List Lash) (d tension athwart vertical lee windward : List ℕ) (j : ℕ) : Type 0 where
   pub within : j ≤ m
-  pub tensions : Between 0 (λ k x. x ≡ pullFigure d (getD ls k blankLash)) 8 0 j pull
+  pub tensions : Between 0 (λ k x. x ≡ pullFigure d (getD ls k blankLash)) 8 0 j tension
   pub athwarts : Between 0 (λ k x. x ≡ athwartFigure d (getD ls k blankLash)) 8 0 j athwart
   pub verticals : Between 0 (λ k x. x ≡ verticalFigure d (getD ls k blankLash)) 8 0 j vertical
   pub lees : Tallied at-level (on leePart d) ls 11 j lee
@@ -188,8 +188,8 @@ post-le {ls = ls} d g small post kept i =
         omega (arith, kept (lashingOf l) (upward d l), upward-small d l (small (levelOf l)) (g .each k (omega (arith, g .counted))))
 
 module _ {m : ℕ} {ls : List Lash} {d : List ℕ} (g : Listed m ls) (small : (i : ℕ) → getD d i 0 ≤ 2 ^ 40) where
-  module _ {pull athwart vertical lee windward : List ℕ} {j : ℕ} (s : FiguredTo m ls d pull athwart vertical lee windward j) (h : j < m)
-      {l : Lash} (own : getD ls j blankLash ≡ l) {at x : ℕ} (ea : at ≡ levelOf l)
+  module _ {tension athwart vertical lee windward : List ℕ} {j : ℕ}
+      (s : FiguredTo m ls d tension athwart vertical lee windward j) (h : j < m) {l : Lash} (own : getD ls j blankLash ≡ l) {at x : ℕ} (ea : at ≡ levelOf l)
       (ex : x ≡ stiffnessOf l * getD d at 0 / 2 ^ 32) where
     abbrev up : ℕ
     up = verticalFrom x (carriedLash (lashingOf l))
@@ -220,7 +220,7 @@ module _ {m : ℕ} {ls : List Lash} {d : List ℕ} (g : Listed m ls) (small : (i
         m
         ls
         d
-        (set pull j p)
+        (set tension j p)
         (set athwart j a)
         (set vertical j v)
         (set lee at (getD lee at 0 + leePart (lashingOf l) up))
@@ -230,7 +230,7 @@ module _ {m : ℕ} {ls : List Lash} {d : List ℕ} (g : Listed m ls) (small : (i
     figured-more {p} {a} {v} low ep eq ev =
         record {
           within = h;
-          tensions = fill-above 0 _ 8 0 j pull p (omega (arith, g .few)) (rw (own, ← ea, ← ex) ep) (s .tensions);
+          tensions = fill-above 0 _ 8 0 j tension p (omega (arith, g .few)) (rw (own, ← ea, ← ex) ep) (s .tensions);
           athwarts = fill-above 0 _ 8 0 j athwart a (omega (arith, g .few)) (rw (own, ← ea, ← ex) eq) (s .athwarts);
           verticals = fill-above 0 _ 8 0 j vertical v (omega (arith, g .few)) (rw (own, ← ea, ← ex) ev) (s .verticals);
           lees = post-more leePart low (s .lees);
@@ -243,7 +243,7 @@ module _ {m : ℕ} {ls : List Lash} {d : List ℕ} (g : Listed m ls) (small : (i
       {r : List ℕ} {j : ℕ} →
       m ≤ j →
       Tallied at-level (on post d) ls 11 j r →
-      Borne post ls d r
+      VerticalsOn post ls d r
   verticals-on post kept h t =
       let x = tallied-all t (omega (arith, g .counted)) in
       record {
@@ -253,14 +253,14 @@ module _ {m : ℕ} {ls : List Lash} {d : List ℕ} (g : Listed m ls) (small : (i
       }
 
   pub figured-all :
-      {pull athwart vertical lee windward : List ℕ} {j : ℕ} →
+      {tension athwart vertical lee windward : List ℕ} {j : ℕ} →
       m ≤ j →
-      FiguredTo m ls d pull athwart vertical lee windward j →
-      Pulled m ls d pull athwart vertical × Borne leePart ls d lee × Borne windwardPart ls d windward
+      FiguredTo m ls d tension athwart vertical lee windward j →
+      LashesFigured m ls d tension athwart vertical × VerticalsOn leePart ls d lee × VerticalsOn windwardPart ls d windward
   figured-all {j = j} h s =
       let e : j ≡ m = omega (arith, s .within) in (
         record {
-          pull-is = filled (rw e at (s .tensions));
+          lash-tension-is = filled (rw e at (s .tensions));
           athwart-is = filled (rw e at (s .athwarts));
           vertical-is = filled (rw e at (s .verticals));
         },

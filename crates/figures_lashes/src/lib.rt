@@ -9,7 +9,8 @@ ghost use Rattle.sheet.specs.Layout.{blankLash};
 ghost use Rattle.sheet.specs.inner.Limits.{LashLimits};
 ghost use Rattle.statics.specs.Lashes.{lashLength};
 ghost use Rattle.statics.specs.inner.WholeNumbers.{lashPad, stiffnessOf, leePart, windwardPart};
-ghost use Rattle.figures_lashes.specs.inner.Lashes.{carriedLash, verticalFrom, Geared, Held, Pulled, Borne};
+ghost use Rattle.figures_lashes.specs.inner.Lashes.{carriedLash, verticalFrom};
+ghost use Rattle.figures_lashes.specs.inner.Lashes.{LashesMeasured, LevelStiffnesses, LashesFigured, VerticalsOn};
 use arith::roots::length;
 use arith::rounding::ceil_div;
 use arith::rounding::scaled;
@@ -63,7 +64,7 @@ fn stiffness_of(l: Lash, long: u64) -> u64
 }
 
 // Lengths and stiffnesses of an end's lashes, and the sums of the stiffnesses by level.
-pub fn gear_of(
+pub fn lash_stiffnesses(
     lashes: [Lash; 8],
     m: usize,
     lengths: &mut [u64],
@@ -72,8 +73,8 @@ pub fn gear_of(
 )
     requires { ⌜ (m ≤ 8) × ((j : ℕ) → j < m → LashLimits 10 (getD (take m lashes) j blankLash)) ⌝ }
     requires { ⌜ (now lengths ≡ replicate 8 0) × (now stiffnesses ≡ replicate 8 0) × (now levels ≡ replicate 10 0) ⌝ }
-    ensures { λ _. ⌜ Geared m (take m lashes) (now (lengths .exit)) (now (stiffnesses .exit)) ⌝ }
-    ensures { λ _. ⌜ Held (take m lashes) (now (levels .exit)) ⌝ }
+    ensures { λ _. ⌜ LashesMeasured m (take m lashes) (now (lengths .exit)) (now (stiffnesses .exit)) ⌝ }
+    ensures { λ _. ⌜ LevelStiffnesses (take m lashes) (now (levels .exit)) ⌝ }
 {
     let mut j = 0;
     while j < m {
@@ -154,8 +155,8 @@ fn on_posts(g: Lashing, part: u64) -> PostParts
 }
 
 // The figures of an end's lashes, and the vertical parts on each post at levels 0 to 10.
-pub struct Pulls {
-    pub pull: [u64; 8],
+pub struct LashFigures {
+    pub tension: [u64; 8],
     pub athwart: [u64; 8],
     pub vertical: [u64; 8],
     pub lee: [u64; 11],
@@ -169,15 +170,15 @@ pub fn lash_figures(
     lengths: &[u64],
     stiffnesses: &[u64],
     d: &[u64],
-) -> Pulls
+) -> LashFigures
     requires { ⌜ (m ≤ 8) × ((j : ℕ) → j < m → LashLimits 10 (getD (take m lashes) j blankLash)) ⌝ }
-    requires { ⌜ Geared m (take m lashes) (now lengths) (now stiffnesses) × ((i : ℕ) → getD (now d) i 0 ≤ 2 ^ 40) ⌝ }
+    requires { ⌜ LashesMeasured m (take m lashes) (now lengths) (now stiffnesses) × ((i : ℕ) → getD (now d) i 0 ≤ 2 ^ 40) ⌝ }
     requires { ⌜ (length (now lengths) ≡ 8) × (length (now stiffnesses) ≡ 8) × (length (now d) ≡ 11) ⌝ }
-    ensures { λ r. ⌜ Pulled m (take m lashes) (now (d .entry)) (r .pull) (r .athwart) (r .vertical) ⌝ }
-    ensures { λ r. ⌜ Borne leePart (take m lashes) (now (d .entry)) (r .lee) ⌝ }
-    ensures { λ r. ⌜ Borne windwardPart (take m lashes) (now (d .entry)) (r .windward) ⌝ }
+    ensures { λ r. ⌜ LashesFigured m (take m lashes) (now (d .entry)) (r .tension) (r .athwart) (r .vertical) ⌝ }
+    ensures { λ r. ⌜ VerticalsOn leePart (take m lashes) (now (d .entry)) (r .lee) ⌝ }
+    ensures { λ r. ⌜ VerticalsOn windwardPart (take m lashes) (now (d .entry)) (r .windward) ⌝ }
 {
-    let mut pull = [0u64; 8];
+    let mut tension = [0u64; 8];
     let mut athwart = [0u64; 8];
     let mut vertical = [0u64; 8];
     let mut lee = [0u64; 11];
@@ -189,15 +190,15 @@ pub fn lash_figures(
         let part = athwart_part(stiffnesses[j], d[at]);
         let f = forces_of(l, lengths[j], part);
         let u = on_posts(lashing_of(l), part);
-        pull[j] = f.tension;
+        tension[j] = f.tension;
         athwart[j] = f.athwart;
         vertical[j] = f.vertical;
         lee[at] = lee[at] + u.lee;
         windward[at] = windward[at] + u.windward;
         j += 1;
     }
-    Pulls {
-        pull,
+    LashFigures {
+        tension,
         athwart,
         vertical,
         lee,

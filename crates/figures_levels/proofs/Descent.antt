@@ -1,5 +1,5 @@
 -- The loop from the top level down: what it has found when it stands at level i, and one turn of it.
-use Prim.Native.Nat.{ℕ, zero, suc, _+_, _*_, _-_, _^_, _<_, _≤_}
+use Prim.Native.Nat.{ℕ, suc, _+_, _*_, _-_, _^_, _<_, _≤_}
 use mathlib.Core.Path.{_≡_, refl, sym, ap, _∙_, subst}
 use mathlib.Core.List.{List}
 use native.Mathlib.Omega.{arith}
@@ -11,8 +11,9 @@ use Rattle.sheet.specs.Layout.{blankTier}
 use Rattle.arith.specs.Sizes.{Small}
 use Rattle.arith.proofs.Sizes.{small-weaken, small-add, small-pos}
 use Rattle.sheet.specs.declared.Tier.{Tier}
-use Rattle.statics.specs.inner.WholeNumbers.{rackingPart, rackingFigure}
-use Rattle.figures_levels.specs.inner.Levels.{total, momentOf, compressed, tensed, Measured, compressionAt, tensionAt, Levelled}
+use Rattle.springs.specs.Equations.{closedSpring}
+use Rattle.statics.specs.inner.WholeNumbers.{rackingPart, rackingFigure, momentPart, compressionFrom, tensionFrom}
+use Rattle.figures_levels.specs.inner.Levels.{total, LevelInputs, compressionAt, tensionAt, LevelsFigured}
 use Rattle.statics.proofs.Arrays.{Between, between-none, fill-below, fill-above, filled, peel, peeled-off}
 use Rattle.figures_levels.proofs.LevelLaws.{turned, racking-small}
 
@@ -29,19 +30,23 @@ total-top : (v : List ℕ) (n : ℕ) → suc n ≤ length v → getD v n 0 ≡ t
 total-top v n room = omega (arith, total-peel v (suc n) n (omega arith) room, total-off v (suc n) room)
 
 -- moments: none at the top, and one tier more
-moment-off : (k d : List ℕ) (ts : List Tier) (n : ℕ) → length ts ≡ n → momentOf k d (drop n ts) n ≡ pos 0
-unfolding momentOf
+moment-off : (k d : List ℕ) (ts : List Tier) (n : ℕ) → length ts ≡ n → momentPart k d (drop n ts) n ≡ pos 0
+unfolding momentPart
 moment-off k d ts n e = rw (← e, drop-length ts) refl
 
 moment-peel :
     (k d : List ℕ) (ts : List Tier) (j : ℕ) →
     j < length ts →
-    momentOf k d (drop j ts) j
-    ≡ pos (getD ts j blankTier .height) *ℤ rackingPart (getD k j 0) d j +ℤ momentOf k d (drop (suc j) ts) (suc j)
-unfolding momentOf
+    momentPart k d (drop j ts) j
+    ≡ pos (getD ts j blankTier .height) *ℤ rackingPart (getD k j 0) d j +ℤ momentPart k d (drop (suc j) ts) (suc j)
+unfolding momentPart
 moment-peel k d ts j h = rw (drop-cons ts j blankTier h) refl
 
-part-small : (k d : List ℕ) (j : ℕ) → getD k j 0 ≤ 15690 → ((i : ℕ) → getD d i 0 ≤ 2 ^ 40) → Small (2 ^ 45) (rackingPart (getD k j 0) d j)
+part-small :
+    (k d : List ℕ) (j : ℕ) →
+    getD k j 0 ≤ closedSpring →
+    ((i : ℕ) → getD d i 0 ≤ 2 ^ 40) →
+    Small (2 ^ 45) (rackingPart (getD k j 0) d j)
 unfolding rackingPart
 part-small k d j h s = racking-small h (s (suc j)) (s j)
 
@@ -49,26 +54,41 @@ part-small k d j h s = racking-small h (s (suc j)) (s j)
 abbrev most-turn : ℕ
 most-turn = 2896 * 2 ^ 45
 
-pub record Descended
-    (n : ℕ) (k : List ℕ) (ts : List Tier) (d most least lee windward : List ℕ)
+pub record FiguredFrom
+    (n : ℕ) (k : List ℕ) (ts : List Tier) (d vmax vmin lee windward : List ℕ)
     (racking : List ℤ) (compressions tensions : List ℕ) (moment : ℤ) (lees windwards i : ℕ) : Type 0 where
   pub within : i ≤ n
   pub racked : Between (pos 0) (λ j x. x ≡ rackingFigure (rackingPart (getD k j 0) d j)) 10 i n racking
-  pub pressed : Between 0 (λ j x. x ≡ compressionAt n k ts d most least lee windward j) 11 i (suc n) compressions
-  pub tensed : Between 0 (λ j x. x ≡ tensionAt n k ts d most least lee windward j) 10 i n tensions
-  pub moment-is : moment ≡ momentOf k d (drop i ts) i
+  pub pressed : Between 0 (λ j x. x ≡ compressionAt n k ts d vmax vmin lee windward j) 11 i (suc n) compressions
+  pub tensed : Between 0 (λ j x. x ≡ tensionAt n k ts d vmax vmin lee windward j) 10 i n tensions
+  pub moment-is : moment ≡ momentPart k d (drop i ts) i
   pub lees-are : lees ≡ total (drop i (take (suc n) lee))
   pub windwards-are : windwards ≡ total (drop i (take (suc n) windward))
   pub moment-small : Small ((n - i) * most-turn) moment
   pub lees-small : lees ≤ (suc n - i) * 2 ^ 58
   pub windwards-small : windwards ≤ (suc n - i) * 2 ^ 58
 
-module _ {n : ℕ} {k : List ℕ} {ts : List Tier} {d most least lee windward : List ℕ}
-    (m : Measured n k ts d most least lee windward) (stacked : length ts ≡ n) where
+module _ {n : ℕ} {k : List ℕ} {ts : List Tier} {d vmax vmin lee windward : List ℕ}
+    (m : LevelInputs n k ts d vmax vmin lee windward) (stacked : length ts ≡ n) where
   pub at-top :
       {v : ℕ} →
-      v ≡ compressed (getD most n 0) (pos 0) (getD lee n 0) (getD windward n 0) →
-      Descended n k ts d most least lee windward (replicate 10 (pos 0)) (set (replicate 11 0) n v) (replicate 10 0) (pos 0) (getD lee n 0) (getD windward n 0) n
+      v ≡ compressionFrom (getD vmax n 0) (pos 0) (getD lee n 0) (getD windward n 0) →
+      FiguredFrom
+      n
+      k
+      ts
+      d
+      vmax
+      vmin
+      lee
+      windward
+      (replicate 10 (pos 0))
+      (set (replicate 11 0) n v)
+      (replicate 10 0)
+      (pos 0)
+      (getD lee n 0)
+      (getD windward n 0)
+      n
   at-top {v} e =
       let no-moment = moment-off k d ts n stacked in
       let top-lee = total-top lee n (omega (arith, m .few, m .lee-long)) in
@@ -90,16 +110,31 @@ module _ {n : ℕ} {k : List ℕ} {ts : List Tier} {d most least lee windward : 
     -- to the level under tier j, with the values that the code has there
     to-under :
         {j : ℕ} {p : ℤ} {h : ℕ} {r moment′ : ℤ} {lees′ windwards′ compression tension : ℕ} →
-        Descended n k ts d most least lee windward racking compressions tensions moment lees windwards (suc j) →
+        FiguredFrom n k ts d vmax vmin lee windward racking compressions tensions moment lees windwards (suc j) →
         p ≡ rackingPart (getD k j 0) d j →
         h ≡ getD ts j blankTier .height →
         r ≡ rackingFigure p →
         moment′ ≡ pos h *ℤ p +ℤ moment →
         lees′ ≡ lees + getD lee j 0 →
         windwards′ ≡ windwards + getD windward j 0 →
-        compression ≡ compressed (getD most j 0) (pos h *ℤ p +ℤ moment) (lees + getD lee j 0) (windwards + getD windward j 0) →
-        tension ≡ tensed (getD least j 0) (pos h *ℤ p +ℤ moment) lees windwards →
-        Descended n k ts d most least lee windward (set racking j r) (set compressions j compression) (set tensions j tension) moment′ lees′ windwards′ j
+        compression ≡ compressionFrom (getD vmax j 0) (pos h *ℤ p +ℤ moment) (lees + getD lee j 0) (windwards + getD windward j 0) →
+        tension ≡ tensionFrom (getD vmin j 0) (pos h *ℤ p +ℤ moment) lees windwards →
+        FiguredFrom
+        n
+        k
+        ts
+        d
+        vmax
+        vmin
+        lee
+        windward
+        (set racking j r)
+        (set compressions j compression)
+        (set tensions j tension)
+        moment′
+        lees′
+        windwards′
+        j
     to-under {j} {p} {h} {r} {moment′} {lees′} {windwards′} {compression} {tension} s ep eh er em el ew ec et =
         record {
           within = omega (arith, s .within);
@@ -118,48 +153,72 @@ module _ {n : ℕ} {k : List ℕ} {ts : List Tier} {d most least lee windward : 
           windwards-small = omega (arith, s .within, s .windwards-small, m .windward-small j);
         }
       where
-        moment-under : pos h *ℤ p +ℤ moment ≡ momentOf k d (drop j ts) j
+        moment-under : pos h *ℤ p +ℤ moment ≡ momentPart k d (drop j ts) j
         moment-under =
             rw (ep, eh, s .moment-is) (sym (moment-peel k d ts j (omega (arith, s .within))))
 
         lee-under : lees + getD lee j 0 ≡ total (drop j (take (suc n) lee))
-        lee-under = omega (arith, s .lees-are, total-peel lee (suc n) j (omega (arith, s .within)) (omega (arith, m .few, m .lee-long)))
+        lee-under =
+            let peeled = total-peel lee (suc n) j (omega (arith, s .within)) (omega (arith, m .few, m .lee-long)) in
+            omega (arith, s .lees-are, peeled)
 
         windward-under : windwards + getD windward j 0 ≡ total (drop j (take (suc n) windward))
-        windward-under = omega (arith, s .windwards-are, total-peel windward (suc n) j (omega (arith, s .within)) (omega (arith, m .few, m .windward-long)))
+        windward-under =
+            let peeled = total-peel windward (suc n) j (omega (arith, s .within)) (omega (arith, m .few, m .windward-long)) in
+            omega (arith, s .windwards-are, peeled)
 
         small : Small ((n - j) * most-turn) (pos h *ℤ p +ℤ moment)
         small =
-            rw (ep, eh)
-            (small-weaken (small-add (turned (m .heights j (s .within)) (part-small k d j (m .springs j (s .within)) (m .shifts))) (s .moment-small)) (omega (arith, s .within)))
+            let own = turned (m .heights j (s .within)) (part-small k d j (m .springs j (s .within)) (m .shifts)) in
+            rw (ep, eh) (small-weaken (small-add own (s .moment-small)) (omega (arith, s .within)))
 
     -- the same at the code's own index
     pub turned-once :
         {i : ℕ} {p : ℤ} {h : ℕ} {r moment′ : ℤ} {lees′ windwards′ compression tension : ℕ} →
         0 < i →
-        Descended n k ts d most least lee windward racking compressions tensions moment lees windwards i →
+        FiguredFrom n k ts d vmax vmin lee windward racking compressions tensions moment lees windwards i →
         p ≡ quotZ (pos (getD k (i - 1) 0 * getD d i 0) -ℤ pos (getD k (i - 1) 0 * getD d (i - 1) 0)) (pos 1024) →
         h ≡ getD ts (i - 1) blankTier .height →
         r ≡ rackingFigure p →
         moment′ ≡ pos h *ℤ p +ℤ moment →
         lees′ ≡ lees + getD lee (i - 1) 0 →
         windwards′ ≡ windwards + getD windward (i - 1) 0 →
-        compression ≡ compressed (getD most (i - 1) 0) (pos h *ℤ p +ℤ moment) (lees + getD lee (i - 1) 0) (windwards + getD windward (i - 1) 0) →
-        tension ≡ tensed (getD least (i - 1) 0) (pos h *ℤ p +ℤ moment) lees windwards →
-        Descended n k ts d most least lee windward (set racking (i - 1) r) (set compressions (i - 1) compression) (set tensions (i - 1) tension) moment′ lees′ windwards′ (i - 1)
+        compression
+        ≡ compressionFrom
+        (getD vmax (i - 1) 0)
+        (pos h *ℤ p +ℤ moment)
+        (lees + getD lee (i - 1) 0)
+        (windwards + getD windward (i - 1) 0) →
+        tension ≡ tensionFrom (getD vmin (i - 1) 0) (pos h *ℤ p +ℤ moment) lees windwards →
+        FiguredFrom
+        n
+        k
+        ts
+        d
+        vmax
+        vmin
+        lee
+        windward
+        (set racking (i - 1) r)
+        (set compressions (i - 1) compression)
+        (set tensions (i - 1) tension)
+        moment′
+        lees′
+        windwards′
+        (i - 1)
     unfolding rackingPart
     turned-once {i} up s ep =
         let e : i ≡ suc (i - 1) = omega arith in
         to-under
-        (subst (λ (z : ℕ). Descended n k ts d most least lee windward racking compressions tensions moment lees windwards z) e s)
+        (subst (λ (z : ℕ). FiguredFrom n k ts d vmax vmin lee windward racking compressions tensions moment lees windwards z) e s)
         (ep ∙ ap (λ (z : ℕ). quotZ (pos (getD k (i - 1) 0 * getD d z 0) -ℤ pos (getD k (i - 1) 0 * getD d (i - 1) 0)) (pos 1024)) e)
 
     pub at-foot :
         {i : ℕ} →
         i ≤ 0 →
-        Descended n k ts d most least lee windward racking compressions tensions moment lees windwards i →
-        Levelled n k ts d most least lee windward racking compressions tensions
+        FiguredFrom n k ts d vmax vmin lee windward racking compressions tensions moment lees windwards i →
+        LevelsFigured n k ts d vmax vmin lee windward racking compressions tensions
     at-foot {i} h s =
         let e : i ≡ 0 = omega arith in
-        let f = subst (λ (z : ℕ). Descended n k ts d most least lee windward racking compressions tensions moment lees windwards z) e s in
+        let f = subst (λ (z : ℕ). FiguredFrom n k ts d vmax vmin lee windward racking compressions tensions moment lees windwards z) e s in
         record { racking-is = filled (f .racked); compression-is = filled (f .pressed); tension-is = filled (f .tensed) }

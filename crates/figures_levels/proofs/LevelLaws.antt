@@ -11,16 +11,18 @@ use lib.Signed.{quotZ, ltZ}
 use Rattle.arith.specs.Rounding.{roundedUp, roundedUpZ}
 use Rattle.arith.specs.Sizes.{Small}
 use Rattle.arith.proofs.Sizes.{small-weaken, small-pos, small-add, small-sub, small-mul}
+use Rattle.springs.specs.Equations.{closedSpring}
+use Rattle.statics.specs.Posts.{postSpacing}
 use Rattle.statics.specs.inner.WholeNumbers.{rackingPad, rackingFigure, postPad, notBelow, postFigure}
 use Rattle.figures_levels.specs.inner.Levels.{greaterOf}
 use Rattle.figures_levels.proofs.Words.{not-below, small-quot}
 
 -- a racking
-module _ {k u l : ℕ} (hk : k ≤ 15690) (hu : u ≤ 2 ^ 40) (hl : l ≤ 2 ^ 40) where
-  pub spring-le : (k * u ≤ 15690 * 2 ^ 40) × (k * l ≤ 15690 * 2 ^ 40)
+module _ {k u l : ℕ} (hk : k ≤ closedSpring) (hu : u ≤ 2 ^ 40) (hl : l ≤ 2 ^ 40) where
+  pub spring-le : (k * u ≤ closedSpring * 2 ^ 40) × (k * l ≤ closedSpring * 2 ^ 40)
   spring-le = (mul-le-mul hk hu, mul-le-mul hk hl)
 
-  pub difference : Small (15690 * 2 ^ 41) (pos (k * u) -ℤ pos (k * l))
+  pub difference : Small (closedSpring * 2 ^ 41) (pos (k * u) -ℤ pos (k * l))
   difference = small-weaken (small-sub (small-pos (spring-le .0)) (small-pos (spring-le .1))) (lit≤ tt)
 
   pub racking-small : Small (2 ^ 45) (quotZ (pos (k * u) -ℤ pos (k * l)) (pos 1024))
@@ -59,8 +61,8 @@ module _ {height : ℕ} {part : ℤ} (hh : height ≤ 2896) (hp : Small (2 ^ 45)
   pub moment-small : {above : ℤ} → Small (2 ^ 60) above → Small (2 ^ 61) (pos height *ℤ part +ℤ above)
   moment-small ha = small-weaken (small-add turned ha) (lit≤ tt)
 
-pub lean-small : {z : ℤ} → Small (2 ^ 61) z → Small (2 ^ 50) (quotZ z (pos 2259))
-lean-small s = small-quot 2259 s (omega (arith, s .size))
+pub lean-small : {z : ℤ} → Small (2 ^ 61) z → Small (2 ^ 50) (quotZ z (pos postSpacing))
+lean-small s = small-quot postSpacing s (omega (arith, s .size))
 
 -- the sum of a post, and with its pad
 module _ {weight : ℕ} {lean : ℤ} (hw : weight ≤ 2 ^ 40) (hl : Small (2 ^ 50) lean) where

@@ -6,9 +6,10 @@ ghost use lib.IntN.{pos, natAbs, negℤ, _+ℤ_, _-ℤ_, _*ℤ_};
 ghost use lib.ListN.{length, take};
 ghost use lib.Signed.{quotZ};
 ghost use Rattle.arith.specs.Sizes.{Small};
+ghost use Rattle.springs.specs.Equations.{closedSpring};
 ghost use Rattle.statics.specs.Posts.{postSpacing};
-ghost use Rattle.statics.specs.inner.WholeNumbers.{rackingFigure, postFigure, notBelow};
-ghost use Rattle.figures_levels.specs.inner.Levels.{greaterOf, compressed, tensed, Measured, Levelled};
+ghost use Rattle.statics.specs.inner.WholeNumbers.{rackingFigure, postFigure, notBelow, compressionFrom, tensionFrom};
+ghost use Rattle.figures_levels.specs.inner.Levels.{greaterOf, leeOf, windwardOf, LevelInputs, LevelsFigured};
 use arith::rounding::ceil_signed;
 use sheet::Tier;
 use statics::NEWTON;
@@ -24,7 +25,7 @@ const POST_SPACING: i64 = 2259;
 
 // The racking of a tier of spring k, from the shifts of its upper and its lower level.
 fn racking_part(k: u64, upper: u64, lower: u64) -> i64
-    requires { ⌜ (k ≤ 15690) × (upper ≤ 2 ^ 40) × (lower ≤ 2 ^ 40) ⌝ }
+    requires { ⌜ (k ≤ closedSpring) × (upper ≤ 2 ^ 40) × (lower ≤ 2 ^ 40) ⌝ }
     ensures { λ r. ⌜ (r ≡ quotZ (pos (k * upper) -ℤ pos (k * lower)) (pos 1024)) × Small (2 ^ 45) r ⌝ }
 {
     ((k * upper) as i64 - (k * lower) as i64) / 1024
@@ -61,13 +62,13 @@ fn racking_figure(part: i64) -> i32
 }
 
 // A signed number, cut off at 0.
-fn not_below(x: i64) -> u64
-    ensures { λ r. ⌜ r ≡ notBelow x ⌝ }
+fn not_below(sum: i64) -> u64
+    ensures { λ r. ⌜ r ≡ notBelow sum ⌝ }
 {
-    if x < 0 {
+    if sum < 0 {
         return 0;
     }
-    x as u64
+    sum as u64
 }
 
 fn greater(x: i64, y: i64) -> i64
@@ -98,7 +99,7 @@ fn post_sum(weight: u64, couple: i64, vertical: u64) -> i64
 // Compression at a level, from half the weight above it, the moment over the post spacing, and the vertical parts on the posts.
 fn compression_of(weight: u64, couple: i64, parts: PostParts) -> u64
     requires { ⌜ (weight ≤ 2 ^ 40) × Small (2 ^ 50) couple × (parts .lee ≤ 2 ^ 62) × (parts .windward ≤ 2 ^ 62) ⌝ }
-    ensures { λ r. ⌜ r ≡ postFigure (pos weight +ℤ couple +ℤ pos (parts .lee)) (pos weight -ℤ couple +ℤ pos (parts .windward)) ⌝ }
+    ensures { λ r. ⌜ r ≡ postFigure (leeOf weight couple parts) (windwardOf weight couple parts) ⌝ }
 {
     post_figure(
         post_sum(weight, couple, parts.lee),
@@ -109,7 +110,7 @@ fn compression_of(weight: u64, couple: i64, parts: PostParts) -> u64
 // Tension, from the same.
 fn tension_of(weight: u64, couple: i64, parts: PostParts) -> u64
     requires { ⌜ (weight ≤ 2 ^ 40) × Small (2 ^ 50) couple × (parts .lee ≤ 2 ^ 62) × (parts .windward ≤ 2 ^ 62) ⌝ }
-    ensures { λ r. ⌜ r ≡ postFigure (negℤ (pos weight +ℤ couple +ℤ pos (parts .lee))) (negℤ (pos weight -ℤ couple +ℤ pos (parts .windward))) ⌝ }
+    ensures { λ r. ⌜ r ≡ postFigure (negℤ (leeOf weight couple parts)) (negℤ (windwardOf weight couple parts)) ⌝ }
 {
     post_figure(
         negative(post_sum(weight, couple, parts.lee)),
@@ -151,15 +152,17 @@ struct Level {
     tension: u64,
 }
 
-// The level under a tier of racking `part`, with the vertical parts of its own lashes.
-fn level_under(above: Above, part: i64, height: u16, own: PostParts, most: u64, least: u64) -> Level
+// The level under a tier of racking `part`, with the vertical parts of its own lashes. vmax and vmin: half of V with A_Vmax and A_Vmin.
+fn level_under(above: Above, part: i64, height: u16, own: PostParts, vmax: u64, vmin: u64) -> Level
     requires { ⌜ Small (2 ^ 60) (above .moment) × Small (2 ^ 45) part × (height ≤ 2896) ⌝ }
     requires { ⌜ (above .parts .lee ≤ 15 * 2 ^ 58) × (above .parts .windward ≤ 15 * 2 ^ 58) ⌝ }
-    requires { ⌜ (own .lee ≤ 2 ^ 58) × (own .windward ≤ 2 ^ 58) × (most ≤ 2 ^ 40) × (least ≤ 2 ^ 40) ⌝ }
+    requires { ⌜ (own .lee ≤ 2 ^ 58) × (own .windward ≤ 2 ^ 58) × (vmax ≤ 2 ^ 40) × (vmin ≤ 2 ^ 40) ⌝ }
     ensures { λ r. ⌜ r .above .moment ≡ pos height *ℤ part +ℤ above .moment ⌝ }
-    ensures { λ r. ⌜ (r .above .parts .lee ≡ above .parts .lee + own .lee) × (r .above .parts .windward ≡ above .parts .windward + own .windward) ⌝ }
-    ensures { λ r. ⌜ r .compression ≡ compressed most (pos height *ℤ part +ℤ above .moment) (above .parts .lee + own .lee) (above .parts .windward + own .windward) ⌝ }
-    ensures { λ r. ⌜ r .tension ≡ tensed least (pos height *ℤ part +ℤ above .moment) (above .parts .lee) (above .parts .windward) ⌝ }
+    ensures { λ r. ⌜ r .above .parts .lee ≡ above .parts .lee + own .lee ⌝ }
+    ensures { λ r. ⌜ r .above .parts .windward ≡ above .parts .windward + own .windward ⌝ }
+    ensures { λ r. ⌜ r .compression ≡ compressionFrom vmax (pos height *ℤ part +ℤ above .moment)
+        (above .parts .lee + own .lee) (above .parts .windward + own .windward) ⌝ }
+    ensures { λ r. ⌜ r .tension ≡ tensionFrom vmin (pos height *ℤ part +ℤ above .moment) (above .parts .lee) (above .parts .windward) ⌝ }
 {
     let moment = moment_under(above.moment, part, height);
     let couple = couple_of(moment);
@@ -173,8 +176,8 @@ fn level_under(above: Above, part: i64, height: u16, own: PostParts, most: u64, 
             moment: moment,
             parts: parts,
         },
-        compression: compression_of(most, couple, parts),
-        tension: tension_of(least, couple, over),
+        compression: compression_of(vmax, couple, parts),
+        tension: tension_of(vmin, couple, over),
     }
 }
 
@@ -191,20 +194,21 @@ pub fn level_figures<'a>(
     k: &[u64],
     tiers: [Tier; 10],
     d: &[u64],
-    most: &[u64],
-    least: &[u64],
+    vmax: &[u64],
+    vmin: &[u64],
     lee: &'a [u64],
     windward: &'a [u64],
 ) -> LevelFigures
-    requires { ⌜ Measured n (now k) (take n tiers) (now d) (now most) (now least) (now lee) (now windward) ⌝ }
-    requires { ⌜ (length (now k) ≡ 10) × (length (now d) ≡ 11) × (length (now most) ≡ 11) × (length (now least) ≡ 11) ⌝ }
-    ensures { λ r. ⌜ Levelled n (now (k .entry)) (take n tiers) (now (d .entry)) (now (most .entry)) (now (least .entry)) (now (lee .entry)) (now (windward .entry)) (r .racking) (r .compression) (r .tension) ⌝ }
+    requires { ⌜ LevelInputs n (now k) (take n tiers) (now d) (now vmax) (now vmin) (now lee) (now windward) ⌝ }
+    requires { ⌜ (length (now k) ≡ 10) × (length (now d) ≡ 11) × (length (now vmax) ≡ 11) × (length (now vmin) ≡ 11) ⌝ }
+    ensures { λ r. ⌜ LevelsFigured n (now (k .entry)) (take n tiers) (now (d .entry)) (now (vmax .entry)) (now (vmin .entry))
+        (now (lee .entry)) (now (windward .entry)) (r .racking) (r .compression) (r .tension) ⌝ }
 {
     let mut racking = [0i32; 10];
     let mut compression = [0u64; 11];
     let mut tension = [0u64; 10];
     let top = parts_of(lee[n], windward[n]);
-    compression[n] = compression_of(most[n], 0, top);
+    compression[n] = compression_of(vmax[n], 0, top);
     let mut above = Above {
         moment: 0,
         parts: top,
@@ -216,7 +220,7 @@ pub fn level_figures<'a>(
         let t = tiers[i];
         let part = racking_part(k[i], upper, d[i]);
         let own = parts_of(lee[i], windward[i]);
-        let l = level_under(above, part, t.height, own, most[i], least[i]);
+        let l = level_under(above, part, t.height, own, vmax[i], vmin[i]);
         racking[i] = racking_figure(part);
         compression[i] = l.compression;
         tension[i] = l.tension;

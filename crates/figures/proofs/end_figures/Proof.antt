@@ -13,32 +13,32 @@ use Rattle.figures.proofs.end_figures.Statement.{statement}
 use Rattle.figures.proofs.end_figures.Tie as tie
 
 -- from each step to the one before it
-abbrev entered : tie.After-gear-of → tie.Start
+abbrev entered : tie.After-lash-stiffnesses → tie.Start
 entered c = c .before .before .before .before .before .before .before .before
 
-abbrev geared : tie.After-solve → tie.After-gear-of
-geared c = c .before .before .before .before .before
+abbrev measured : tie.After-solve → tie.After-lash-stiffnesses
+measured c = c .before .before .before .before .before
 
 abbrev solved : tie.After-lash-figures → tie.After-solve
 solved c = c .before .before .before .before
 
-abbrev pulled : tie.After-level-figures → tie.After-lash-figures
-pulled c = c .before .before .before .before .before .before .before
+abbrev figured : tie.After-level-figures → tie.After-lash-figures
+figured c = c .before .before .before .before .before .before .before
 
 counted : (c : tie.Start) → length (take (c .args .m) (c .args .lashes)) ≡ c .args .m
 counted c = length-take-le (c .args .m) (c .args .lashes) (omega (arith, c .pre .0 .few-lashes, c .good .1 .1 .1 .0 .1 .0 .1))
 
-slice-aggregate-gear-of : tie.Need-slice-aggregate-gear-of
-slice-aggregate-gear-of c = search needs
+slice-aggregate-lash-stiffnesses : tie.Need-slice-aggregate-lash-stiffnesses
+slice-aggregate-lash-stiffnesses c = search needs
 
-slice-aggregate-gear-of-2 : tie.Need-slice-aggregate-gear-of-2
-slice-aggregate-gear-of-2 c = search needs
+slice-aggregate-lash-stiffnesses-2 : tie.Need-slice-aggregate-lash-stiffnesses-2
+slice-aggregate-lash-stiffnesses-2 c = search needs
 
-slice-aggregate-gear-of-3 : tie.Need-slice-aggregate-gear-of-3
-slice-aggregate-gear-of-3 c = search needs
+slice-aggregate-lash-stiffnesses-3 : tie.Need-slice-aggregate-lash-stiffnesses-3
+slice-aggregate-lash-stiffnesses-3 c = search needs
 
-gear-of-requires : tie.Need-gear-of-requires
-gear-of-requires c κs =
+lash-stiffnesses-requires : tie.Need-lash-stiffnesses-requires
+lash-stiffnesses-requires c κs =
     let b = c .before .before .before .before .before .before .before in
     ((b .pre .0 .few-lashes, each-ten (b .pre .0) (counted b)), (refl, refl, refl))
 
@@ -50,9 +50,9 @@ solve-requires c κs =
     let g = c .before .before .before .before in
     let b = entered g in
     let p = b .pre in (
-      end-solvable (p .0) (counted b) (g .gear-of .ensures .1),
+      end-solvable (p .0) (counted b) (g .lash-stiffnesses .ensures .1),
       omega (arith, p .0 .few, p .1 .0),
-      omega (arith, p .0 .few, g .gear-of .kept .1 .1 .1 .1 .0),
+      omega (arith, p .0 .few, g .lash-stiffnesses .kept .1 .1 .1 .1 .0),
       omega (arith, p .0 .few, p .1 .1),
     )
 
@@ -68,11 +68,11 @@ slice-aggregate-lash-figures-3 c = search needs
 lash-figures-requires : tie.Need-lash-figures-requires
 lash-figures-requires c κs =
     let s = c .before .before .before in
-    let g = geared s in
+    let g = measured s in
     let b = entered g in
-    let long = g .gear-of .kept .1 .1 in (
+    let long = g .lash-stiffnesses .kept .1 .1 in (
       (b .pre .0 .few-lashes, each-ten (b .pre .0) (counted b)),
-      ((g .gear-of .ensures .0, s .solve .ensures .0 .far), (long .0, long .1 .0, s .solve .ok .1 .0 .1)),
+      ((g .lash-stiffnesses .ensures .0, s .solve .ensures .0 .far), (long .0, long .1 .0, s .solve .ok .1 .0 .1)),
     )
 
 slice-aggregate-level-figures : tie.Need-slice-aggregate-level-figures
@@ -82,7 +82,7 @@ level-figures-requires : tie.Need-level-figures-requires
 level-figures-requires c κs =
     let p = c .before .before .before .before .before .before in
     let s = solved p in
-    let b = entered (geared s) in
+    let b = entered (measured s) in
     let posts = p .lash-figures .ensures .1 in (
       end-measured (b .pre .0) (counted b) (s .solve .ensures .0) (posts .0) (posts .1),
       (b .pre .1 .0, s .solve .ok .1 .0 .1, b .pre .1 .2, b .pre .1 .3),
@@ -91,12 +91,12 @@ level-figures-requires c κs =
 returns : tie.Need-returns
 returns c =
     let v = c .before .before .before .before .before .before in
-    let p = pulled v in
+    let p = figured v in
     let s = solved p in
-    let g = geared s in
+    let g = measured s in
     let b = entered g in
     let posts = p .lash-figures .ensures .1 in
-    let κ = stiffnesses-named (take (b .args .m) (b .args .lashes)) (g .gear-of .kept .1 .1 .1 .1 .0) (g .gear-of .ensures .1) in
+    let κ = stiffnesses-named (take (b .args .m) (b .args .lashes)) (g .lash-stiffnesses .kept .1 .1 .1 .1 .0) (g .lash-stiffnesses .ensures .1) in
     let d = s .solve .ensures .1 ∙ ap (λ (κ : List ℕ). S.solved (b .args .n) (b .args .k .now) κ (b .args .loads .now)) κ in
     end-named (b .pre .0) (counted b) (p .lash-figures .ensures .0) (posts .0) (posts .1) (v .level-figures .ensures)
     ∙ ap
@@ -107,10 +107,10 @@ pub end-figures-spec : {M : Type 1} → statement M
 end-figures-spec =
     tie.close
     (tie.spec
-    slice-aggregate-gear-of
-    slice-aggregate-gear-of-2
-    slice-aggregate-gear-of-3
-    gear-of-requires
+    slice-aggregate-lash-stiffnesses
+    slice-aggregate-lash-stiffnesses-2
+    slice-aggregate-lash-stiffnesses-3
+    lash-stiffnesses-requires
     slice-aggregate-solve
     solve-requires
     slice-aggregate-lash-figures

@@ -16,11 +16,11 @@ use Rattle.figures_lashes.proofs.lash_figures.Statement.{statement}
 use Rattle.figures_lashes.proofs.lash_figures.Tie as tie
 
 abbrev Inv-loop : tie.InvT-loop
-Inv-loop m lengths stiffnesses d lashes pull₀ athwart₀ vertical₀ lee₀ windward₀ j₀ pull athwart vertical lee windward j =
-    FiguredTo m (take m lashes) d pull athwart vertical lee windward j
+Inv-loop m lengths stiffnesses d lashes tension₀ athwart₀ vertical₀ lee₀ windward₀ j₀ tension athwart vertical lee windward j =
+    FiguredTo m (take m lashes) d tension athwart vertical lee windward j
 
 abbrev μ-loop : tie.MeasureT-loop
-μ-loop m lengths stiffnesses d lashes pull₀ athwart₀ vertical₀ lee₀ windward₀ j₀ pull athwart vertical lee windward j =
+μ-loop m lengths stiffnesses d lashes tension₀ athwart₀ vertical₀ lee₀ windward₀ j₀ tension athwart vertical lee windward j =
     m - j
 
 lashes-of : (c : tie.Start Inv-loop μ-loop) → Listed (c .args .m) (take (c .args .m) (c .args .t1))
@@ -121,11 +121,11 @@ on-posts-requires c κs =
     let x = parted (c .before) in
     (rw (c .lashing-of .ensures, carried _) (lash-limits (turn (hooked x))), x .athwart-part .ensures .1)
 
-mul-pull : tie.Need-mul-pull Inv-loop μ-loop
-mul-pull c = search needs
+mul-tension : tie.Need-mul-tension Inv-loop μ-loop
+mul-tension c = search needs
 
-array-write-pull : tie.Need-array-write-pull Inv-loop μ-loop
-array-write-pull c = search needs
+array-write-tension : tie.Need-array-write-tension Inv-loop μ-loop
+array-write-tension c = search needs
 
 mul-athwart : tie.Need-mul-athwart Inv-loop μ-loop
 mul-athwart c = search needs
@@ -240,8 +240,8 @@ lash-figures-spec =
     forces-of-requires
     lashing-of-requires
     on-posts-requires
-    mul-pull
-    array-write-pull
+    mul-tension
+    array-write-tension
     mul-athwart
     array-write-athwart
     mul-vertical

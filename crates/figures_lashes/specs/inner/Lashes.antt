@@ -21,22 +21,22 @@ abbrev pub verticalFrom : ℕ → Lash → ℕ
 verticalFrom part l = part * l .lz / l .ly
 
 -- lengths and stiffnesses of m lashes
-pub record Geared (m : ℕ) (ls : List Lash) (lengths stiffnesses : List ℕ) : Type 0 where
+pub record LashesMeasured (m : ℕ) (ls : List Lash) (lengths stiffnesses : List ℕ) : Type 0 where
   pub long : Filled 8 0 m (λ j. lashLength (getD ls j blankLash)) lengths
   pub stiff : Filled 8 0 m (λ j. stiffnessOf (getD ls j blankLash)) stiffnesses
 
 -- the stiffness of all lashes at each level over the deck
-abbrev pub Held : List Lash → List ℕ → Type 0
-Held ls levels = (i : ℕ) → getD levels i 0 ≡ levelStiffness ls (suc i)
+abbrev pub LevelStiffnesses : List Lash → List ℕ → Type 0
+LevelStiffnesses ls levels = (i : ℕ) → getD levels i 0 ≡ levelStiffness ls (suc i)
 
 -- the figures of m lashes at the shifts d
-pub record Pulled (m : ℕ) (ls : List Lash) (d pull athwart vertical : List ℕ) : Type 0 where
-  pub pull-is : Filled 8 0 m (λ j. pullFigure d (getD ls j blankLash)) pull
+pub record LashesFigured (m : ℕ) (ls : List Lash) (d tension athwart vertical : List ℕ) : Type 0 where
+  pub lash-tension-is : Filled 8 0 m (λ j. pullFigure d (getD ls j blankLash)) tension
   pub athwart-is : Filled 8 0 m (λ j. athwartFigure d (getD ls j blankLash)) athwart
   pub vertical-is : Filled 8 0 m (λ j. verticalFigure d (getD ls j blankLash)) vertical
 
 -- the vertical parts of the lashes on a post at each level
-pub record Borne (post : Lashing → ℕ → ℕ) (ls : List Lash) (d r : List ℕ) : Type 0 where
+pub record VerticalsOn (post : Lashing → ℕ → ℕ) (ls : List Lash) (d r : List ℕ) : Type 0 where
   pub each : (i : ℕ) → getD r i 0 ≡ upwards post (λ l. eqb i (levelOf l)) d ls
   pub small : (i : ℕ) → getD r i 0 ≤ 2 ^ 58
   pub long : length r ≡ 11

@@ -1,3 +1,4 @@
+-- `figures_levels::compression_of`: the figure of the two sums, which are in range.
 use Rattle.arith.proofs.Sizes.{small-neg, small-weaken}
 use lib.Dec.{lit<, lit≤}
 use Rattle.figures_levels.proofs.Words.{held}
@@ -22,12 +23,12 @@ post-figure-requires c κs = search needs
 
 returns : tie.Need-returns
 returns c =
-    let b = c .before .before .before .before in
-    let h = held (b .pre .1) (lit< tt) in
+    let entry = c .before .before .before .before in
+    let h = held (entry .pre .1) (lit< tt) in
     let s = c .before .before .before .post-sum .ensures in
     let t = c .before .post-sum2 .ensures in
     let n = simp h at (c .before .before .negative .ensures) in
-    let y = simp (held (small-neg (b .pre .1)) (lit< tt)) at (simp n at (t .0)) in
+    let y = simp (held (small-neg (entry .pre .1)) (lit< tt)) at (simp n at (t .0)) in
     simp (simp h at (s .0), y) at (simp (held (s .1) (lit< tt), held (t .1) (lit< tt)) at (c .post-figure .ensures))
 
 pub compression-of-spec : {M : Type 1} → statement M

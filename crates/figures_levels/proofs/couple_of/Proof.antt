@@ -1,3 +1,4 @@
+-- `figures_levels::couple_of`: the quotient towards zero, and its size.
 use mathlib.Core.Path.{refl}
 use lib.Dec.{lit<}
 use Rattle.arith.proofs.Sizes.{fits64}

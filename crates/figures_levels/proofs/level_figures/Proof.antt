@@ -1,3 +1,4 @@
+-- `figures_levels::level_figures`: one turn goes from a level to the level under it, with the sums of what stands above (Descent).
 use borrow.Author.Needs.{needs}
 use Prim.Native.Nat.{_<_, _-_}
 use mathlib.Core.Path.{_≡_, sym, ap, _∙_}
@@ -11,31 +12,45 @@ use Rattle.arith.proofs.Sizes.{small-pos, small-weaken}
 use Rattle.sheet.specs.declared.Tier.{Tier}
 use Rattle.sheet.specs.Layout.{blankTier}
 use Rattle.statics.specs.inner.WholeNumbers.{leeFound, windwardFound}
-use Rattle.figures_levels.proofs.Descent.{Descended, at-top, turned-once, at-foot}
+use Rattle.figures_levels.proofs.Descent.{FiguredFrom, at-top, turned-once, at-foot}
 use Rattle.figures_levels.proofs.Words.{held}
 use Rattle.figures_levels.proofs.level_figures.Statement.{statement}
 use Rattle.figures_levels.proofs.level_figures.Tie as tie
 
 abbrev Inv-loop : tie.InvT-loop
-Inv-loop n k d most least lee windward tiers racking₀ compression₀ tension₀ above₀ i₀ racking compression tension above i =
-    Descended n k (take n tiers) d most least lee windward racking compression tension (above .moment) (above .parts .lee) (above .parts .windward) i
+Inv-loop n k d vmax vmin lee windward tiers racking₀ compression₀ tension₀ above₀ i₀ racking compression tension above i =
+    let parts = above .parts in
+    FiguredFrom n k (take n tiers) d vmax vmin lee windward racking compression tension (above .moment) (parts .lee) (parts .windward) i
 
 abbrev μ-loop : tie.MeasureT-loop
-μ-loop n k d most least lee windward tiers racking₀ compression₀ tension₀ above₀ i₀ racking compression tension above i =
+μ-loop n k d vmax vmin lee windward tiers racking₀ compression₀ tension₀ above₀ i₀ racking compression tension above i =
     i
 
--- where the loop is entered from
+-- from the top level's parts, and from the loop, to the function's entry
+abbrev entry : tie.After-parts-of Inv-loop μ-loop → tie.Start Inv-loop μ-loop
+entry c = c .before .before .before .before .before .before .before .before .before
+
 abbrev start : tie.At-loop Inv-loop μ-loop → tie.Start Inv-loop μ-loop
-start c = c .before .before .before .before .before .before .before .before .before .before .before .before
+start c = entry (c .before .before .before)
+
+-- from each step of a turn to the one before it
+abbrev turn : tie.After-racking-part Inv-loop μ-loop → tie.In-loop Inv-loop μ-loop
+turn c = c .before .before .before .before .before
+
+abbrev racked : tie.After-parts-of2 Inv-loop μ-loop → tie.After-racking-part Inv-loop μ-loop
+racked c = c .before .before .before
+
+abbrev parted : tie.After-level-under Inv-loop μ-loop → tie.After-parts-of2 Inv-loop μ-loop
+parted c = c .before .before .before
 
 -- the level under a tier of the stack
 under : (c : tie.In-loop Inv-loop μ-loop) → c .before .loop .i - 1 < start (c .before) .args .n
 under c = omega (arith, c .loop-test .taken, c .before .loop .inv .within)
 
 -- .. where its figures are stored
-room : (c : tie.After-racking-figure Inv-loop μ-loop) → c .before .before .before .before .before .before .before .before .before .before .before .before .before .loop .i - 1 < 10
+room : (c : tie.After-racking-figure Inv-loop μ-loop) → turn (racked (parted (c .before))) .before .loop .i - 1 < 10
 room c =
-    let t = c .before .before .before .before .before .before .before .before .before .before .before .before in
+    let t = turn (racked (parted (c .before))) in
     omega (arith, under t, start (t .before) .pre .0 .few)
 
 stacked : (c : tie.Start Inv-loop μ-loop) → length (take (c .args .n) (c .args .t3)) ≡ c .args .n
@@ -64,11 +79,11 @@ shared-slice-read-compression-of c = search needs
 
 compression-of-requires : tie.Need-compression-of-requires Inv-loop μ-loop
 compression-of-requires c κs =
-    let b = c .before .before .before .before .before .before .before .before .before .before in
+    let b = entry (c .before) in
     let n = b .args .n in
     let e = c .before .parts-of .ensures in
     let m = b .pre .0 in
-    (m .most-light n, small-pos (lit≤ tt), omega (arith, e .0, m .lee-small n), omega (arith, e .1, m .windward-small n))
+    (m .vmax-light n, small-pos (lit≤ tt), omega (arith, e .0, m .lee-small n), omega (arith, e .1, m .windward-small n))
 
 mul-compression : tie.Need-mul-compression Inv-loop μ-loop
 mul-compression c = search needs
@@ -80,7 +95,7 @@ loop-holds : tie.Need-loop-holds Inv-loop μ-loop
 unfolding leeFound windwardFound
 loop-holds c =
     let p = c .before .before in
-    let b = p .before .before .before .before .before .before .before .before .before in
+    let b = entry p in
     let e = p .parts-of .ensures in
     rw (e .0, e .1) (at-top (b .pre .0) (stacked b) (simp (e .0, e .1) at (c .compression-of .ensures)))
 
@@ -148,25 +163,26 @@ shared-slice-read-level-under-2 c = search needs
 level-under-requires : tie.Need-level-under-requires Inv-loop μ-loop
 level-under-requires c κs =
     let o = c .before .before in
-    let r = o .before .before .before in
-    let t = r .before .before .before .before .before in
+    let r = racked o in
+    let t = turn r in
     let l = t .before .loop in
     let b = start (t .before) in
     let m = b .pre .0 in
     let j = l .i - 1 in
     let w = under t in
     let p = r .racking-part .ensures .1 in
+    let height = rw (getD-take (b .args .n) (b .args .t3) j blankTier w) at (m .heights j w) in
     let e = o .parts-of2 .ensures in (
-      (small-weaken (l .inv .moment-small) (omega (arith, m .few)), rw (held p (lit< tt)) p, rw (getD-take (b .args .n) (b .args .t3) j blankTier w) at (m .heights j w)),
+      (small-weaken (l .inv .moment-small) (omega (arith, m .few)), rw (held p (lit< tt)) p, height),
       (
         (omega (arith, l .inv .lees-small, m .few), omega (arith, l .inv .windwards-small, m .few)),
-        (omega (arith, e .0, m .lee-small j), omega (arith, e .1, m .windward-small j), m .most-light j, m .least-light j),
+        (omega (arith, e .0, m .lee-small j), omega (arith, e .1, m .windward-small j), m .vmax-light j, m .vmin-light j),
       ),
     )
 
 racking-figure-requires : tie.Need-racking-figure-requires Inv-loop μ-loop
 racking-figure-requires c κs =
-    let p = c .before .before .before .before .before .before .racking-part .ensures .1 in
+    let p = racked (parted c) .racking-part .ensures .1 in
     rw (held p (lit< tt)) p
 
 mul-racking : tie.Need-mul-racking Inv-loop μ-loop
@@ -193,9 +209,9 @@ loop-less c = search needs
 loop-again : tie.Need-loop-again Inv-loop μ-loop
 loop-again c =
     let u = c .before .before in
-    let o = u .before .before .before in
-    let r = o .before .before .before in
-    let t = r .before .before .before .before .before in
+    let o = parted u in
+    let r = racked o in
+    let t = turn r in
     let l = t .before .loop in
     let b = start (t .before) in
     let p = r .racking-part .ensures in
@@ -213,10 +229,10 @@ loop-again c =
     (ap (λ (x : Tier). x .height) (sym (getD-take (b .args .n) (b .args .t3) (l .i - 1) blankTier w)))
     (toZ-ofZ w32 (g .result) (record { sfits = g .ok }) ∙ simp h at (g .ensures))
     (e .0)
-    (e .1 .0 .0)
-    (e .1 .0 .1)
+    (e .1 .0)
     (e .1 .1 .0)
-    (e .1 .1 .1)
+    (e .1 .1 .1 .0)
+    (e .1 .1 .1 .1)
 
 returns : tie.Need-returns Inv-loop μ-loop
 returns c =

@@ -1,3 +1,4 @@
+-- `figures_levels::level_under`: moment, posts and figures of the level, each by the function that finds it.
 use mathlib.Core.Path.{refl}
 use lib.Dec.{lit<}
 use Rattle.statics.specs.inner.WholeNumbers.{leeFound, windwardFound}
@@ -27,15 +28,15 @@ tension-of-requires c κs = search needs
 returns : tie.Need-returns
 unfolding leeFound windwardFound
 returns c =
-    let o = c .before .before .before .before .before .before in
-    let b = o .before .before .before .before in
-    let m = o .before .before .moment-under .ensures in
-    let l = o .before .couple-of .ensures in
-    let e = simp (held (b .pre .0 .0) (lit< tt), held (b .pre .0 .1) (lit< tt)) at (m .0) in
+    let posts = c .before .before .before .before .before .before in
+    let entry = posts .before .before .before .before in
+    let m = posts .before .before .moment-under .ensures in
+    let l = posts .before .couple-of .ensures in
+    let e = simp (held (entry .pre .0 .0) (lit< tt), held (entry .pre .0 .1) (lit< tt)) at (m .0) in
     let q = simp e at (simp (held (m .1) (lit< tt)) at (l .0)) in
     let x = simp q at (simp (held (l .1) (lit< tt)) at (c .before .compression-of .ensures)) in
     let y = simp q at (simp (held (l .1) (lit< tt)) at (c .tension-of .ensures)) in
-    (rw (held (m .1) (lit< tt)) e, ((refl, refl), (x, y)))
+    (rw (held (m .1) (lit< tt)) e, (refl, (refl, (x, y))))
 
 pub level-under-spec : {M : Type 1} → statement M
 level-under-spec =

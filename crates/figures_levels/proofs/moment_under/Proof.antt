@@ -1,3 +1,4 @@
+-- `figures_levels::moment_under`: the product and the sum stay within 64 bits.
 use mathlib.Core.Path.{refl}
 use native.Mathlib.Omega.{arith}
 use lib.Dec.{lit<}
@@ -30,7 +31,9 @@ returns c =
     let a = c .args in
     let t = turned (c .pre .2) (c .pre .1) in
     let m = moment-small (c .pre .2) (c .pre .1) (c .pre .0) in
-    simp (divisor (a .height) (omega arith), held (c .pre .1) (lit< tt), held t (lit< tt), held (c .pre .0) (lit< tt), held m (lit< tt)) (refl, m)
+    simp
+    (divisor (a .height) (omega arith), held (c .pre .1) (lit< tt), held t (lit< tt), held (c .pre .0) (lit< tt), held m (lit< tt))
+    (refl, m)
 
 pub moment-under-spec : {M : Type 1} → statement M
 moment-under-spec = tie.close (tie.spec cast-result mul-result add-result returns)

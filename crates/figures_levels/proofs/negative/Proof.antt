@@ -1,3 +1,4 @@
+-- `figures_levels::negative`: no number of this size is the least of 64 bits.
 use lib.Dec.{lit<}
 use Rattle.arith.proofs.Sizes.{fits64, small-neg}
 use Rattle.figures_levels.proofs.Words.{held, minus}

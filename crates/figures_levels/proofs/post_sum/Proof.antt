@@ -1,3 +1,4 @@
+-- `figures_levels::post_sum`: the steps of the sum stay within 64 bits.
 use mathlib.Core.Path.{refl}
 use native.Mathlib.Omega.{arith}
 use lib.Dec.{lit<}

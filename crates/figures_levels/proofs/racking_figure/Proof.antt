@@ -18,7 +18,9 @@ use Rattle.figures_levels.proofs.racking_figure.Tie as tie
 sized : (c : tie.After-size) → c .size .result ≡ pos (natAbs (c .before .args .part))
 sized c = simp (held (c .before .pre) (lit< tt)) at (c .size .ensures)
 
-newtons : (c : tie.After-ceil-signed) → c .ceil-signed .result ≡ pos (roundedUp (natAbs (c .before .before .args .part) + rackingPad) (2 ^ 18))
+newtons :
+    (c : tie.After-ceil-signed) →
+    c .ceil-signed .result ≡ pos (roundedUp (natAbs (c .before .before .args .part) + rackingPad) (2 ^ 18))
 newtons c =
     let p = c .before .before .pre in
     simp (sized (c .before), held (size-small p) (lit< tt), held (size-padded p) (lit< tt)) at (c .ceil-signed .ensures .0)

@@ -1,3 +1,4 @@
+-- `figures_levels::racking_part`: both products, their difference and its quotient stay within 64 bits.
 use Rattle.figures_levels.proofs.Words.{held}
 use Prim.Native.Nat.{_*_}
 use mathlib.Core.Path.{refl}
@@ -31,7 +32,8 @@ div-result : tie.Need-div-result
 div-result c =
     let a = c .args in
     let b = spring-le (c .pre .0) (c .pre .1) (c .pre .2) in
-    simp (divisor (a .k * a .upper) (omega arith), divisor (a .k * a .lower) (omega arith), held (difference (c .pre .0) (c .pre .1) (c .pre .2)) (lit< tt))
+    let h = held (difference (c .pre .0) (c .pre .1) (c .pre .2)) (lit< tt) in
+    simp (divisor (a .k * a .upper) (omega arith), divisor (a .k * a .lower) (omega arith), h)
     (lit< tt, fits64 (racking-small (c .pre .0) (c .pre .1) (c .pre .2)) (lit< tt))
 
 returns : tie.Need-returns

@@ -1,3 +1,4 @@
+-- `figures_levels::tension_of`: the figure of the two sums with their signs turned.
 use lib.Dec.{lit<, lit≤}
 use Rattle.arith.proofs.Sizes.{small-neg, small-weaken}
 use Rattle.figures_levels.proofs.Words.{held}
@@ -27,23 +28,25 @@ negative-requires-3 c κs = search needs
 
 post-figure-requires : tie.Need-post-figure-requires
 post-figure-requires c κs =
-    let s = c .before .before .before .before .post-sum .ensures in
+    let k = c .before .before .before in
+    let s = k .before .post-sum .ensures in
     let t = c .before .post-sum2 .ensures in
     let m = small-neg (s .1) in
     let n = small-neg (t .1) in
-    let e = simp (held (s .1) (lit< tt)) at (c .before .before .before .negative .ensures) in
+    let e = simp (held (s .1) (lit< tt)) at (k .negative .ensures) in
     let f = simp (held (t .1) (lit< tt)) at (c .negative3 .ensures) in
     (simp (e, held m (lit< tt)) m, simp (f, held n (lit< tt)) n)
 
 returns : tie.Need-returns
 returns c =
-    let b = c .before .before .before .before .before .before in
-    let h = held (b .pre .1) (lit< tt) in
-    let s = c .before .before .before .before .before .post-sum .ensures in
+    let k = c .before .before .before .before in
+    let entry = k .before .before in
+    let h = held (entry .pre .1) (lit< tt) in
+    let s = k .before .post-sum .ensures in
     let t = c .before .before .post-sum2 .ensures in
     let n = simp h at (c .before .before .before .negative2 .ensures) in
-    let y = simp (held (small-neg (b .pre .1)) (lit< tt)) at (simp n at (t .0)) in
-    let e = simp (held (s .1) (lit< tt)) at (c .before .before .before .before .negative .ensures) in
+    let y = simp (held (small-neg (entry .pre .1)) (lit< tt)) at (simp n at (t .0)) in
+    let e = simp (held (s .1) (lit< tt)) at (k .negative .ensures) in
     let f = simp (held (t .1) (lit< tt)) at (c .before .negative3 .ensures) in
     let g = simp (e, f) at (c .post-figure .ensures) in
     simp (simp h at (s .0), y) at (simp (held (small-neg (s .1)) (lit< tt), held (small-neg (t .1)) (lit< tt)) at g)

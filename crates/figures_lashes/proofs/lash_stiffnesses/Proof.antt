@@ -1,4 +1,4 @@
--- `figures_lashes::gear_of`: one turn finds the length and the stiffness of a lash and adds the stiffness at its level (LashLoops).
+-- `figures_lashes::lash_stiffnesses`: one turn finds length and stiffness of a lash and adds the stiffness at its level (LashLoops).
 use mathlib.Core.Path.{_≡_}
 use lib.ListN.{getD, take}
 use lib.Seq.{getD-take}
@@ -9,8 +9,8 @@ use native.Mathlib.Numerals.{add-one}
 use native.Mathlib.Omega.{arith}
 use Rattle.sheet.specs.inner.Limits.{LashLimits}
 use borrow.Author.Needs.{needs}
-use Rattle.figures_lashes.proofs.gear_of.Statement.{statement}
-use Rattle.figures_lashes.proofs.gear_of.Tie as tie
+use Rattle.figures_lashes.proofs.lash_stiffnesses.Statement.{statement}
+use Rattle.figures_lashes.proofs.lash_stiffnesses.Tie as tie
 
 abbrev Inv-loop : tie.InvT-loop
 Inv-loop m lengths₀ stiffnesses₀ levels₀ lashes j₀ lengths stiffnesses levels j = MeasuredTo m (take m lashes) lengths stiffnesses levels j
@@ -127,8 +127,8 @@ same-length-3 c = search needs
 returns : tie.Need-returns Inv-loop μ-loop
 returns c = measured-all (lashes-of (start (c .before))) (c .loop-test .left) (c .before .loop .inv)
 
-pub gear-of-spec : {M : Type 1} → statement M
-gear-of-spec =
+pub lash-stiffnesses-spec : {M : Type 1} → statement M
+lash-stiffnesses-spec =
     tie.close
     (tie.spec
     Inv-loop
