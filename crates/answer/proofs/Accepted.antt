@@ -1,7 +1,8 @@
 -- An accepted stack exceeds no checked limit, and every finding stands for a force above its limit or less than the margin short of it.
 use mathlib.Core.Path.{_≡_, refl, sym, ap, subst, _∙_}
 use mathlib.Core.Bool.{Bool, true, false, cond}
-use mathlib.Core.List.{List, [], _∷_, _++_, flatMap, List·Memᴰ, List·Memᴰ·head, List·Memᴰ·tail, List·Memᴰ·not-nil, List·Memᴰ·cases-cons, List·Memᴰ·append-cases}
+use mathlib.Core.List.{List, [], _∷_, _++_, flatMap, List·Memᴰ, List·Memᴰ·head, List·Memᴰ·tail, List·Memᴰ·not-nil, List·Memᴰ·cases-cons}
+use mathlib.Core.List.{List·Memᴰ·append-cases}
 use mathlib.Core.Logic.{_⊎_, ⊎-elim}
 use Prim.Native.Nat.{ℕ, zero, suc, _+_, _-_, _≤_, _<_}
 use native.Mathlib.Nat.{eq-or-lt-of-le}
@@ -21,7 +22,9 @@ use Rattle.sheet.specs.Ends.{End, door, closed}
 use Rattle.statics.specs.Loads.{Rule}
 use Rattle.statics.specs.Forces as F
 use Rattle.statics.specs.Reported.{Reported, EndReported, EndFigured}
-use Rattle.answer.specs.Findings.{Kind, racking, compression, cornerTension, lockTension, lashTension, lashVertical, lashAthwart, kinds, Finding, endCode, kindCode, figuresOf, firstIndex, indexCount, sizeAt, limitAt, exactAt, findingsFrom, endFindings, findings, verdict}
+use Rattle.answer.specs.Findings.{Kind, racking, compression, cornerTension, lockTension, lashTension, lashVertical, lashAthwart}
+use Rattle.answer.specs.Findings.{kinds, Finding, endCode, kindCode, figuresOf, firstIndex, indexCount, sizeAt, limitAt, exactAt}
+use Rattle.answer.specs.Findings.{findingsFrom, endFindings, findings, verdict}
 use Rattle.answer.specs.Consequences.{CheckedAt, WithinLimits, Justified}
 
 -- what the report says of a checked force
@@ -68,7 +71,8 @@ module _ (g : Kind → List Finding) where
   unfolding flatMap
   none-of [] k m e = absurd (List·Memᴰ·not-nil m)
   none-of (j ∷ js) k m e =
-      ⊎-elim (λ q. ap g q ∙ nil-left (g j) (flatMap g js) e) (λ n. none-of js k n (nil-right (g j) (flatMap g js) e)) (List·Memᴰ·cases-cons m)
+      ⊎-elim (λ q. ap g q ∙ nil-left (g j) (flatMap g js) e) (λ n. none-of js k n (nil-right (g j) (flatMap g js) e))
+      (List·Memᴰ·cases-cons m)
 
   one-of : (ks : List Kind) (x : Finding) → List·Memᴰ x (flatMap g ks) → (k : Kind) × List·Memᴰ x (g k)
   unfolding flatMap
@@ -115,7 +119,12 @@ module _ (e : End) (t : Sheet) (f : EndFigures) (k : Kind) where
       never : here ∷ rest ≡ [] → ⊥
       never q = let z : _≡_ {A = ℕ} 0 1 = cc in omega arith
 
-      go : (b : Bool) → over i ≡ b → cond b (here ∷ rest) rest ≡ [] → (rest ≡ [] → (j : ℕ) → suc i ≤ j → j < suc i + n → sizeAt f k j ≤ limitAt e t k j) → sizeAt f k j ≤ limitAt e t k j
+      go :
+          (b : Bool) →
+          over i ≡ b →
+          cond b (here ∷ rest) rest ≡ [] →
+          (rest ≡ [] → (j : ℕ) → suc i ≤ j → j < suc i + n → sizeAt f k j ≤ limitAt e t k j) →
+          sizeAt f k j ≤ limitAt e t k j
       go true h p r = absurd (never p)
       go false h p r =
           ⊎-elim
@@ -155,7 +164,12 @@ module _ (e : End) (t : Sheet) (f : EndFigures) (k : Kind) where
             exceeds = subst (λ (m : ℕ). limitAt e t k m < sizeAt f k m) (sym at) h;
           }
 
-      go : (b : Bool) → over i ≡ b → List·Memᴰ x (cond b (here ∷ rest) rest) → (List·Memᴰ x rest → Stands e t f k (suc i) n x) → Stands e t f k i (suc n) x
+      go :
+          (b : Bool) →
+          over i ≡ b →
+          List·Memᴰ x (cond b (here ∷ rest) rest) →
+          (List·Memᴰ x rest → Stands e t f k (suc i) n x) →
+          Stands e t f k i (suc n) x
       go true h m r =
           ⊎-elim (first (ltb-true (limitAt e t k i) (sizeAt f k i) h)) (λ s. later (r s)) (List·Memᴰ·cases-cons m)
       go false h m r = later (r m)
@@ -180,7 +194,8 @@ module _ (t : Sheet) (f : Figures) where
   one-at : (x : Finding) → List·Memᴰ x (findings t f) → (e : End) × List·Memᴰ x (endFindings t f e)
   unfolding findings
   one-at x m =
-      ⊎-elim {C = (e : End) × List·Memᴰ x (endFindings t f e)} (λ n. (door, n)) (λ n. (closed, n)) (List·Memᴰ·append-cases (endFindings t f door) m)
+      ⊎-elim {C = (e : End) × List·Memᴰ x (endFindings t f e)} (λ n. (door, n)) (λ n. (closed, n))
+      (List·Memᴰ·append-cases (endFindings t f door) m)
 
   module _ {margin : ℕ} {rule : Rule} (figured : (e : End) → EndFigured margin rule e t (figuresOf e f)) where
     -- verdict 0: no checked limit is exceeded
@@ -192,7 +207,8 @@ module _ (t : Sheet) (f : Figures) where
               up-to
               (reported (figured e .reports Ds s) k i c)
               (none-from e t (figuresOf e f) k (firstIndex k) (indexCount e t k)
-              (none-of (λ k. findingsFrom e t (figuresOf e f) k (firstIndex k) (indexCount e t k)) kinds k (every k) (none-at (accepting v) e))
+              (none-of (λ k. findingsFrom e t (figuresOf e f) k (firstIndex k) (indexCount e t k)) kinds k (every k)
+              (none-at (accepting v) e))
               i
               (c .least)
               (c .most));

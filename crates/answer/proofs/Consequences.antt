@@ -21,8 +21,10 @@ use Rattle.statics.specs.Forces as F
 use Rattle.statics.specs.Reported.{Reported, Directed, reportedNumber, EndReported}
 use Rattle.statics.proofs.Arrays.{entry-at}
 use Rattle.answer.specs.declared.Outcome.{Outcome}
-use Rattle.answer.specs.Findings.{Kind, racking, compression, cornerTension, lockTension, lashTension, lashVertical, lashAthwart, kinds}
-use Rattle.answer.specs.Findings.{Finding, endCode, kindCode, figuresOf, firstIndex, indexCount, sizeAt, limitAt, findingsFrom, endFindings, findings, verdict}
+use Rattle.answer.specs.Findings.{Kind, racking, compression, cornerTension, lockTension, lashTension, lashVertical, lashAthwart}
+use Rattle.answer.specs.Findings.{kinds}
+use Rattle.answer.specs.Findings.{Finding, endCode, kindCode, figuresOf, firstIndex, indexCount, sizeAt, limitAt, findingsFrom}
+use Rattle.answer.specs.Findings.{endFindings, findings, verdict}
 use Rattle.answer.specs.Checked.{AnswerTo, Answered, AnsweredAs, Checked}
 use Rattle.answer.specs.Places.{EndReadBack, noFinding, ReadBack, forceIn, reportedIn, figuresIn}
 use Rattle.answer.specs.Consequences.{CheckedAt, Justified, AnswerSays}
@@ -31,7 +33,10 @@ use Rattle.answer.proofs.ReadBack as R
 
 -- findings depend on the sizes at the checked indexes alone
 module _ (t : Sheet) where
-  from-same : (e : End) (f g : EndFigures) (k : Kind) (i n : ℕ) → ((j : ℕ) → i ≤ j → j < i + n → sizeAt f k j ≡ sizeAt g k j) → findingsFrom e t f k i n ≡ findingsFrom e t g k i n
+  from-same :
+      (e : End) (f g : EndFigures) (k : Kind) (i n : ℕ) →
+      ((j : ℕ) → i ≤ j → j < i + n → sizeAt f k j ≡ sizeAt g k j) →
+      findingsFrom e t f k i n ≡ findingsFrom e t g k i n
   unfolding findingsFrom
   from-same e f g k i zero h = refl
   from-same e f g k i (suc n) h =
@@ -46,14 +51,19 @@ module _ (t : Sheet) where
   kinds-same f g [] h = refl
   kinds-same f g (k ∷ ks) h = ap₂ (λ (a b : List Finding). a ++ b) (h k) (kinds-same f g ks h)
 
-  findings-same : (f g : Figures) → ((e : End) (k : Kind) (i : ℕ) → CheckedAt e t k i → sizeAt (figuresOf e f) k i ≡ sizeAt (figuresOf e g) k i) → findings t f ≡ findings t g
+  findings-same :
+      (f g : Figures) →
+      ((e : End) (k : Kind) (i : ℕ) → CheckedAt e t k i → sizeAt (figuresOf e f) k i ≡ sizeAt (figuresOf e g) k i) →
+      findings t f ≡ findings t g
   unfolding findings
   findings-same f g h = ap₂ (λ (a b : List Finding). a ++ b) (end door) (end closed)
     where
       end : (e : End) → endFindings t f e ≡ endFindings t g e
       end e =
           kinds-same _ _ kinds
-          (λ k. from-same e (figuresOf e f) (figuresOf e g) k (firstIndex k) (indexCount e t k) (λ j l u. h e k j (record { least = l; most = u })))
+          (λ k.
+          from-same e (figuresOf e f) (figuresOf e g) k (firstIndex k) (indexCount e t k)
+          (λ j l u. h e k j (record { least = l; most = u })))
 
 -- a finding of the list, by its place in it
 member : (xs : List Finding) (k : ℕ) → k < length xs → List·Memᴰ (getD xs k noFinding) xs
@@ -82,7 +92,8 @@ module _ (t : Sheet) (f : Figures) (s : List ℕ) (b : ReadBack t f s) where
     back F.lashAthwart i h =
         ap pos (entry-at (λ i. natAbs (forceIn t e s F.lashAthwart i)) 0 (F.entryCount F.lashAthwart e t) i h ∙ size-back F.lashAthwart i h)
     back F.lashVertical i h =
-        ap pos (entry-at (λ i. natAbs (forceIn t e s F.lashVertical i)) 0 (F.entryCount F.lashVertical e t) i h ∙ size-back F.lashVertical i h)
+        ap pos
+        (entry-at (λ i. natAbs (forceIn t e s F.lashVertical i)) 0 (F.entryCount F.lashVertical e t) i h ∙ size-back F.lashVertical i h)
 
     pub reported-back :
         {margin : ℕ} {rule : Rule} (Ds : List Frac) →

@@ -9,7 +9,8 @@ use Rattle.sheet.specs.declared.Sheet.{Sheet}
 use Rattle.statics.specs.declared.EndFigures.{EndFigures}
 use Rattle.statics.specs.declared.Figures.{Figures}
 use Rattle.sheet.specs.Ends.{End, door, closed, lashesOf}
-use Rattle.answer.specs.Findings.{Kind, racking, compression, cornerTension, lockTension, lashTension, lashVertical, lashAthwart, Finding, endCode, kindCode, figuresOf, limitAt, sizeAt, findingsFrom, endFindings, findings}
+use Rattle.answer.specs.Findings.{Kind, racking, compression, cornerTension, lockTension, lashTension, lashVertical, lashAthwart}
+use Rattle.answer.specs.Findings.{Finding, endCode, kindCode, figuresOf, limitAt, sizeAt, findingsFrom, endFindings, findings}
 use Rattle.answer.specs.Answers.{answerBytes}
 use Rattle.answer.proofs.ReadBack.{end-length, bytes-length}
 
@@ -34,7 +35,16 @@ module _ (t : Sheet) (f : Figures) where
       let n = t .ntiers in
       let m = length (lashesOf e t) in
       simp length-append
-      (omega (arith, from-few e t g racking 1 n, from-few e t g compression 1 n, from-few e t g cornerTension 0 n, from-few e t g lockTension 0 n, from-few e t g lashTension 0 m, from-few e t g lashVertical 0 m, from-few e t g lashAthwart 0 m))
+      (omega (
+        arith,
+        from-few e t g racking 1 n,
+        from-few e t g compression 1 n,
+        from-few e t g cornerTension 0 n,
+        from-few e t g lockTension 0 n,
+        from-few e t g lashTension 0 m,
+        from-few e t g lashVertical 0 m,
+        from-few e t g lashAthwart 0 m,
+      ))
 
   module _ (few : t .ntiers ≤ 10) (lashes : (e : End) → length (lashesOf e t) ≤ 8) where
     pub findings-most : length (findings t f) ≤ 128
@@ -47,4 +57,12 @@ module _ (t : Sheet) (f : Figures) where
     unfolding answerBytes
     answer-most =
         simp length-append
-        (omega (arith, end-length t door (f .door), end-length t closed (f .closed), findings-most, bytes-length (findings t f), lashes door, lashes closed))
+        (omega (
+          arith,
+          end-length t door (f .door),
+          end-length t closed (f .closed),
+          findings-most,
+          bytes-length (findings t f),
+          lashes door,
+          lashes closed,
+        ))

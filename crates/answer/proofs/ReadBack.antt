@@ -15,11 +15,12 @@ use Rattle.statics.specs.declared.EndFigures.{EndFigures}
 use Rattle.statics.specs.declared.Figures.{Figures}
 use Rattle.sheet.specs.Ends.{End, door, closed, lashesOf}
 use Rattle.answer.specs.Findings.{Finding, figuresOf, findings, verdict}
-use Rattle.answer.specs.Answers.{counted, endBytes, findingBytes, answerBytes}
-use Rattle.arith.specs.Lists.{from, below}
+use Rattle.answer.specs.Answers.{endBytes, findingBytes, answerBytes}
+use Rattle.arith.specs.Lists.{counted, from, below}
 use Rattle.statics.specs.Forces as F
 use Rattle.statics.specs.Reported.{reportedNumber, reportedSize, Fitting}
-use Rattle.answer.specs.Places.{sectionSize, entryPlace, endSize, endPlace, findingsPlace, lashesPlace, sectionPlace, forceIn, findingIn, noFinding, EndReadBack, ReadBack}
+use Rattle.answer.specs.Places.{sectionSize, entryPlace, endSize, endPlace, findingsPlace, lashesPlace, sectionPlace, forceIn}
+use Rattle.answer.specs.Places.{findingIn, noFinding, EndReadBack, ReadBack}
 
 -- xs stands in l from `at` on
 record Stands (l : List ℕ) (at : ℕ) (xs : List ℕ) : Type 0 where
@@ -31,14 +32,20 @@ record Stands (l : List ℕ) (at : ℕ) (xs : List ℕ) : Type 0 where
 module _ {l : List ℕ} {at : ℕ} where
   first-part : (xs ys : List ℕ) → Stands l at (xs ++ ys) → Stands l at xs
   first-part xs ys s =
-      record { front = s .front; back = ys ++ s .back; split = s .split ∙ ap (λ (m : List ℕ). s .front ++ m) (append-assoc xs ys (s .back)); place = s .place }
+      record {
+        front = s .front;
+        back = ys ++ s .back;
+        split = s .split ∙ ap (λ (m : List ℕ). s .front ++ m) (append-assoc xs ys (s .back));
+        place = s .place;
+      }
 
   second-part : (xs ys : List ℕ) → Stands l at (xs ++ ys) → Stands l (at + length xs) ys
   second-part xs ys s =
       record {
         front = s .front ++ xs;
         back = s .back;
-        split = s .split ∙ ap (λ (m : List ℕ). s .front ++ m) (append-assoc xs ys (s .back)) ∙ sym (append-assoc (s .front) xs (ys ++ s .back));
+        split =
+            s .split ∙ ap (λ (m : List ℕ). s .front ++ m) (append-assoc xs ys (s .back)) ∙ sym (append-assoc (s .front) xs (ys ++ s .back));
         place = length-append (s .front) xs ∙ ap (λ (n : ℕ). n + length xs) (s .place);
       }
 
@@ -152,7 +159,8 @@ module _ (t : Sheet) (e : End) (f : EndFigures) where
 
     rackings-there : Stands l at (counted n racked)
     unfolding endBytes
-    rackings-there = first-part (counted n racked) (counted (suc n) pressed) (first-part two (counted n drawn) (first-part three (counted m lashed) s))
+    rackings-there =
+        first-part (counted n racked) (counted (suc n) pressed) (first-part two (counted n drawn) (first-part three (counted m lashed) s))
 
     compressions-there : Stands l (sectionPlace t e F.compression) (counted (suc n) pressed)
     unfolding endBytes
@@ -194,9 +202,11 @@ module _ (t : Sheet) (e : End) (f : EndFigures) where
     forces : (x : F.Force) (i : ℕ) → i < F.entryCount x e t → forceIn t e l x i ≡ reportedNumber x f i
     forces F.racking i h =
         rw (add-zero (entryPlace at 4 i))
-        (signed (getD (f .racking) i (pos 0)) (fits-signed _ (fits .small F.racking i)) (the-entry racked 4 (λ i. refl) at n rackings-there i h))
+        (signed (getD (f .racking) i (pos 0)) (fits-signed _ (fits .small F.racking i))
+        (the-entry racked 4 (λ i. refl) at n rackings-there i h))
     forces F.compression i h =
-        plain F.compression i _ refl (first-at (pressed i) (the-entry pressed 4 (λ i. refl) (sectionPlace t e F.compression) (suc n) compressions-there i h))
+        plain F.compression i _ refl
+        (first-at (pressed i) (the-entry pressed 4 (λ i. refl) (sectionPlace t e F.compression) (suc n) compressions-there i h))
     forces F.tension i h =
         plain F.tension i _ refl (first-at (drawn i) (the-entry drawn 4 (λ i. refl) (sectionPlace t e F.tension) n tensions-there i h))
     forces F.lashTension j h =
@@ -219,7 +229,11 @@ bytes-length (x ∷ xs) = omega (arith, bytes-length xs)
 abbrev findingFrom : List ℕ → ℕ → Finding
 findingFrom l p = record { end = byteAt l p; kind = byteAt l (p + 1); index = byteAt l (p + 2) }
 
-one-finding : {l : List ℕ} (at k : ℕ) (xs : List Finding) → k < length xs → Stands l at (flatMap findingBytes xs) → findingFrom l (at + 3 * k) ≡ getD xs k noFinding
+one-finding :
+    {l : List ℕ} (at k : ℕ) (xs : List Finding) →
+    k < length xs →
+    Stands l at (flatMap findingBytes xs) →
+    findingFrom l (at + 3 * k) ≡ getD xs k noFinding
 unfolding flatMap
 one-finding at k [] h s = absurd (none h)
   where
@@ -272,7 +286,10 @@ module _ (t : Sheet) (f : Figures) (fits : (e : End) → Fitting (figuresOf e f)
 
   findings-there : Stands s (findingsPlace t) tail
   findings-there =
-      let p : 0 + length both ≡ findingsPlace t = zero-add _ ∙ length-append (mark ++ endBytes t door (f .door)) (endBytes t closed (f .closed)) ∙ ap₂ (λ (j k : ℕ). j + k) front-length (end-length t closed (f .closed)) in
+      let p : 0 + length both ≡ findingsPlace t =
+      zero-add _
+      ∙ length-append (mark ++ endBytes t door (f .door)) (endBytes t closed (f .closed))
+      ∙ ap₂ (λ (j k : ℕ). j + k) front-length (end-length t closed (f .closed)) in
       rw p at (second-part both tail all-there)
 
   an-end : (e : End) → EndReadBack t e (figuresOf e f) s
@@ -287,5 +304,7 @@ module _ (t : Sheet) (f : Figures) (fits : (e : End) → Fitting (figuresOf e f)
         ends = an-end;
         count = first-byte (length (findings t f)) (flatMap findingBytes (findings t f)) findings-there;
         finding =
-            λ k h. one-finding (findingsPlace t + 1) k (findings t f) h (behind (length (findings t f)) (flatMap findingBytes (findings t f)) findings-there);
+            λ k h.
+            one-finding (findingsPlace t + 1) k (findings t f) h
+            (behind (length (findings t f)) (flatMap findingBytes (findings t f)) findings-there);
       }

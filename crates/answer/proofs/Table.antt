@@ -103,7 +103,12 @@ module _ (t : Sheet) (stiff : S.Stiff (doorTiers t) (doorLashes t)) where
   every-shift : (i : ℕ) (x : Frac) → shift (solved t) i ≈ x → (Ds : List Frac) → EndSolved (classRule t) door t Ds → shift Ds i ≈ x
   every-shift i x e Ds s = ≈-trans (shift Ds i) (shift (solved t) i) x (agree Ds (solved t) s there .same i) e
 
-  every-racking : (i : ℕ) (x : Frac) → S.racking (doorTiers t) (solved t) i ⊏ x → (Ds : List Frac) → EndSolved (classRule t) door t Ds → S.racking (doorTiers t) Ds i ⊏ x
+  every-racking :
+      (i : ℕ) (x : Frac) →
+      S.racking (doorTiers t) (solved t) i ⊏ x →
+      (Ds : List Frac) →
+      EndSolved (classRule t) door t Ds →
+      S.racking (doorTiers t) Ds i ⊏ x
   every-racking i x e Ds s =
       ⊑-⊏-trans (S.racking (doorTiers t) Ds i) (S.racking (doorTiers t) (solved t) i) x
       (≈⊑ (S.racking (doorTiers t) Ds i) (S.racking (doorTiers t) (solved t) i) (same-racking (doorTiers t) Ds (solved t) (agree Ds (solved t) s there) i)) e

@@ -33,7 +33,10 @@ module _ {m n : ℕ} (wider : m ≤ n) where
   pub checked-wider : {s before after : List ℕ} {r : Outcome} → Checked m s before after r → Checked n s before after r
   checked-wider {s} {before} {after} {r} c = record { holds = go (refusal s (length before)) (c .holds) }
     where
-      go : (q : Reading) → AnsweredAs q m (classRule (sheetOf s)) (sheetOf s) before after r → AnsweredAs q n (classRule (sheetOf s)) (sheetOf s) before after r
+      go :
+          (q : Reading) →
+          AnsweredAs q m (classRule (sheetOf s)) (sheetOf s) before after r →
+          AnsweredAs q n (classRule (sheetOf s)) (sheetOf s) before after r
       go (Refused c p) h = h
       go Taken h = record { bytes = h .bytes; answer = answer-wider (h .answer); taken = h .taken; written = h .written }
 

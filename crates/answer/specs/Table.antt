@@ -29,7 +29,18 @@ boxB = boxOf 20000
 -- Its material and breaking load do not enter these figures
 abbrev pub rodOf : ℕ → ℕ → Lash
 rodOf lx tier =
-    record { tier = tier; hook = 0; kind = 0; material = 0; lx = lx; ly = 1950; lz = 2600; area = 500; modulus = 130000; breakingLoad = 490000 }
+    record {
+      tier = tier;
+      hook = 0;
+      kind = 0;
+      material = 0;
+      lx = lx;
+      ly = 1950;
+      lz = 2600;
+      area = 500;
+      modulus = 130000;
+      breakingLoad = 490000;
+    }
 
 abbrev pub rodS : ℕ → Lash
 rodS tier = rodOf 0 tier

@@ -15,7 +15,9 @@ use Rattle.statics.specs.declared.EndFigures.{EndFigures}
 use Rattle.statics.specs.declared.Figures.{Figures}
 use Rattle.sheet.specs.Ends.{End, door, closed, lashesOf}
 use Rattle.answer.specs.Limits.{safeLoad}
-use Rattle.answer.specs.Findings.{Finding, Kind, racking, compression, cornerTension, lockTension, lashTension, lashVertical, lashAthwart, endCode, kindCode, figuresOf, firstIndex, indexCount, sizeAt, limitAt, findingsFrom, endFindings, findings}
+use Rattle.answer.specs.Findings.{Finding, Kind, racking, compression, cornerTension, lockTension, lashTension, lashVertical, lashAthwart}
+use Rattle.answer.specs.Findings.{endCode, kindCode, figuresOf, firstIndex, indexCount, sizeAt, limitAt, findingsFrom, endFindings}
+use Rattle.answer.specs.Findings.{findings}
 use Rattle.answer.specs.Answers.{findingBytes}
 use Rattle.arith.specs.Lists.{from, padded}
 use Rattle.answer_findings.specs.declared.Found.{Found}
@@ -36,7 +38,10 @@ entries-from g a i (suc n) =
     let e : suc (a + i) ≡ a + suc i = omega arith in
     rw e (ap (λ (l : List ℕ). g (a + i) ++ l) (entries-from g a (suc i) n))
 
-over-same : (end kind first n : ℕ) (size a b : ℕ → ℕ) → ((i : ℕ) → i < first + n → a i ≡ b i) → findingsOver end kind first size a n ≡ findingsOver end kind first size b n
+over-same :
+    (end kind first n : ℕ) (size a b : ℕ → ℕ) →
+    ((i : ℕ) → i < first + n → a i ≡ b i) →
+    findingsOver end kind first size a n ≡ findingsOver end kind first size b n
 unfolding findingsOver
 over-same end kind first n size a b h =
     entries-same _ _ 0 n (λ k _ u. ap (λ (x : ℕ). findingWhere end kind (first + k) (size (first + k)) x) (h (first + k) (omega arith)))
@@ -47,7 +52,9 @@ unfolding flatMap
 bytes-append [] ys = refl
 bytes-append (x ∷ xs) ys = ap (λ (l : List ℕ). findingBytes x ++ l) (bytes-append xs ys)
 
-where-found : (b : Bool) (x : Finding) (xs : List Finding) → flatMap findingBytes (cond b (x ∷ xs) xs) ≡ cond b (findingBytes x) [] ++ flatMap findingBytes xs
+where-found :
+    (b : Bool) (x : Finding) (xs : List Finding) →
+    flatMap findingBytes (cond b (x ∷ xs) xs) ≡ cond b (findingBytes x) [] ++ flatMap findingBytes xs
 unfolding flatMap
 where-found true x xs = refl
 where-found false x xs = refl
@@ -72,10 +79,16 @@ module _ (e : End) (t : Sheet) (f : EndFigures) (k : Kind) where
   unfolding findingsFrom flatMap from findingWhere
   from-bytes i zero = refl
   from-bytes i (suc n) =
-      where-found (ltb (limitAt e t k i) (sizeAt f k i)) (record { end = endCode e; kind = kindCode k; index = i }) (findingsFrom e t f k (suc i) n)
+      where-found (ltb (limitAt e t k i) (sizeAt f k i)) (record { end = endCode e; kind = kindCode k; index = i })
+      (findingsFrom e t f k (suc i) n)
       ∙ ap (λ (l : List ℕ). entry i ++ l) (from-bytes (suc i) n)
 
-  kind-bytes : (n : ℕ) (limit : ℕ → ℕ) → indexCount e t k ≡ n → ((i : ℕ) → i < firstIndex k + n → limitAt e t k i ≡ limit i) → flatMap findingBytes (findingsFrom e t f k (firstIndex k) (indexCount e t k)) ≡ findingsOver (endCode e) (kindCode k) (firstIndex k) (sizeAt f k) limit n
+  kind-bytes :
+      (n : ℕ) (limit : ℕ → ℕ) →
+      indexCount e t k ≡ n →
+      ((i : ℕ) → i < firstIndex k + n → limitAt e t k i ≡ limit i) →
+      flatMap findingBytes (findingsFrom e t f k (firstIndex k) (indexCount e t k)) ≡
+      findingsOver (endCode e) (kindCode k) (firstIndex k) (sizeAt f k) limit n
   unfolding findingsOver
   kind-bytes n limit c h =
       let z : firstIndex k + 0 ≡ firstIndex k = add-zero (firstIndex k) in
@@ -85,7 +98,8 @@ module _ (e : End) (t : Sheet) (f : EndFigures) (k : Kind) where
       ∙ over-same (endCode e) (kindCode k) (firstIndex k) n (sizeAt f k) (limitAt e t k) limit h)
 
 -- an end: kinds 1 to 7
-module _ (t : Sheet) (f : Figures) (e : End) (ls : List Lash) (m : ℕ) (few : length (lashesOf e t) ≡ m) (each : (j : ℕ) → j < m → getD (lashesOf e t) j blankLash ≡ getD ls j blankLash) where
+module _ (t : Sheet) (f : Figures) (e : End) (ls : List Lash) (m : ℕ) (few : length (lashesOf e t) ≡ m)
+(each : (j : ℕ) → j < m → getD (lashesOf e t) j blankLash ≡ getD ls j blankLash) where
   pub end-bytes : tierFindings (endCode e) (t .ntiers) (safeLoad (t .head .lockMaterial) (t .head .lockBreakingLoad)) (figuresOf e f) ++ lashFindings (endCode e) ls m (figuresOf e f) ≡ flatMap findingBytes (endFindings t f e)
   unfolding tierFindings lashFindings flatMap
   end-bytes =
@@ -95,13 +109,16 @@ module _ (t : Sheet) (f : Figures) (e : End) (ls : List Lash) (m : ℕ) (few : l
       let c = kind-bytes e t g compression n _ refl (λ i h. refl) in
       let s = kind-bytes e t g cornerTension n _ refl (λ i h. refl) in
       let u = kind-bytes e t g lockTension n _ refl (λ i h. refl) in
-      let p = kind-bytes e t g lashTension m (lashLimit ls) few (λ i h. ap (λ (l : Lash). safeLoad (l .material) (l .breakingLoad)) (each i (omega arith))) in
+      let p =
+      kind-bytes e t g lashTension m (lashLimit ls) few
+      (λ i h. ap (λ (l : Lash). safeLoad (l .material) (l .breakingLoad)) (each i (omega arith))) in
       let v = kind-bytes e t g lashVertical m _ few (λ i h. refl) in
       let a = kind-bytes e t g lashAthwart m _ few (λ i h. refl) in
       simp (bytes-append, append-nil, append-assoc, tierFindings, lashFindings, r, c, s, u, p, v, a)
 
 -- both ends
-module _ (t : Sheet) (f : Figures) (s : Sized t) (lock : ℕ) (safe : lock ≡ safeLoad (t .head .lockMaterial) (t .head .lockBreakingLoad)) where
+module _ (t : Sheet) (f : Figures) (s : Sized t) (lock : ℕ)
+(safe : lock ≡ safeLoad (t .head .lockMaterial) (t .head .lockBreakingLoad)) where
   abbrev both : List ℕ
   both =
       (tierFindings 0 (t .ntiers) lock (f .door) ++ lashFindings 0 (t .door) (t .ndoor) (f .door))

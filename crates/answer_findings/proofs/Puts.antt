@@ -80,7 +80,11 @@ module _ (end kind first : ℕ) (size limit : ℕ → ℕ) where
   over-none l at = none l at
 
   module _ {l m : List ℕ} {at p : ℕ} (k : ℕ) (w : Put l at (findingsOver end kind first size limit k) m p) where
-    pub over-more : {n : List ℕ} {q index : ℕ} → index ≡ first + k → Put m p (cond (ltb (limit index) (size index)) (end ∷ kind ∷ index ∷ []) []) n q → Put l at (findingsOver end kind first size limit (k + 1)) n q
+    pub over-more :
+        {n : List ℕ} {q index : ℕ} →
+        index ≡ first + k →
+        Put m p (cond (ltb (limit index) (size index)) (end ∷ kind ∷ index ∷ []) []) n q →
+        Put l at (findingsOver end kind first size limit (k + 1)) n q
     unfolding findingsOver findingWhere
     over-more e v = rw (one-more (λ j. findingWhere end kind (first + j) (size (first + j)) (limit (first + j))) k) (then w (rw e at v))
 

@@ -189,7 +189,8 @@ post-le {ls = ls} d g small post kept i =
 
 module _ {m : ℕ} {ls : List Lash} {d : List ℕ} (g : Listed m ls) (small : (i : ℕ) → getD d i 0 ≤ 2 ^ 40) where
   module _ {tension athwart vertical lee windward : List ℕ} {j : ℕ}
-      (s : FiguredTo m ls d tension athwart vertical lee windward j) (h : j < m) {l : Lash} (own : getD ls j blankLash ≡ l) {at x : ℕ} (ea : at ≡ levelOf l)
+      (s : FiguredTo m ls d tension athwart vertical lee windward j) (h : j < m) {l : Lash} (own : getD ls j blankLash ≡ l) {at x : ℕ}
+      (ea : at ≡ levelOf l)
       (ex : x ≡ stiffnessOf l * getD d at 0 / 2 ^ 32) where
     abbrev up : ℕ
     up = verticalFrom x (carriedLash (lashingOf l))

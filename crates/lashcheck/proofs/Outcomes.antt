@@ -22,9 +22,16 @@ module _ {margin : ℕ} {s before after : List ℕ} {o : Outcome} (room : length
   pub answer-fits : {n : ℕ} → o ≡ Taken n → n ≤ 834
   answer-fits is = subst Numbers is (numbers c) .next
 
-  by-refusal : {bytes : List ℕ} → ((q : Reading) → AnsweredAs q margin (classRule (sheetOf s)) (sheetOf s) before after o → ReplyAs q margin (sheetOf s) bytes) → Reply margin s bytes
+  by-refusal :
+      {bytes : List ℕ} →
+      ((q : Reading) → AnsweredAs q margin (classRule (sheetOf s)) (sheetOf s) before after o → ReplyAs q margin (sheetOf s) bytes) →
+      Reply margin s bytes
   by-refusal f =
-      record { holds = f (refusal s 834) (subst (λ (n : ℕ). AnsweredAs (refusal s n) margin (classRule (sheetOf s)) (sheetOf s) before after o) room (c .holds)) }
+      record {
+        holds =
+            f (refusal s 834)
+            (subst (λ (n : ℕ). AnsweredAs (refusal s n) margin (classRule (sheetOf s)) (sheetOf s) before after o) room (c .holds));
+      }
 
   pub reply-taken : {n : ℕ} → o ≡ Taken n → Reply margin s (take n after)
   reply-taken {n} is = by-refusal go
@@ -32,7 +39,10 @@ module _ {margin : ℕ} {s before after : List ℕ} {o : Outcome} (room : length
       other : {p q : ℕ} → Taken n ≡ Refused p q → ⊥
       other e = let z : _≡_ {A = ℕ} 0 1 = cc in omega arith
 
-      go : (q : Reading) → AnsweredAs q margin (classRule (sheetOf s)) (sheetOf s) before after o → ReplyAs q margin (sheetOf s) (take n after)
+      go :
+          (q : Reading) →
+          AnsweredAs q margin (classRule (sheetOf s)) (sheetOf s) before after o →
+          ReplyAs q margin (sheetOf s) (take n after)
       go (R.Refused number second) h = absurd (other (sym is ∙ h .refused))
       go R.Taken h =
           let size : n ≡ length (h .bytes) = ap second (sym is ∙ h .taken) in

@@ -57,9 +57,10 @@ module _ (c : LoadRule) (t : Sheet) (before : List ℕ) where
       ByName after (O.Taken n)
   unfolding first
   answered {f} h e size stored =
-      simp (le-ltb (length before) 834 h)
-      (ap O.Taken (size ∙ ap (λ (g : Figures). length (answerBytes t g)) e),
-      stored ∙ ap (λ (g : Figures). answerBytes t g ++ drop (length (answerBytes t g)) before) e)
+      simp (le-ltb (length before) 834 h) (
+        ap O.Taken (size ∙ ap (λ (g : Figures). length (answerBytes t g)) e),
+        stored ∙ ap (λ (g : Figures). answerBytes t g ++ drop (length (answerBytes t g)) before) e,
+      )
 
   pub by-rule : {after : List ℕ} {r : Outcome} → Fits t → ByName after r → AnsweredBy kept c t before after r
   by-rule f (e, g) = record { holds = λ rule stands. rw (e, g) (answer-by-named stands f before) }

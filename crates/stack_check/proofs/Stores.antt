@@ -7,8 +7,7 @@ use native.Mathlib.Numerals.{add-one}
 use native.Mathlib.Omega.{arith}
 use lib.ListN.{length, getD, set, take, drop, length-append}
 use lib.Seq.{sets, sets-eq, take-suc, length-sets}
-use Rattle.answer.specs.Answers.{counted}
-use Rattle.arith.specs.Lists.{from, below}
+use Rattle.arith.specs.Lists.{counted, from, below}
 use Rattle.answer_findings.proofs.Entries.{one-more}
 use Rattle.stack_check.specs.inner.Encoding.{Wrote}
 

@@ -3,11 +3,11 @@ use Prim.Native.Nat.{ℕ, zero, suc, zero-le, _+_, _-_, _<_, _≤_}
 use mathlib.Core.Path.{_≡_, refl, sym, ap, subst, _∙_}
 use mathlib.Core.List.{List, [], _∷_, _++_, map}
 use native.Mathlib.Decide.{ℕ-discrete, decLt}
-use native.Mathlib.Nat.{add-zero, add-suc, suc-add, zero-add}
+use native.Mathlib.Nat.{zero-add}
 use native.Mathlib.Omega.{arith}
 use lib.ListN.{length, getD, set, take, drop, replicate, length-set, length-replicate, length-append}
 use lib.Seq.{ext-getD, getD-append-add, drop-cons, drop-length, getD-set-same, getD-set-other, getD-take, length-take-le}
-use Rattle.arith.specs.Lists.{from, below, padded}
+use Rattle.arith.specs.Lists.{below, padded}
 use Rattle.arith.proofs.Arrays as Entries
 use Rattle.statics.specs.inner.WholeNumbers.{Filled}
 
@@ -88,18 +88,12 @@ module _ {A : Type 0} where
 
 -- an array made by name: an entry, an entry behind the count, and an array that a loop has filled so
 module _ {A : Type 0} (f : ℕ → A) (b : A) where
-  from-at : (i n k : ℕ) → k < n → getD (map f (from i n)) k b ≡ f (i + k)
-  unfolding from
-  from-at i zero k h = absurd (omega (arith, h))
-  from-at i (suc n) zero h = ap f (sym (add-zero i))
-  from-at i (suc n) (suc k) h = from-at (suc i) n k (omega (arith, h)) ∙ ap f (suc-add i k ∙ sym (add-suc i k))
-
   pub entry-at : (n k : ℕ) → k < n → getD (map f (below n)) k b ≡ f k
-  entry-at n k h = from-at 0 n k h ∙ ap f (zero-add k)
+  entry-at n k h = Entries.entry f b 0 n k h ∙ ap f (zero-add k)
 
   module _ (size n : ℕ) where
     pub padded-at : (k : ℕ) → k < n → getD (padded size b (map f (below n))) k b ≡ f k
-    padded-at k h = Entries.held f b n size k h
+    padded-at k h = Entries.entry-at f b n size k h
 
     pub padded-behind : (k : ℕ) → n ≤ k → getD (padded size b (map f (below n))) k b ≡ b
     padded-behind k h =

@@ -38,7 +38,8 @@ returns c =
     let s = k .before .before in
     let both = then (p .put-end .ensures .0) (q .put-end2 .ensures .0) in
     let l : q .put-end2 .result ≤ 384 = omega arith in (
-      found-is (s .args .t) (s .args .f) (s .pre) (k .safe-load .result) (k .safe-load .ensures) both l refl refl (w .put-where .ensures .1),
+      found-is (s .args .t) (s .args .f) (s .pre) (k .safe-load .result) (k .safe-load .ensures) both l refl refl
+          (w .put-where .ensures .1),
       omega arith,
     )
 

@@ -70,7 +70,8 @@ returns c =
     let a2 = a3 .before .before .before .before .before .before .before in
     let a1 = a2 .before .before .before .before .before .before .before in
     let s = a1 .before .before .before .before .before .before in
-    let tiers = then (then (then (a1 .put-rackings .ensures .0) (a2 .put-over .ensures .0)) (a3 .put-over2 .ensures .0)) (a4 .put-over3 .ensures .0) in
+    let tiers =
+    then (then (then (a1 .put-rackings .ensures .0) (a2 .put-over .ensures .0)) (a3 .put-over2 .ensures .0)) (a4 .put-over3 .ensures .0) in
     let lashes = then (then (a5 .put-pulls .ensures .0) (a6 .put-over4 .ensures .0)) (a7 .put-over5 .ensures .0) in
     (then tiers lashes, omega arith)
 

@@ -10,7 +10,8 @@ use Rattle.answer_findings.proofs.put_over.Statement.{statement}
 use Rattle.answer_findings.proofs.put_over.Tie as tie
 
 abbrev Inv-loop : tie.InvT-loop
-Inv-loop found₀ at end kind first xs limit n next₀ k₀ found next k = (k ≤ n) × (next ≤ at + 3 * k) × Put found₀ at (findingsOver end kind first (λ i. getD xs i 0) (λ i. limit) k) found next
+Inv-loop found₀ at end kind first xs limit n next₀ k₀ found next k =
+    (k ≤ n) × (next ≤ at + 3 * k) × Put found₀ at (findingsOver end kind first (λ i. getD xs i 0) (λ i. limit) k) found next
 
 abbrev μ-loop : tie.MeasureT-loop
 μ-loop found₀ at end kind first xs limit n next₀ k₀ found next k = n - k

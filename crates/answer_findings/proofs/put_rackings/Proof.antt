@@ -15,7 +15,9 @@ use Rattle.answer_findings.proofs.put_rackings.Statement.{statement}
 use Rattle.answer_findings.proofs.put_rackings.Tie as tie
 
 abbrev Inv-loop : tie.InvT-loop
-Inv-loop found₀ at end xs n next₀ k₀ found next k = (k ≤ n) × (next ≤ at + 3 * k) × Put found₀ at (findingsOver end 1 1 (λ i. natAbs (getD xs (i - 1) (pos 0))) (λ i. rackingLimit) k) found next
+Inv-loop found₀ at end xs n next₀ k₀ found next k =
+    (k ≤ n) × (next ≤ at + 3 * k) × Put found₀ at
+    (findingsOver end 1 1 (λ i. natAbs (getD xs (i - 1) (pos 0))) (λ i. rackingLimit) k) found next
 
 abbrev μ-loop : tie.MeasureT-loop
 μ-loop found₀ at end xs n next₀ k₀ found next k = n - k

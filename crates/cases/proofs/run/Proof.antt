@@ -28,7 +28,9 @@ slice-aggregate-buffer c = search needs
 slice-aggregate-answer : tie.Need-slice-aggregate-answer
 slice-aggregate-answer c =
     let f = c .before .before in
-    sym (length-take-le (f .before .before .before .before .args .case .room) (f .filled .result) (omega (arith, marked-length (f .filled .ensures))))
+    sym
+    (length-take-le (f .before .before .before .before .args .case .room) (f .filled .result)
+    (omega (arith, marked-length (f .filled .ensures))))
 
 sub-check : tie.Need-sub-check
 sub-check c = search needs

@@ -7,7 +7,7 @@ use lib.ListN.{getD, length}
 use lib.Seq.{sets}
 use Rattle.arith.specs.Bytes.{bytes4, twos}
 use Rattle.statics.specs.declared.EndFigures.{EndFigures}
-use Rattle.answer.specs.Answers.{counted}
+use Rattle.arith.specs.Lists.{counted}
 
 -- `bytes` stored in a buffer from `at` on, and the place behind them
 pub record Wrote (before : List ℕ) (at : ℕ) (bytes after : List ℕ) (next : ℕ) : Type 0 where

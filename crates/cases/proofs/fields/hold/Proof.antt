@@ -32,7 +32,9 @@ returns c =
     let w = c .before in
     let l = w .before .before in
     let a = l .before .before .before .args in
-    let e = held-not (a .input .now) (a .buffer .now) (a .n) (a .to) (l .loop .at) (l .loop .place) (omega arith) (w .within .ensures .0) (c .if1 .taken) in
+    let e =
+    held-not (a .input .now) (a .buffer .now) (a .n) (a .to) (l .loop .at) (l .loop .place) (omega arith) (w .within .ensures .0)
+    (c .if1 .taken) in
     sym e ∙ l .loop .inv .2
 
 add-place : tie.Need-add-place Inv-loop μ-loop
@@ -49,20 +51,24 @@ loop-again c =
     let w = c .before in
     let l = w .before .before in
     let a = l .before .before .before .args in
-    let e = held-more (a .input .now) (a .buffer .now) (a .n) (a .to) (l .loop .at) (l .loop .place) (omega arith) (w .within .ensures .0) (c .if1 .left) in
+    let e =
+    held-more (a .input .now) (a .buffer .now) (a .n) (a .to) (l .loop .at) (l .loop .place) (omega arith) (w .within .ensures .0)
+    (c .if1 .left) in
     (omega arith, omega arith, sym e ∙ l .loop .inv .2)
 
 returns-2 : tie.Need-returns-2 Inv-loop μ-loop
 returns-2 c =
     let l = c .before .before in
     let a = l .before .before .before .args in
-    sym (held-other (a .input .now) (a .buffer .now) (a .n) (a .to) (l .loop .at) (l .loop .place) (omega arith) (c .if2 .taken)) ∙ l .loop .inv .2
+    sym (held-other (a .input .now) (a .buffer .now) (a .n) (a .to) (l .loop .at) (l .loop .place) (omega arith) (c .if2 .taken))
+    ∙ l .loop .inv .2
 
 returns-3 : tie.Need-returns-3 Inv-loop μ-loop
 returns-3 c =
     let l = c .before .before in
     let a = l .before .before .before .args in
-    sym (held-all (a .input .now) (a .buffer .now) (a .n) (a .to) (l .loop .at) (l .loop .place) (omega arith) (c .if2 .left)) ∙ l .loop .inv .2
+    sym (held-all (a .input .now) (a .buffer .now) (a .n) (a .to) (l .loop .at) (l .loop .place) (omega arith) (c .if2 .left))
+    ∙ l .loop .inv .2
 
 pub hold-spec : {M : Type 1} → statement M
 hold-spec =

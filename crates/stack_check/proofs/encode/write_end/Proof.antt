@@ -34,8 +34,16 @@ write-lashes-requires c κs =
     let q = s .pre in
     let pulls = c .before .before .before .before .write-lashes-arg3 .given .0 in
     let athwarts = c .before .before .write-lashes-arg5 .given .0 in
-    let verticals = c .write-lashes-arg7 .given .0 in
-    (q .1, omega arith, omega arith, omega arith, omega arith, fits-four (q .3) F.lashTension, fits-four (q .3) F.lashAthwart, fits-four (q .3) F.lashVertical)
+    let verticals = c .write-lashes-arg7 .given .0 in (
+      q .1,
+      omega arith,
+      omega arith,
+      omega arith,
+      omega arith,
+      fits-four (q .3) F.lashTension,
+      fits-four (q .3) F.lashAthwart,
+      fits-four (q .3) F.lashVertical,
+    )
 
 same-length : tie.Need-same-length
 same-length c = search needs
@@ -46,8 +54,11 @@ returns c =
     let l = c .before .before in
     let t = l .before .before .before .before .before .before .before .before .before .before .before in
     let p = t .before .before .before .before .before .before .before in
-    let r = p .before .before .before .before .before .before .before in
-    (then (then (then (r .write-rackings .ensures .0) (p .write-figures .ensures .0)) (t .write-figures2 .ensures .0)) (l .write-lashes .ensures .0), omega arith)
+    let r = p .before .before .before .before .before .before .before in (
+      then (then (then (r .write-rackings .ensures .0) (p .write-figures .ensures .0)) (t .write-figures2 .ensures .0))
+          (l .write-lashes .ensures .0),
+      omega arith,
+    )
 
 pub write-end-spec : {M : Type 1} → statement M
 write-end-spec =

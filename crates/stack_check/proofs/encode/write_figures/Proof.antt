@@ -13,7 +13,8 @@ use Rattle.stack_check.proofs.encode.write_figures.Statement.{statement
 use Rattle.stack_check.proofs.encode.write_figures.Tie as tie
 
 abbrev Inv-loop : tie.InvT-loop
-Inv-loop answer₀ at xs n next₀ i₀ answer next i = (i ≤ n) × (next ≡ next₀ + 4 * i) × Wrote answer₀ next₀ (flatMap (λ k. bytes4 (getD xs k 0)) (below i)) answer next
+Inv-loop answer₀ at xs n next₀ i₀ answer next i =
+    (i ≤ n) × (next ≡ next₀ + 4 * i) × Wrote answer₀ next₀ (flatMap (λ k. bytes4 (getD xs k 0)) (below i)) answer next
 
 abbrev μ-loop : tie.MeasureT-loop
 μ-loop answer₀ at xs n next₀ i₀ answer next i = n - i
@@ -34,7 +35,10 @@ shared-slice-read-write4 : tie.Need-shared-slice-read-write4 Inv-loop μ-loop
 shared-slice-read-write4 c = search needs
 
 write4-requires : tie.Need-write4-requires Inv-loop μ-loop
-write4-requires c κs = (omega arith, c .before .before .before .before .before .before .before .before .before .before .pre .3 (c .before .before .before .loop .i))
+write4-requires c κs = (
+  omega arith,
+  c .before .before .before .before .before .before .before .before .before .before .pre .3 (c .before .before .before .loop .i),
+)
 
 add-next-2 : tie.Need-add-next-2 Inv-loop μ-loop
 add-next-2 c = search needs
@@ -56,8 +60,11 @@ same-length c = search needs
 returns : tie.Need-returns Inv-loop μ-loop
 returns c =
     let l = c .before in
-    let w = l .before .before .before in
-    (counted-all _ (l .loop .i) (l .before .before .before .before .before .before .before .args .n) (w .write1 .ensures) (l .loop .inv .2) (omega arith) (omega arith), omega arith)
+    let w = l .before .before .before in (
+      counted-all _ (l .loop .i) (l .before .before .before .before .before .before .before .args .n) (w .write1 .ensures)
+          (l .loop .inv .2) (omega arith) (omega arith),
+      omega arith,
+    )
 
 pub write-figures-spec : {M : Type 1} → statement M
 write-figures-spec =

@@ -12,7 +12,9 @@ use Rattle.stack_check.proofs.encode.write_lashes.Statement.{statement}
 use Rattle.stack_check.proofs.encode.write_lashes.Tie as tie
 
 abbrev Inv-loop : tie.InvT-loop
-Inv-loop answer₀ at pull athwart vertical m next₀ j₀ answer next j = (j ≤ m) × (next ≡ next₀ + 12 * j) × Wrote answer₀ next₀ (flatMap (λ k. lashBytes (getD pull k 0) (getD athwart k 0) (getD vertical k 0)) (below j)) answer next
+Inv-loop answer₀ at pull athwart vertical m next₀ j₀ answer next j =
+    (j ≤ m) × (next ≡ next₀ + 12 * j) × Wrote answer₀ next₀
+    (flatMap (λ k. lashBytes (getD pull k 0) (getD athwart k 0) (getD vertical k 0)) (below j)) answer next
 
 abbrev μ-loop : tie.MeasureT-loop
 μ-loop answer₀ at pull athwart vertical m next₀ j₀ answer next j = m - j
@@ -67,8 +69,11 @@ same-length c = search needs
 returns : tie.Need-returns Inv-loop μ-loop
 returns c =
     let l = c .before in
-    let w = l .before .before .before in
-    (counted-all _ (l .loop .j) (l .before .before .before .before .before .before .before .before .before .args .m) (w .write1 .ensures) (l .loop .inv .2) (omega arith) (omega arith), omega arith)
+    let w = l .before .before .before in (
+      counted-all _ (l .loop .j) (l .before .before .before .before .before .before .before .before .before .args .m)
+          (w .write1 .ensures) (l .loop .inv .2) (omega arith) (omega arith),
+      omega arith,
+    )
 
 pub write-lashes-spec : {M : Type 1} → statement M
 write-lashes-spec =

@@ -17,7 +17,8 @@ use Rattle.stack_check.proofs.encode.write_rackings.Statement.{statemen
 use Rattle.stack_check.proofs.encode.write_rackings.Tie as tie
 
 abbrev Inv-loop : tie.InvT-loop
-Inv-loop answer₀ at xs n next₀ i₀ answer next i = (i ≤ n) × (next ≡ next₀ + 4 * i) × Wrote answer₀ next₀ (flatMap (λ k. bytes4 (twos (getD xs k (pos 0)))) (below i)) answer next
+Inv-loop answer₀ at xs n next₀ i₀ answer next i =
+    (i ≤ n) × (next ≡ next₀ + 4 * i) × Wrote answer₀ next₀ (flatMap (λ k. bytes4 (twos (getD xs k (pos 0)))) (below i)) answer next
 
 abbrev μ-loop : tie.MeasureT-loop
 μ-loop answer₀ at xs n next₀ i₀ answer next i = n - i
@@ -63,8 +64,11 @@ same-length c = search needs
 returns : tie.Need-returns Inv-loop μ-loop
 returns c =
     let l = c .before in
-    let w = l .before .before .before in
-    (counted-all _ (l .loop .i) (l .before .before .before .before .before .before .args .n) (w .write1 .ensures) (l .loop .inv .2) (omega arith) (omega arith), omega arith)
+    let w = l .before .before .before in (
+      counted-all _ (l .loop .i) (l .before .before .before .before .before .before .args .n) (w .write1 .ensures) (l .loop .inv .2)
+          (omega arith) (omega arith),
+      omega arith,
+    )
 
 pub write-rackings-spec : {M : Type 1} → statement M
 write-rackings-spec =
