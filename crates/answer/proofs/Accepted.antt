@@ -53,7 +53,8 @@ module _ {margin : ℕ} {exact : Frac} {size limit : ℕ} (r : Reported margin e
   above h =
       let l : limit ≤ size = omega arith in
       to-⊏ (nat limit) (absq exact +q nat margin)
-      (≤ℚ-<ℚ-trans (rw (mk-int (pos limit), mk-int (pos size)) (nat-q limit size l)) (of-⊏ (nat size) (absq exact +q nat margin) (r .close)))
+      (≤ℚ-<ℚ-trans (rw (mk-int (pos limit), mk-int (pos size)) (nat-q limit size l))
+      (of-⊏ (nat size) (absq exact +q nat margin) (r .close)))
 
 -- lists of findings
 nil-left : (xs ys : List Finding) → xs ++ ys ≡ [] → xs ≡ []

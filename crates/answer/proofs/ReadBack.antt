@@ -166,7 +166,8 @@ module _ (t : Sheet) (e : End) (f : EndFigures) where
     unfolding endBytes
     compressions-there =
         rw (section-length racked 4 (λ i. refl) n) at
-        (second-part (counted n racked) (counted (suc n) pressed) (first-part two (counted n drawn) (first-part three (counted m lashed) s)))
+        (second-part (counted n racked) (counted (suc n) pressed)
+        (first-part two (counted n drawn) (first-part three (counted m lashed) s)))
 
     tensions-there : Stands l (sectionPlace t e F.tension) (counted n drawn)
     unfolding endBytes

@@ -111,7 +111,8 @@ module _ (t : Sheet) (stiff : S.Stiff (doorTiers t) (doorLashes t)) where
       S.racking (doorTiers t) Ds i ⊏ x
   every-racking i x e Ds s =
       ⊑-⊏-trans (S.racking (doorTiers t) Ds i) (S.racking (doorTiers t) (solved t) i) x
-      (≈⊑ (S.racking (doorTiers t) Ds i) (S.racking (doorTiers t) (solved t) i) (same-racking (doorTiers t) Ds (solved t) (agree Ds (solved t) s there) i)) e
+      (≈⊑ (S.racking (doorTiers t) Ds i) (S.racking (doorTiers t) (solved t) i)
+      (same-racking (doorTiers t) Ds (solved t) (agree Ds (solved t) s there) i)) e
 
 stiff-rod : (tier j : ℕ) → j < 1 → nat 0 ⊏ S.lashAt (chainLashes (rodS tier ∷ [])) j .stiffness
 unfolding chainLash athwartPart pull recip
@@ -136,15 +137,18 @@ stiff-e = record { springs = springs; lashes = stiff-rod 2 }
     springs (suc (suc i)) h = absurd (omega arith)
 
 solved-d : shift (solved held) 1 ≈ nat 220725 /q nat 10 /q nat 10930
-unfolding from solution shiftOf handedStiffness handedLoad shift sumq recip chainTiers load transverse weight wind chainLash athwartPart pull levelOf
+unfolding from solution shiftOf handedStiffness handedLoad shift sumq recip chainTiers load transverse weight wind
+    chainLash athwartPart pull levelOf
 solved-d = rw (length-S 1) (record { cross = refl })
 
 solved-e : shift (solved heldAbove) 2 ≈ nat 2918475 /q nat 100 /q nat 18130
-unfolding from solution shiftOf handedStiffness handedLoad shift sumq recip chainTiers load transverse weight wind chainLash athwartPart pull levelOf
+unfolding from solution shiftOf handedStiffness handedLoad shift sumq recip chainTiers load transverse weight wind
+    chainLash athwartPart pull levelOf
 solved-e = rw (length-S 2) (record { cross = refl })
 
 racked-e : S.racking (doorTiers heldAbove) (solved heldAbove) 1 ⊏ nat 0
-unfolding from solution shiftOf handedStiffness handedLoad shift sumq recip chainTiers load transverse weight wind chainLash athwartPart pull levelOf
+unfolding from solution shiftOf handedStiffness handedLoad shift sumq recip chainTiers load transverse weight wind
+    chainLash athwartPart pull levelOf
 racked-e = rw (length-S 2) (record { cross = record { lt = tt } })
 
 pub table : Table

@@ -38,8 +38,8 @@ pub record Justified (margin : ℕ) (rule : Rule) (t : Sheet) (x : Finding) : Ty
       EndSolved rule end t Ds →
       nat (limitAt end t kind (x .index)) ⊏ absq (exactAt rule end t Ds kind (x .index)) +q nat margin
 
--- what an answer's bytes s say by themselves of the sheet t: the forces read back are within `margin` N of the exact ones at every solution of
--- an end's equations, and the counts, findings and verdict are the rule's from these forces. Verdict 0: no checked limit is exceeded.
+-- what an answer's bytes s say by themselves of the sheet t: the forces read back are within `margin` N of the exact ones at every solution
+-- of an end's equations, and the counts, findings and verdict are the rule's from these forces. Verdict 0: no checked limit is exceeded.
 -- Each finding is justified
 pub record AnswerSays (margin : ℕ) (rule : Rule) (t : Sheet) (s : List ℕ) : Type 0 where
   pub reported : (e : End) (Ds : List Frac) → EndSolved rule e t Ds → EndReported margin rule e t Ds (reportedIn t e s)

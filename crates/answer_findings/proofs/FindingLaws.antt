@@ -99,8 +99,11 @@ module _ (e : End) (t : Sheet) (f : EndFigures) (k : Kind) where
 
 -- an end: kinds 1 to 7
 module _ (t : Sheet) (f : Figures) (e : End) (ls : List Lash) (m : ℕ) (few : length (lashesOf e t) ≡ m)
-(each : (j : ℕ) → j < m → getD (lashesOf e t) j blankLash ≡ getD ls j blankLash) where
-  pub end-bytes : tierFindings (endCode e) (t .ntiers) (safeLoad (t .head .lockMaterial) (t .head .lockBreakingLoad)) (figuresOf e f) ++ lashFindings (endCode e) ls m (figuresOf e f) ≡ flatMap findingBytes (endFindings t f e)
+    (each : (j : ℕ) → j < m → getD (lashesOf e t) j blankLash ≡ getD ls j blankLash) where
+  pub end-bytes :
+      tierFindings (endCode e) (t .ntiers) (safeLoad (t .head .lockMaterial) (t .head .lockBreakingLoad)) (figuresOf e f)
+      ++ lashFindings (endCode e) ls m (figuresOf e f)
+      ≡ flatMap findingBytes (endFindings t f e)
   unfolding tierFindings lashFindings flatMap
   end-bytes =
       let g = figuresOf e f in
@@ -118,7 +121,7 @@ module _ (t : Sheet) (f : Figures) (e : End) (ls : List Lash) (m : ℕ) (few : l
 
 -- both ends
 module _ (t : Sheet) (f : Figures) (s : Sized t) (lock : ℕ)
-(safe : lock ≡ safeLoad (t .head .lockMaterial) (t .head .lockBreakingLoad)) where
+    (safe : lock ≡ safeLoad (t .head .lockMaterial) (t .head .lockBreakingLoad)) where
   abbrev both : List ℕ
   both =
       (tierFindings 0 (t .ntiers) lock (f .door) ++ lashFindings 0 (t .door) (t .ndoor) (f .door))

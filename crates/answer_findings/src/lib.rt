@@ -51,7 +51,9 @@ fn put_where(found: &mut [u8], at: usize, end: u8, kind: u8, index: usize, over:
 // The findings of n rackings: kind 1, tiers from 1 on.
 fn put_rackings(found: &mut [u8], at: usize, end: u8, xs: &[i32], n: usize) -> usize
     requires { ⌜ (n ≤ 10) × (n ≤ length (now xs)) × (at + 3 * n ≤ length (now found)) ⌝ }
-    ensures { λ r. ⌜ Put (now (found .entry)) at (findingsOver end 1 1 (λ i. natAbs (getD (now (xs .entry)) (i - 1) (pos 0))) (λ i. rackingLimit) n) (now (found .exit)) r × (r ≤ at + 3 * n) ⌝ }
+    ensures { λ r. ⌜ Put (now (found .entry)) at
+        (findingsOver end 1 1 (λ i. natAbs (getD (now (xs .entry)) (i - 1) (pos 0))) (λ i. rackingLimit) n)
+        (now (found .exit)) r × (r ≤ at + 3 * n) ⌝ }
 {
     let mut next = at;
     let mut k = 0;
@@ -74,7 +76,8 @@ fn put_over(
     n: usize,
 ) -> usize
     requires { ⌜ (first ≤ 1) × (n ≤ 10) × (first + n ≤ length (now xs)) × (at + 3 * n ≤ length (now found)) ⌝ }
-    ensures { λ r. ⌜ Put (now (found .entry)) at (findingsOver end kind first (λ i. getD (now (xs .entry)) i 0) (λ i. limit) n) (now (found .exit)) r × (r ≤ at + 3 * n) ⌝ }
+    ensures { λ r. ⌜ Put (now (found .entry)) at (findingsOver end kind first (λ i. getD (now (xs .entry)) i 0) (λ i. limit) n)
+        (now (found .exit)) r × (r ≤ at + 3 * n) ⌝ }
 {
     let mut next = at;
     let mut k = 0;
@@ -89,7 +92,8 @@ fn put_over(
 // The findings of m lashes whose tension exceeds their own safe load: kind 5.
 fn put_pulls(found: &mut [u8], at: usize, end: u8, lashes: [Lash; 8], xs: &[u64], m: usize) -> usize
     requires { ⌜ (m ≤ 8) × (m ≤ length (now xs)) × (at + 3 * m ≤ length (now found)) ⌝ }
-    ensures { λ r. ⌜ Put (now (found .entry)) at (findingsOver end 5 0 (λ j. getD (now (xs .entry)) j 0) (lashLimit lashes) m) (now (found .exit)) r × (r ≤ at + 3 * m) ⌝ }
+    ensures { λ r. ⌜ Put (now (found .entry)) at (findingsOver end 5 0 (λ j. getD (now (xs .entry)) j 0) (lashLimit lashes) m)
+        (now (found .exit)) r × (r ≤ at + 3 * m) ⌝ }
 {
     let mut next = at;
     let mut j = 0;
@@ -114,7 +118,8 @@ fn put_end(
     f: EndFigures,
 ) -> usize
     requires { ⌜ (n ≤ 10) × (m ≤ 8) × (at + 12 * n + 9 * m ≤ length (now found)) ⌝ }
-    ensures { λ r. ⌜ Put (now (found .entry)) at (tierFindings end n lock f ++ lashFindings end lashes m f) (now (found .exit)) r × (r ≤ at + 12 * n + 9 * m) ⌝ }
+    ensures { λ r. ⌜ Put (now (found .entry)) at (tierFindings end n lock f ++ lashFindings end lashes m f)
+        (now (found .exit)) r × (r ≤ at + 12 * n + 9 * m) ⌝ }
 {
     let p = put_rackings(found, at, end, &f.racking, n);
     let q = put_over(found, p, end, 2, 1, &f.compression, Limits::COMPRESSION, n);

@@ -82,8 +82,8 @@ fn climb(n: usize, k: &[u64], kappa: &[u64], omega: &[u64], x: &[u64], y: &[u64]
     d
 }
 
-// The shifts of levels 0 to n, in 2^-28 mm, of n tiers: k their springs, in N/mm; of the level over each, kappa the stiffness of its lashes,
-// in 2^-22 N/mm, and omega its load, in 2^-28 N. Behind n stand zeros.
+// The shifts of levels 0 to n, in 2^-28 mm, of n tiers: k their springs, in N/mm; of the level over each, kappa the stiffness of its
+// lashes, in 2^-22 N/mm, and omega its load, in 2^-28 N. Behind n stand zeros.
 pub fn solve(n: usize, k: &[u64], kappa: &[u64], omega: &[u64]) -> [u64; 11]
     requires { ⌜ Solvable n (now k) (now kappa) (now omega) × (n ≤ length (now k)) × (n ≤ length (now kappa)) × (n ≤ length (now omega)) ⌝ }
     ensures promised { λ r. ⌜ Promised n (now (k .entry)) (now (kappa .entry)) (now (omega .entry)) r ⌝ }

@@ -27,7 +27,8 @@ pub const LONGEST: usize = 834;
 // A count n and n rackings; the place behind them.
 fn write_rackings(answer: &mut [u8], at: usize, xs: &[i32], n: usize) -> usize
     requires { ⌜ (n ≤ 10) × (n ≤ length (now xs)) × (at + 1 + 4 * n ≤ length (now answer)) ⌝ }
-    ensures { λ r. ⌜ Wrote (now (answer .entry)) at (counted n (λ i. bytes4 (twos (getD (now (xs .entry)) i (pos 0))))) (now (answer .exit)) r × (r ≡ at + 1 + 4 * n) ⌝ }
+    ensures { λ r. ⌜ Wrote (now (answer .entry)) at (counted n (λ i. bytes4 (twos (getD (now (xs .entry)) i (pos 0)))))
+        (now (answer .exit)) r × (r ≡ at + 1 + 4 * n) ⌝ }
 {
     write1(answer, at, n as u64);
     let mut next = at + 1;
@@ -43,7 +44,8 @@ fn write_rackings(answer: &mut [u8], at: usize, xs: &[i32], n: usize) -> usize
 // A count n and n figures.
 fn write_figures(answer: &mut [u8], at: usize, xs: &[u64], n: usize) -> usize
     requires { ⌜ (n ≤ 11) × (n ≤ length (now xs)) × (at + 1 + 4 * n ≤ length (now answer)) × ((i : ℕ) → getD (now xs) i 0 < 4294967296) ⌝ }
-    ensures { λ r. ⌜ Wrote (now (answer .entry)) at (counted n (λ i. bytes4 (getD (now (xs .entry)) i 0))) (now (answer .exit)) r × (r ≡ at + 1 + 4 * n) ⌝ }
+    ensures { λ r. ⌜ Wrote (now (answer .entry)) at (counted n (λ i. bytes4 (getD (now (xs .entry)) i 0)))
+        (now (answer .exit)) r × (r ≡ at + 1 + 4 * n) ⌝ }
 {
     write1(answer, at, n as u64);
     let mut next = at + 1;
@@ -76,8 +78,12 @@ fn write_lashes<'a>(
     vertical: &'a [u64],
     m: usize,
 ) -> usize
-    requires { ⌜ (m ≤ 8) × (m ≤ length (now pull)) × (m ≤ length (now athwart)) × (m ≤ length (now vertical)) × (at + 1 + 12 * m ≤ length (now answer)) × ((j : ℕ) → getD (now pull) j 0 < 4294967296) × ((j : ℕ) → getD (now athwart) j 0 < 4294967296) × ((j : ℕ) → getD (now vertical) j 0 < 4294967296) ⌝ }
-    ensures { λ r. ⌜ Wrote (now (answer .entry)) at (counted m (λ j. lashBytes (getD (now (pull .entry)) j 0) (getD (now (athwart .entry)) j 0) (getD (now (vertical .entry)) j 0))) (now (answer .exit)) r × (r ≡ at + 1 + 12 * m) ⌝ }
+    requires { ⌜ (m ≤ 8) × (m ≤ length (now pull)) × (m ≤ length (now athwart)) × (m ≤ length (now vertical))
+        × (at + 1 + 12 * m ≤ length (now answer)) × ((j : ℕ) → getD (now pull) j 0 < 4294967296)
+        × ((j : ℕ) → getD (now athwart) j 0 < 4294967296) × ((j : ℕ) → getD (now vertical) j 0 < 4294967296) ⌝ }
+    ensures { λ r. ⌜ Wrote (now (answer .entry)) at
+        (counted m (λ j. lashBytes (getD (now (pull .entry)) j 0) (getD (now (athwart .entry)) j 0) (getD (now (vertical .entry)) j 0)))
+        (now (answer .exit)) r × (r ≡ at + 1 + 12 * m) ⌝ }
 {
     write1(answer, at, m as u64);
     let mut next = at + 1;
@@ -126,7 +132,8 @@ fn verdict_of(findings: usize) -> u64
 // the last of them too.
 pub fn write_answer(answer: &mut [u8], t: Sheet, f: Figures) -> usize
     requires { ⌜ Sized t × Fitting (f .door) × Fitting (f .closed) × (834 ≤ length (now answer)) ⌝ }
-    ensures { λ r. ⌜ (r ≡ length (answerBytes t f)) × (now (answer .exit) ≡ answerBytes t f ++ drop (length (answerBytes t f)) (now (answer .entry))) ⌝ }
+    ensures { λ r. ⌜ (r ≡ length (answerBytes t f))
+        × (now (answer .exit) ≡ answerBytes t f ++ drop (length (answerBytes t f)) (now (answer .entry))) ⌝ }
 {
     let found = findings_of(t, f);
     let count = found.count;

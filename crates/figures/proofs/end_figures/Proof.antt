@@ -96,7 +96,8 @@ returns c =
     let g = measured s in
     let b = entered g in
     let posts = p .lash-figures .ensures .1 in
-    let κ = stiffnesses-named (take (b .args .m) (b .args .lashes)) (g .lash-stiffnesses .kept .1 .1 .1 .1 .0) (g .lash-stiffnesses .ensures .1) in
+    let found = g .lash-stiffnesses in
+    let κ = stiffnesses-named (take (b .args .m) (b .args .lashes)) (found .kept .1 .1 .1 .1 .0) (found .ensures .1) in
     let d = s .solve .ensures .1 ∙ ap (λ (κ : List ℕ). S.solved (b .args .n) (b .args .k .now) κ (b .args .loads .now)) κ in
     end-named (b .pre .0) (counted b) (p .lash-figures .ensures .0) (posts .0) (posts .1) (v .level-figures .ensures)
     ∙ ap
