@@ -10,15 +10,15 @@ use Rattle.arith.specs.Fractions.{Frac, nat, _/q_, recip, sumq, _≈_, _⊏_}
 use Rattle.arith.specs.Lists.{from}
 use Rattle.arith.proofs.FractionLaws.{≈-trans, ≈⊑}
 use Rattle.arith.proofs.OrderedField.{⊑-⊏-trans}
-use Rattle.arith.specs.Roots.{Least}
+use Rattle.arith.specs.inner.Roots.{Least}
 use Rattle.sheet.specs.declared.Sheet.{Sheet}
 use Rattle.statics.specs.Loads.{weight, transverse, verticalForce, boxLength, wind, load, classRule}
 use Rattle.statics.specs.Lashes.{lashLength, pull, athwartPart}
 use Rattle.springs.specs.Equations as S
+use Rattle.springs.specs.Theorems.{Agree}
 use Rattle.springs.specs.Equations.{shift}
 use Rattle.springs.proofs.OneSolution.{handedStiffness, handedLoad, shiftOf, solution, exists, unique, same-racking}
-use Rattle.statics.specs.Ends.{chainTiers, chainLash, chainLashes, EndSolved}
-use Rattle.statics.specs.Theorems.{OneSolution}
+use Rattle.statics.specs.Ends.{chainTiers, chainLash, chainLashes, EndSolved, OneSolution}
 use Rattle.sheet.specs.Ends.{door, tiersOf, lashesOf}
 use Rattle.statics.specs.Posts.{levelHeight, turning, moment, atMost, tension}
 use Rattle.statics.proofs.LashLength.{length-is}
@@ -91,7 +91,7 @@ abbrev solved : Sheet → List Frac
 solved t = solution (doorTiers t) (doorLashes t)
 
 module _ (t : Sheet) (stiff : S.Stiff (doorTiers t) (doorLashes t)) where
-  agree : (Ds Es : List Frac) → EndSolved (classRule t) door t Ds → EndSolved (classRule t) door t Es → S.Agree Ds Es
+  agree : (Ds Es : List Frac) → EndSolved (classRule t) door t Ds → EndSolved (classRule t) door t Es → Agree Ds Es
   agree Ds Es s r = unique (doorTiers t) (doorLashes t) Ds Es stiff (s .solves) (r .solves)
 
   there : EndSolved (classRule t) door t (solved t)

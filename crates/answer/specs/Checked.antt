@@ -11,7 +11,7 @@ use Rattle.sheet.specs.Refusals.{row13, first, longestAnswer, refusal}
 use Rattle.statics.specs.declared.Figures.{Figures}
 use Rattle.statics.specs.declared.LoadRule.{LoadRule}
 use Rattle.statics.specs.Loads.{Rule, classRule, StandsFor}
-use Rattle.statics.specs.Theorems.{OneSolution}
+use Rattle.statics.specs.Ends.{OneSolution}
 use Rattle.sheet.specs.Ends.{End}
 use Rattle.statics.specs.Reported.{EndFigured}
 use Rattle.answer.specs.declared.Outcome.{Outcome}

@@ -12,8 +12,7 @@ use Rattle.sheet.specs.Layout.{blankTier, blankLash}
 use Rattle.arith.specs.Lists.{padded}
 use Rattle.statics.specs.Loads.{transverse, wind, classRule}
 use Rattle.statics.specs.Lashes.{lashLength, athwartPart}
-use Rattle.statics.specs.Ends.{endTiers, EndSolved}
-use Rattle.statics.specs.Theorems.{OneSolution}
+use Rattle.statics.specs.Ends.{endTiers, EndSolved, OneSolution}
 use Rattle.sheet.specs.Ends.{door, tiersOf, lashesOf}
 use Rattle.statics.specs.Posts.{moment, tension}
 use Rattle.answer.specs.Limits.{safeLoad}

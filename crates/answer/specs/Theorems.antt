@@ -11,7 +11,7 @@ use Rattle.sheet.specs.Refusals.{refusal}
 use Rattle.sheet.specs.Ends.{End}
 use Rattle.statics.specs.declared.LoadRule.{LoadRule}
 use Rattle.statics.specs.Loads.{Rule, classRule, StandsFor}
-use Rattle.statics.specs.Theorems.{OneSolution}
+use Rattle.statics.specs.Ends.{OneSolution}
 use Rattle.answer.specs.declared.Outcome.{Outcome}
 use Rattle.answer.specs.Checked.{AnswerTo, Checked, kept, demanded}
 use Rattle.answer.specs.Consequences.{AnswerSays}

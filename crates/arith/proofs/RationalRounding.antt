@@ -4,7 +4,7 @@ use Prim.Native.Nat.{ℕ, suc, _+_, _*_, _-_, _/_, _≤_, _<_}
 use native.Mathlib.Omega.{arith}
 use native.Mathlib.Nat.{div-add-mod', mul-comm, mod-lt}
 use lib.IntN.{ℤ, pos, negsuc, negℤ, _+ℤ_, _*ℤ_}
-use Rattle.arith.specs.Rounding.{scaledDown, roundedUp, roundedUpZ}
+use Rattle.arith.specs.inner.Rounding.{scaledDown, roundedUp, roundedUpZ}
 use Rattle.arith.proofs.Polynomials.{v, _⊗_, ⊖_}
 use Rattle.arith.proofs.Rings.{∀₃, ∀₄, ∀₅, by-cert, to, times, contra, _⊞_, _⊠_}
 use Rattle.arith.proofs.Integers.{ℤR, _≼_}

@@ -4,7 +4,7 @@ use Prim.Native.Nat.{ℕ, _+_, _*_, _/_, _<_, _≤_}
 use native.Mathlib.Nat.{div-mul-le-self, lt-div-mul-add}
 use lib.IntN.{ℤ, pos}
 use Rattle.arith.specs.Fractions.{nat, int, _⊑_, _⊏_, _+q_, _*q_, _/q_}
-use Rattle.arith.specs.Rounding.{scaledDown, roundedUp, roundedUpZ}
+use Rattle.arith.specs.inner.Rounding.{scaledDown, roundedUp, roundedUpZ}
 use Rattle.arith.proofs.Rationals as Q
 use Rattle.arith.proofs.Rationals.{to-⊑, _+ℚ_, _/ℚ_, int-plus}
 use Rattle.arith.proofs.FractionsInRationals.{to-⊏, toℚ}

@@ -12,7 +12,7 @@ use lib.ListN.{length, getD, take, drop, replicate}
 use lib.Seq.{ext-getD}
 use Rattle.sheet.specs.Layout.{blankLash, blankTier}
 use Rattle.sheet.proofs.Limits.{lash-wider}
-use Rattle.springs.specs.Promise.{Solvable, Promised}
+use Rattle.springs.specs.inner.Promise.{Solvable, Promised}
 use Rattle.springs.specs.inner.Elimination.{solved}
 use Rattle.sheet.specs.declared.Tier.{Tier}
 use Rattle.sheet.specs.declared.Lash.{Lash}

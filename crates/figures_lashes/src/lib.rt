@@ -3,7 +3,7 @@
 ghost use mathlib.Core.Path.{_≡_};
 ghost use Prim.Native.Nat.{ℕ, _+_, _*_, _/_, _<_, _≤_, _^_};
 ghost use lib.ListN.{take, getD, length, replicate};
-ghost use Rattle.arith.specs.Rounding.{roundedUp};
+ghost use Rattle.arith.specs.inner.Rounding.{roundedUp};
 ghost use Rattle.sheet.specs.Lashings.{levelOf};
 ghost use Rattle.sheet.specs.Layout.{blankLash};
 ghost use Rattle.sheet.specs.inner.Limits.{LashLimits};

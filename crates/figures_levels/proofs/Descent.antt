@@ -8,7 +8,7 @@ use lib.ListN.{length, getD, set, take, drop, replicate}
 use lib.Seq.{drop-cons, drop-length}
 use lib.Signed.{quotZ}
 use Rattle.sheet.specs.Layout.{blankTier}
-use Rattle.arith.specs.Sizes.{Small}
+use Rattle.arith.specs.inner.Sizes.{Small}
 use Rattle.arith.proofs.Sizes.{small-weaken, small-add, small-pos}
 use Rattle.sheet.specs.declared.Tier.{Tier}
 use Rattle.springs.specs.Equations.{closedSpring}

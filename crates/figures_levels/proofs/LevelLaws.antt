@@ -8,8 +8,8 @@ use borrow.Author.Tests.{ltb-true, ltb-false}
 use lib.Dec.{lit<, lit≤, ltb}
 use lib.IntN.{ℤ, pos, negsuc, natAbs, negℤ, _+ℤ_, _-ℤ_, _*ℤ_}
 use lib.Signed.{quotZ, ltZ}
-use Rattle.arith.specs.Rounding.{roundedUp, roundedUpZ}
-use Rattle.arith.specs.Sizes.{Small}
+use Rattle.arith.specs.inner.Rounding.{roundedUp, roundedUpZ}
+use Rattle.arith.specs.inner.Sizes.{Small}
 use Rattle.arith.proofs.Sizes.{small-weaken, small-pos, small-add, small-sub, small-mul}
 use Rattle.springs.specs.Equations.{closedSpring}
 use Rattle.statics.specs.Posts.{postSpacing}

@@ -10,7 +10,7 @@ use lib.Signed.{quotZ, ltZ}
 use mir.Syntax.{w64}
 use mir.Val.{Fits, SFits, toZ, ofZ}
 use mir.ValLaws.{toZ-ofZ}
-use Rattle.arith.specs.Sizes.{Small}
+use Rattle.arith.specs.inner.Sizes.{Small}
 use Rattle.arith.proofs.Sizes.{fits64, natAbs-quot}
 use Rattle.statics.specs.inner.WholeNumbers.{notBelow}
 

@@ -5,7 +5,7 @@ ghost use Prim.Native.Nat.{_+_, _*_, _≤_, _^_};
 ghost use lib.IntN.{pos, natAbs, negℤ, _+ℤ_, _-ℤ_, _*ℤ_};
 ghost use lib.ListN.{length, take};
 ghost use lib.Signed.{quotZ};
-ghost use Rattle.arith.specs.Sizes.{Small};
+ghost use Rattle.arith.specs.inner.Sizes.{Small};
 ghost use Rattle.springs.specs.Equations.{closedSpring};
 ghost use Rattle.statics.specs.Posts.{postSpacing};
 ghost use Rattle.statics.specs.inner.WholeNumbers.{rackingFigure, postFigure, notBelow, compressionFrom, tensionFrom};

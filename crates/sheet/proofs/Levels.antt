@@ -11,10 +11,10 @@ use lib.Dec.{ltb, eqb}
 use lib.ListN.{length, take}
 use Rattle.sheet.specs.declared.Lash.{Lash}
 use Rattle.sheet.specs.Refusals.{later}
-use Rattle.sheet.specs.Lashings.{levelOf, atLevel}
+use Rattle.sheet.specs.Lashings.{levelOf}
+use Rattle.sheet.specs.inner.Limits.{atLevel, LashLimits}
 use Rattle.sheet.specs.Fits.{EndFits, lashAt}
 use Rattle.sheet.proofs.Bools.{and-true, or-true}
-use Rattle.sheet.specs.inner.Limits.{LashLimits}
 use Rattle.sheet.proofs.Limits.{lash-limits, code, level-top, level-bottom}
 
 -- tier, then hook, then kind, as one number

@@ -39,7 +39,7 @@ use Rattle.arith.proofs.Signs.{on, same-le}
 use Rattle.arith.proofs.RationalOrder.{≤ℚ-trans, nat-q, above-0, div-times, lt-not}
 use Rattle.arith.proofs.FractionsInRationals.{sumℚ, mk-int, mk-div, mk-sum, of-≈, toℚ}
 use Rattle.springs.specs.Equations.{Tier, Lash, tierAt, shift, stiffnessAt, loadAt, racking, Solves}
-use Rattle.springs.specs.Promise.{stiffnessScale, loadScale, shiftScale, Near}
+use Rattle.springs.specs.inner.Promise.{stiffnessScale, loadScale, shiftScale, Near}
 use Rattle.springs.specs.inner.Elimination.{divisor, shiftUp}
 use Rattle.springs.specs.inner.Bound.{springAt, levelError, summedError, shiftBy, SummedBound}
 use Rattle.springs.proofs.Chain.{natℚ, force, load}

@@ -3,7 +3,7 @@ use mathlib.Core.Path.{sym, subst}
 use Prim.Native.Nat.{ℕ, _+_, _<_, _≤_}
 use lib.IntN.{pos}
 use Rattle.arith.specs.Fractions.{Frac, nat, _+q_, _*q_, _/q_, _≈_}
-use Rattle.arith.specs.Rounding.{scaledDown}
+use Rattle.arith.specs.inner.Rounding.{scaledDown}
 use Rattle.arith.proofs.Rings.{∀₁, ∀₄, ∀₅, ∀₇, by-cert, to, num, _⊞_}
 use Rattle.arith.proofs.Rationals.{ℚR, ℚ, mk, _+ℚ_, _*ℚ_, _≤ℚ_, of-⊑, to-⊑, int-plus}
 use Rattle.arith.proofs.RationalTerms.{qq}
@@ -11,7 +11,7 @@ use Rattle.arith.proofs.RationalOrder.{nat-q}
 use Rattle.arith.proofs.FractionsInRationals.{mk-int, mk-add, of-≈, toℚ}
 use Rattle.arith.proofs.OrderedField.{⊏-⊑}
 use Rattle.arith.proofs.RoundingLaws.{scaled-units-low, scaled-units-high}
-use Rattle.springs.specs.Promise.{Rounded}
+use Rattle.springs.specs.inner.Promise.{Rounded}
 use Rattle.springs.proofs.Chain.{natℚ}
 
 -- over ℚ

@@ -6,7 +6,7 @@ use native.Mathlib.Omega.{arith}
 use native.Mathlib.Decide.{ℕ-discrete, decLe}
 use lib.ListN.{getD, length, set, replicate, length-set}
 use lib.Seq.{getD-set-same, getD-set-other}
-use Rattle.springs.specs.Promise.{farthest, Solvable}
+use Rattle.springs.specs.inner.Promise.{farthest, Solvable}
 use Rattle.springs.specs.inner.Elimination.{stiffnessDown, loadDown, shiftUp, solved, InRange, mostLoadTogether, HandedDown}
 use Rattle.springs.proofs.Recursion as R
 use Rattle.springs.proofs.Ranges.{in-range, load-in-range, far-at}

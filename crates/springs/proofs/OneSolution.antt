@@ -12,12 +12,11 @@ use Rattle.arith.proofs.Arrays.{length-entries, entry}
 use Rattle.arith.proofs.Rationals.{ℚ, mk, _+ℚ_, _-ℚ_, _*ℚ_, _/ℚ_}
 use Rattle.arith.proofs.FractionLaws.{≈-refl, ⊑-refl, ⊑-antisym, *q-cong-r}
 use Rattle.arith.proofs.FractionsInRationals.{mk-int, mk-add, mk-mul, mk-div, of-≈, to-≈}
-use Rattle.springs.specs.Equations.{Tier, Lash, tierAt, shift, athwart, stiffnessAt, loadAt, racking, Solves, Stiff, Agree}
-use Rattle.springs.specs.Theorems.{OneSolution, Heavier}
+use Rattle.springs.specs.Equations.{Tier, Lash, tierAt, shift, athwart, stiffnessAt, loadAt, racking, Solves, Stiff}
+use Rattle.springs.specs.Theorems.{Agree, OneSolution, Heavier}
 use Rattle.springs.proofs.Chain.{load-same}
 use Rattle.springs.proofs.Elimination as E
-use Rattle.springs.proofs.Levels.{springs, lashes, loads, shifts, mk-stiffness, mk-load, mk-racking, no-spring, spring-pos}
-use Rattle.springs.proofs.Levels.{spring-nn, lashes-nn, solves}
+use Rattle.springs.proofs.Levels.{springs, lashes, loads, shifts, mk-stiffness, mk-load, mk-racking, no-spring, spring-pos, spring-nn, lashes-nn, solves}
 use Rattle.springs.proofs.Growth.{growth}
 
 -- elimination from the top down: what m tiers from tier i + 1 on, with the lashes over them, hand down to level i, stiffness and load

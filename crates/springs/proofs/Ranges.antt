@@ -8,7 +8,7 @@ use native.Mathlib.Omega.{arith}
 use native.Mathlib.Decide.{decLe}
 use lib.ListN.{getD}
 use Rattle.springs.specs.Equations.{doorSpring, closedSpring}
-use Rattle.springs.specs.Promise.{stiffnessScale, mostLoaded, farthest, Solvable}
+use Rattle.springs.specs.inner.Promise.{stiffnessScale, mostLoaded, farthest, Solvable}
 use Rattle.springs.specs.inner.Elimination.{divisor, stiffnessDown, loadDown, shiftUp, InRange, mostLoadTogether}
 use Rattle.springs.proofs.Recursion.{x, y, d, stiffness-top, load-top, stiffness-step, load-step, shift-deck, shift-step}
 use Rattle.springs.proofs.Recursion.{shift-behind}

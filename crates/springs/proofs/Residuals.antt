@@ -9,7 +9,7 @@ use Rattle.arith.proofs.Rings.{∀₂, ∀₁₀, by-cert, over, to, times, num
 use Rattle.arith.proofs.Rationals.{ℚR, ℚ, _+ℚ_, _-ℚ_, _*ℚ_, negℚ, _≤ℚ_, nn-int, int-plus, int-times}
 use Rattle.arith.proofs.RationalTerms.{qq, q-int-add, q-int-mul}
 use Rattle.arith.proofs.RationalOrder.{lt-not, nat-q, above-0}
-use Rattle.springs.specs.Promise.{stiffnessScale}
+use Rattle.springs.specs.inner.Promise.{stiffnessScale}
 use Rattle.springs.specs.inner.Elimination.{divisor, stiffnessDown, loadDown, shiftUp}
 use Rattle.springs.proofs.Chain.{natℚ}
 

@@ -21,7 +21,7 @@ use Rattle.arith.proofs.RationalOrder.{nat-q, above-0}
 use Rattle.arith.proofs.FractionsInRationals.{sumℚ, toℚ}
 use Rattle.arith.proofs.FractionLaws.{⊑-trans}
 use Rattle.springs.specs.Equations.{closedSpring, Tier, Lash, tierAt, shift, racking, Solves}
-use Rattle.springs.specs.Promise.{
+use Rattle.springs.specs.inner.Promise.{
   stiffnessScale,
   farthest,
   shiftScale,

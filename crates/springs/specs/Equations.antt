@@ -75,8 +75,3 @@ pub record Solves (ts : List Tier) (ls : List Lash) (Ds : List Frac) : Type 0 wh
 pub record Stiff (ts : List Tier) (ls : List Lash) : Type 0 where
   pub springs : (i : ℕ) → i < length ts → nat 0 ⊏ tierAt ts i .K
   pub lashes : (j : ℕ) → j < length ls → nat 0 ⊏ lashAt ls j .stiffness
-
--- two lists of shifts agree: at every level, by cross products
-pub record Agree (Ds Es : List Frac) : Type 0 where
-  pub levels : length Ds ≡ length Es
-  pub same : (i : ℕ) → shift Ds i ≈ shift Es i

@@ -1,4 +1,3 @@
 pub mod Equations
 pub mod Theorems
-pub mod Promise
 pub mod inner

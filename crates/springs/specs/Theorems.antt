@@ -6,7 +6,12 @@ use Prim.Native.Nat.{ℕ, suc, _<_}
 use lib.ListN.{length}
 use Rattle.arith.specs.Fractions.{Frac, nat, _+q_, _-q_, _*q_, absq, _≈_, _⊑_, sumq}
 use Rattle.arith.specs.Lists.{below}
-use Rattle.springs.specs.Equations.{Tier, Lash, tierAt, shift, stiffnessAt, loadAt, racking, Solves, Stiff, Agree}
+use Rattle.springs.specs.Equations.{Tier, Lash, tierAt, shift, stiffnessAt, loadAt, racking, Solves, Stiff}
+
+-- two lists of shifts agree: at every level, by cross products
+pub record Agree (Ds Es : List Frac) : Type 0 where
+  pub levels : length Ds ≡ length Es
+  pub same : (i : ℕ) → shift Ds i ≈ shift Es i
 
 -- the equations have exactly one solution
 pub record Determined (ts : List Tier) (ls : List Lash) : Type 0 where

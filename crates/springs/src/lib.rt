@@ -4,7 +4,7 @@
 ghost use mathlib.Core.Path.{_≡_};
 ghost use Prim.Native.Nat.{_+_, _<_, _≤_};
 ghost use lib.ListN.{length, getD};
-ghost use Rattle.springs.specs.Promise.{farthest, Solvable, Promised};
+ghost use Rattle.springs.specs.inner.Promise.{farthest, Solvable, Promised};
 ghost use Rattle.springs.specs.inner.Elimination.{stiffnessDown, loadDown, shiftUp, solved, InRange, mostLoadTogether, HandedDown};
 use arith::rounding::scaled;
 

@@ -4,7 +4,7 @@ use Prim.Native.Nat.{ℕ, _+_, _*_, _^_, _≤_, _<_}
 use native.Mathlib.Omega.{arith}
 use lib.Dec.{lit≤}
 use lib.IntN.{pos}
-use Rattle.arith.specs.Rounding.{roundedUp}
+use Rattle.arith.specs.inner.Rounding.{roundedUp}
 use Rattle.arith.specs.Fractions.{Frac, nat, _+q_, absq}
 use Rattle.arith.proofs.Rings.{∀₅, ∀₇, ∀₈, by-cert, to, num, contra, _⊞_, _⊠_}
 use Rattle.arith.proofs.Rationals.{ℚR, ℚ, mk, _+ℚ_, _*ℚ_, _/ℚ_, negℚ, absℚ, _≤ℚ_, <→≤, int-plus, to-⊑}

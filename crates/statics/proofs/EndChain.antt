@@ -10,7 +10,7 @@ use Rattle.sheet.specs.Layout.{blankTier}
 use Rattle.arith.specs.Fractions.{nat, recip, _/q_, _⊏_}
 use Rattle.springs.specs.Equations as S
 use Rattle.springs.specs.Equations.{loadAt}
-use Rattle.springs.specs.Promise.{Rounded}
+use Rattle.springs.specs.inner.Promise.{Rounded}
 use Rattle.sheet.specs.declared.Tier.{Tier}
 use Rattle.sheet.specs.declared.Lash.{Lash}
 use Rattle.sheet.specs.declared.Sheet.{Sheet}

@@ -17,8 +17,8 @@ use Rattle.arith.proofs.RationalOrder.{≤ℚ-trans}
 use Rattle.arith.proofs.FractionsInRationals.{mk-int, mk-sub, mk-mul, mk-abs, of-≈}
 use Rattle.springs.specs.Equations as S
 use Rattle.springs.specs.Equations.{shift}
-use Rattle.springs.specs.Promise as P
-use Rattle.springs.specs.Promise.{found}
+use Rattle.springs.specs.inner.Promise as P
+use Rattle.springs.specs.inner.Promise.{found}
 use Rattle.springs.proofs.Chain.{natℚ}
 use Rattle.sheet.specs.declared.Tier.{Tier}
 use Rattle.sheet.specs.declared.Lash.{Lash}

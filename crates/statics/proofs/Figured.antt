@@ -6,7 +6,7 @@ use native.Mathlib.Omega.{arith}
 use lib.IntN.{pos}
 use lib.ListN.{length}
 use Rattle.arith.specs.Fractions.{nat, recip, _/q_, _⊑_}
-use Rattle.springs.specs.Promise.{Promised, lashError, rackingError}
+use Rattle.springs.specs.inner.Promise.{Promised, lashError, rackingError}
 use Rattle.springs.proofs.Solved.{solved-promised}
 use Rattle.sheet.specs.declared.Tier.{Tier}
 use Rattle.sheet.specs.declared.Lash.{Lash}

@@ -7,7 +7,7 @@ use lib.ListN.{getD, length}
 use Rattle.sheet.specs.Layout.{blankTier}
 use Rattle.arith.specs.Fractions.{nat, _≈_}
 use Rattle.arith.proofs.FractionLaws.{≈-refl}
-use Rattle.springs.specs.Promise.{Near, Solvable, mostHeld, mostLoaded}
+use Rattle.springs.specs.inner.Promise.{Near, Solvable, mostHeld, mostLoaded}
 use Rattle.springs.proofs.Inputs.{rounded-more}
 use Rattle.sheet.specs.declared.Tier.{Tier}
 use Rattle.sheet.specs.declared.Sheet.{Sheet}

@@ -15,7 +15,7 @@ use Rattle.arith.proofs.RationalTerms.{qq}
 use Rattle.arith.proofs.Signs.{ge-q, ge-neg-q, nn-q}
 use Rattle.arith.proofs.RationalOrder.{nat-q}
 use Rattle.arith.proofs.RationalRounding.{div-down, down-low, down-high}
-use Rattle.springs.specs.Promise.{found}
+use Rattle.springs.specs.inner.Promise.{found}
 use Rattle.springs.proofs.Chain.{natℚ}
 use Rattle.sheet.specs.declared.Lash.{Lash}
 use Rattle.statics.specs.Lashes.{lashLength, pull, athwartPart, verticalPart}

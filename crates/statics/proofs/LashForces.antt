@@ -12,7 +12,7 @@ use Rattle.arith.proofs.Signs.{div-eq}
 use Rattle.arith.proofs.RationalOrder.{above-0}
 use Rattle.arith.proofs.RationalRounding.{scaled-down, scaled-low, scaled-high}
 use Rattle.arith.proofs.FractionsInRationals.{toℚ}
-use Rattle.springs.specs.Promise.{Rounded}
+use Rattle.springs.specs.inner.Promise.{Rounded}
 use Rattle.springs.proofs.Chain.{natℚ}
 use Rattle.sheet.specs.declared.Lash.{Lash}
 use Rattle.statics.specs.Lashes.{lashLength, pull, athwartPart, verticalPart}

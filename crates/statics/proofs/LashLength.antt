@@ -5,7 +5,7 @@ use Prim.Native.Nat.{ℕ, zero, suc, _+_, _*_, _≤_, _<_}
 use native.Mathlib.Omega.{arith}
 use native.Mathlib.Nat.{mul-le-mul}
 use lib.Dec.{T, leb, leb→le, nleb→lt}
-use Rattle.arith.specs.Roots.{Least}
+use Rattle.arith.specs.inner.Roots.{Least}
 use Rattle.sheet.specs.declared.Lash.{Lash}
 use Rattle.statics.specs.Lashes.{leastFrom, lashLength}
 use Rattle.sheet.specs.inner.Limits.{LashLimits}

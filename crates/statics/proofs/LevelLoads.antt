@@ -17,7 +17,7 @@ use Rattle.arith.proofs.Rationals.{ℚR, ℚ, mk, int, _+ℚ_, _-ℚ_, _*ℚ_}
 use Rattle.arith.proofs.RationalTerms.{qq}
 use Rattle.arith.proofs.FractionsInRationals.{mk-int, mk-sub}
 use Rattle.springs.specs.Equations.{given, loadAt}
-use Rattle.springs.specs.Promise.{Rounded}
+use Rattle.springs.specs.inner.Promise.{Rounded}
 use Rattle.springs.proofs.Chain.{natℚ}
 use Rattle.springs.proofs.Inputs.{rounded-quotient, rounded-same}
 use Rattle.sheet.specs.declared.Tier.{Tier}

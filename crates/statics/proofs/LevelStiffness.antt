@@ -4,10 +4,11 @@ use mathlib.Core.List.{List, [], _∷_}
 use Prim.Native.Nat.{ℕ, _+_, _*_, _^_, _≤_}
 use native.Mathlib.Omega.{arith}
 use lib.Dec.{eqb}
-use Rattle.sheet.specs.Lashings.{levelOf, atLevel}
+use Rattle.sheet.specs.Lashings.{levelOf}
+use Rattle.sheet.specs.inner.Limits.{atLevel}
 use Rattle.arith.specs.Fractions.{nat, sumq}
 use Rattle.springs.specs.Equations.{given, stiffnessAt}
-use Rattle.springs.specs.Promise.{Rounded}
+use Rattle.springs.specs.inner.Promise.{Rounded}
 use Rattle.springs.proofs.Inputs.{rounded-none, rounded-sum}
 use Rattle.sheet.specs.declared.Lash.{Lash}
 use Rattle.statics.specs.Lashes.{athwartPart}

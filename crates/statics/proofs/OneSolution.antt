@@ -2,14 +2,14 @@
 use mathlib.Core.List.{List}
 use Prim.Native.Nat.{ℕ}
 use Rattle.arith.specs.Fractions.{Frac, nat, _⊑_}
-use Rattle.springs.specs.Equations as S
+use Rattle.springs.specs.Theorems.{Agree}
 use Rattle.springs.proofs.OneSolution as O
 use Rattle.springs.proofs.Growth.{no-shift-to-windward}
 use Rattle.sheet.specs.declared.Sheet.{Sheet}
 use Rattle.statics.specs.Loads.{Rule}
-use Rattle.statics.specs.Ends.{endTiers, endLashes, EndSolved}
+use Rattle.statics.specs.Ends.{endTiers, endLashes, EndSolved, OneSolution}
 use Rattle.sheet.specs.Ends.{End, tiersOf}
-use Rattle.statics.specs.Theorems.{Proper, NoWindwardShift, OneSolution}
+use Rattle.statics.specs.Theorems.{Proper, NoWindwardShift}
 use Rattle.sheet.specs.inner.Limits.{SheetLimits}
 use Rattle.statics.proofs.EndChain.{end-stiff}
 use Rattle.statics.proofs.LoadsGrow.{loads-leeward}
@@ -22,7 +22,7 @@ module _ (rule : Rule) (e : End) {t : Sheet} (f : SheetLimits t) where
   pub exists : EndSolved rule e t (solutionOf rule e t)
   exists = record { solves = O.exists (endTiers rule e t) (endLashes e t) (end-stiff rule e t f) }
 
-  pub unique : {Ds Es : List Frac} → EndSolved rule e t Ds → EndSolved rule e t Es → S.Agree Ds Es
+  pub unique : {Ds Es : List Frac} → EndSolved rule e t Ds → EndSolved rule e t Es → Agree Ds Es
   unique {Ds} {Es} s r = O.unique (endTiers rule e t) (endLashes e t) Ds Es (end-stiff rule e t f) (s .solves) (r .solves)
 
   pub one-solution : OneSolution rule e t

@@ -6,7 +6,7 @@ use native.Mathlib.Omega.{max-cases}
 use native.Mathlib.Nat.{le-max-left, le-max-right}
 use lib.Dec.{T}
 use lib.IntN.{ℤ, pos, negsuc, negℤ, _+ℤ_}
-use Rattle.arith.specs.Rounding.{roundedUp}
+use Rattle.arith.specs.inner.Rounding.{roundedUp}
 use Rattle.arith.specs.Fractions.{Frac, nat, negq}
 use Rattle.arith.proofs.Rings.{∀₁, ∀₂, ∀₃, ∀₅, ∀₆, by-cert, to, _⊞_}
 use Rattle.arith.proofs.IntegerOmega.{nat-le}

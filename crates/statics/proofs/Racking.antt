@@ -7,7 +7,7 @@ use lib.Dec.{lit≤, lt→ltb}
 use lib.IntN.{ℤ, pos, negsuc, negℤ, _-ℤ_, natAbs}
 use lib.ListN.{getD}
 use lib.Signed.{_<ℤ_}
-use Rattle.arith.specs.Rounding.{roundedUp}
+use Rattle.arith.specs.inner.Rounding.{roundedUp}
 use Rattle.arith.specs.Fractions.{Frac, nat, negq}
 use Rattle.arith.proofs.Polynomials.{v, ⊖_}
 use Rattle.arith.proofs.Rings.{∀₅, by-eqs, to, mul-eq, contra, _⊞_, _⊹_}
@@ -19,7 +19,7 @@ use Rattle.arith.proofs.Signs.{div-eq}
 use Rattle.arith.proofs.RationalOrder.{above-0, nat-q}
 use Rattle.arith.proofs.RationalRounding.{ceil-up}
 use Rattle.arith.proofs.FractionsInRationals.{mk-int, mk-neg}
-use Rattle.springs.specs.Promise.{found}
+use Rattle.springs.specs.inner.Promise.{found}
 use Rattle.springs.proofs.Chain.{natℚ}
 use Rattle.statics.specs.inner.WholeNumbers.{rackingPart, rackingPad, rackingFigure}
 use Rattle.statics.specs.Reported.{Reported, Directed}

@@ -8,7 +8,7 @@ use lib.Dec.{lit≤}
 use lib.IntN.{ℤ, pos, negsuc, negℤ, _+ℤ_, _*ℤ_}
 use lib.ListN.{getD}
 use lib.Signed.{quotZ}
-use Rattle.arith.specs.Rounding.{roundedUp}
+use Rattle.arith.specs.inner.Rounding.{roundedUp}
 use Rattle.arith.specs.Fractions.{nat}
 use Rattle.arith.proofs.Rings.{∀₂, ∀₃, ∀₄, ∀₅, by-ring, by-cert, to, _⊞_, _⊠_}
 use Rattle.arith.proofs.Integers.{_≼_}
@@ -19,7 +19,7 @@ use Rattle.arith.proofs.Signs.{div-eq, le-int}
 use Rattle.arith.proofs.RationalOrder.{above-0, unit, unit-times, nat-q, div-le}
 use Rattle.arith.proofs.RationalRounding.{div-down, down-le, down-lt, ceil-up, up-le, up-lt}
 use Rattle.arith.proofs.FractionsInRationals.{mk-int}
-use Rattle.springs.specs.Promise.{found}
+use Rattle.springs.specs.inner.Promise.{found}
 use Rattle.springs.proofs.Chain.{natℚ}
 use Rattle.statics.proofs.Errors.{Off, off-neg, off-zero}
 

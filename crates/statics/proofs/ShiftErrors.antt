@@ -13,7 +13,7 @@ use Rattle.arith.proofs.RationalTerms.{qq}
 use Rattle.arith.proofs.FractionsInRationals.{sumℚ, mk-add, mk-sub, mk-mul, mk-abs}
 use Rattle.springs.specs.Equations as S
 use Rattle.springs.specs.Equations.{shift}
-use Rattle.springs.specs.Promise.{found}
+use Rattle.springs.specs.inner.Promise.{found}
 use Rattle.springs.proofs.Chain.{natℚ}
 use Rattle.sheet.specs.declared.Lash.{Lash}
 use Rattle.statics.specs.Lashes.{athwartPart}

@@ -3,7 +3,7 @@ use mathlib.Core.List.{List, [], _∷_, map}
 use Prim.Native.Nat.{ℕ}
 use Rattle.sheet.specs.Ends.{End, door, closed, tiersOf, lashesOf}
 use Rattle.sheet.specs.Lashings.{levelOf}
-use Rattle.arith.specs.Fractions.{Frac, nat}
+use Rattle.arith.specs.Fractions.{Frac, nat, _≈_}
 use Rattle.springs.specs.Equations as S
 use Rattle.sheet.specs.declared.Tier.{Tier}
 use Rattle.sheet.specs.declared.Lash.{Lash}
@@ -38,3 +38,9 @@ endLashes e t = chainLashes (lashesOf e t)
 -- Ds are shifts of the levels that solve the equations of an end
 pub record EndSolved (rule : Rule) (e : End) (t : Sheet) (Ds : List Frac) : Type 0 where
   pub solves : S.Solves (endTiers rule e t) (endLashes e t) Ds
+
+-- exactly one solution in fractions: there is one, and any two agree up to cross products
+pub record OneSolution (rule : Rule) (e : End) (t : Sheet) : Type 0 where
+  pub shifts : List Frac
+  pub exists : EndSolved rule e t shifts
+  pub unique : (Ds Es : List Frac) → EndSolved rule e t Ds → EndSolved rule e t Es → (i : ℕ) → S.shift Ds i ≈ S.shift Es i

@@ -19,12 +19,6 @@ pub record Proper (rule : Rule) : Type 0 where
   pub share-most : rule .share ⊑ nat 1
   pub factor-least : nat 0 ⊑ rule .factor
 
--- exactly one solution in fractions: there is one, and any two agree up to cross products
-pub record OneSolution (rule : Rule) (e : End) (t : Sheet) : Type 0 where
-  pub shifts : List Frac
-  pub exists : EndSolved rule e t shifts
-  pub unique : (Ds Es : List Frac) → EndSolved rule e t Ds → EndSolved rule e t Es → (i : ℕ) → shift Ds i ≈ shift Es i
-
 -- no level shifts to windward
 abbrev pub NoWindwardShift : Rule → End → Sheet → Type 0
 NoWindwardShift rule e t = (Ds : List Frac) → EndSolved rule e t Ds → (i : ℕ) → nat 0 ⊑ shift Ds i

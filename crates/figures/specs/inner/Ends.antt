@@ -3,12 +3,11 @@ use mathlib.Core.Path.{_≡_}
 use mathlib.Core.List.{List}
 use Prim.Native.Nat.{ℕ, _^_, _<_, _≤_}
 use lib.ListN.{getD, length}
-use Rattle.sheet.specs.Lashings.{atLevel}
+use Rattle.sheet.specs.inner.Limits.{atLevel, LashLimits}
 use Rattle.sheet.specs.Layout.{blankLash, blankTier}
 use Rattle.sheet.specs.declared.Tier.{Tier}
 use Rattle.sheet.specs.declared.Lash.{Lash}
 use Rattle.statics.specs.declared.LoadRule.{LoadRule}
-use Rattle.sheet.specs.inner.Limits.{LashLimits}
 use Rattle.statics.specs.inner.WholeNumbers.{halfWeight}
 use Rattle.statics.specs.inner.Computed.{loadsOf}
 

@@ -5,7 +5,7 @@ use lib.Dec.{lit<, lit≤}
 use lib.IntN.{pos, natAbs}
 use mir.Syntax.{w32}
 use mir.ValLaws.{toZ-ofZ}
-use Rattle.arith.specs.Rounding.{roundedUp}
+use Rattle.arith.specs.inner.Rounding.{roundedUp}
 use Rattle.arith.proofs.Sizes.{fits32, fits64, small-weaken, small-neg}
 use Rattle.statics.specs.inner.WholeNumbers.{rackingPad}
 use Rattle.figures_levels.proofs.LevelLaws.{size-small, size-padded, newtons-small, newtons-of, figure-below, figure-from}

@@ -1,16 +1,22 @@
 -- For contracts of inner functions: document 01's limits in numbers, of a tier, of a lash, of an end and of a whole sheet. A sheet that
 -- `Fits` has them, which is proved; nothing here need be believed.
-use Prim.Native.Nat.{ℕ, _<_, _≤_}
-use mathlib.Core.List.{List}
+use Prim.Native.Nat.{ℕ, _+_, _<_, _≤_}
+use mathlib.Core.Bool.{cond}
+use mathlib.Core.List.{List, [], _∷_}
 use mathlib.Core.Logic.{_⊎_}
 use mathlib.Core.Path.{_≡_}
 use lib.ListN.{getD, length}
 use Rattle.sheet.specs.declared.Tier.{Tier}
 use Rattle.sheet.specs.declared.Lash.{Lash}
 use Rattle.sheet.specs.declared.Sheet.{Sheet}
-use Rattle.sheet.specs.Layout.{blankTier, blankLash}
-use Rattle.sheet.specs.Lashings.{levelOf, atLevel}
+use Rattle.sheet.specs.Layout.{_is_, blankTier, blankLash}
+use Rattle.sheet.specs.Lashings.{levelOf}
 use Rattle.sheet.specs.Ends.{End, tiersOf, lashesOf}
+
+-- how many of the lashes lie at level i
+unfoldable pub atLevel : ℕ → List Lash → ℕ
+atLevel i [] = 0
+atLevel i (l ∷ ls) = cond (i is levelOf l) 1 0 + atLevel i ls
 
 pub record BreakingLimits (x : ℕ) : Type 0 where
   pub some : 1 ≤ x

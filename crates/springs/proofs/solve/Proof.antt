@@ -3,7 +3,7 @@ use mathlib.Core.List.{List}
 use mathlib.Core.Path.{_≡_, refl, sym, subst}
 use Prim.Native.Nat.{ℕ}
 use native.Mathlib.Omega.{arith}
-use Rattle.springs.specs.Promise.{Solvable, Promised}
+use Rattle.springs.specs.inner.Promise.{Solvable, Promised}
 use Rattle.springs.specs.inner.Elimination.{solved}
 use Rattle.springs.proofs.Loops.{zeros}
 use Rattle.springs.proofs.Solved.{solved-promised}

@@ -8,7 +8,7 @@ use lib.ListN.{getD}
 use Rattle.arith.specs.Fractions.{Frac, nat, _-q_, _*q_, _/q_, absq, _⊑_, sumq}
 use Rattle.arith.specs.Lists.{below}
 use Rattle.springs.specs.Equations.{Tier, Lash, tierAt, shift, racking, Solves}
-use Rattle.springs.specs.Promise.{stiffnessScale, shiftScale, Near}
+use Rattle.springs.specs.inner.Promise.{stiffnessScale, shiftScale, Near}
 use Rattle.springs.specs.inner.Elimination.{divisor, stiffnessTo, shiftAt}
 
 -- the spring between levels i and i + 1, of n tiers: 0 over the uppermost level

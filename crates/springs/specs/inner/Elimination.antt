@@ -7,9 +7,9 @@ use Prim.Native.Nat.{ℕ, zero, suc, _+_, _*_, _-_, _≤_}
 use lib.Dec.{ltb}
 use lib.ListN.{getD}
 use Rattle.arith.specs.Lists.{below}
-use Rattle.arith.specs.Rounding.{scaledDown}
+use Rattle.arith.specs.inner.Rounding.{scaledDown}
 use Rattle.springs.specs.Equations.{doorSpring, closedSpring}
-use Rattle.springs.specs.Promise.{stiffnessScale, mostHeld, mostLoaded}
+use Rattle.springs.specs.inner.Promise.{stiffnessScale, mostHeld, mostLoaded}
 
 -- a tier of spring k, over it a level of lashes κ and load ω, to which the tiers above hand down the stiffness x and the load y
 abbrev pub divisor : ℕ → ℕ → ℕ → ℕ

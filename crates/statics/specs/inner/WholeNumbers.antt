@@ -9,7 +9,7 @@ use lib.Dec.{eqb}
 use lib.ListN.{drop, getD, length}
 use lib.IntN.{ℤ, pos, negsuc, negℤ, _+ℤ_, _-ℤ_, _*ℤ_}
 use lib.Signed.{quotZ}
-use Rattle.arith.specs.Rounding.{roundedUp}
+use Rattle.arith.specs.inner.Rounding.{roundedUp}
 use Rattle.sheet.specs.Layout.{exposed}
 use Rattle.sheet.specs.declared.Tier.{Tier}
 use Rattle.sheet.specs.declared.Lash.{Lash}
