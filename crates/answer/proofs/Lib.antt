@@ -1,3 +1,9 @@
--- What the functions' proofs rest on.
-mod AnswerLaws
-mod CheckLaws
+-- Theorems for the reader and for the crates above.
+pub mod Table
+pub mod Accepted
+pub mod ReadBack
+pub mod Longest
+pub mod Numbers
+pub mod Consequences
+pub mod Named
+pub mod Theorems

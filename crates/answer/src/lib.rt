@@ -1,28 +1,7 @@
-// The check: bytes of a stack sheet in, bytes of an answer out.
+// What a check reports. specs/ has the limits, the findings, the answer's bytes and what `check` says; proofs/ what follows from it.
 
-mod encode; // encode.rt: the answer's bytes
-
-ghost use Rattle.report.specs.Checked.{Checked, demanded, kept};
-use report::Outcome;
-use sheet::Reading;
-
-// The check of a stack sheet. A taken sheet's answer is written from the buffer's start; a refusal leaves the buffer as it was.
-pub fn check(sheet: &[u8], answer: &mut [u8]) -> Outcome
-    ensures within { λ r. ⌜ Checked kept (now (sheet .entry)) (now (answer .entry)) (now (answer .exit)) r ⌝ }
-    ensures asked { λ r. ⌜ Checked demanded (now (sheet .entry)) (now (answer .entry)) (now (answer .exit)) r ⌝ }
-{
-    let decoded = decoder::decode(sheet);
-    let reading = decoded.reading;
-    match reading {
-        Reading::Refused(number, second) => Outcome::Refused(number, second),
-        Reading::Taken => {
-            if answer.len() < encode::LONGEST {
-                return Outcome::Refused(13, encode::LONGEST);
-            }
-            let t = decoded.sheet;
-            let f = forces::figures_of(t);
-            let n = encode::write_answer(answer, t, f);
-            Outcome::Taken(n)
-        }
-    }
+// What a check returns: the answer's length, or the two numbers of a refusal.
+pub enum Outcome {
+    Taken(usize),
+    Refused(u64, usize),
 }

@@ -5,8 +5,9 @@
 --     law = ∀₃ ℤR _ λ ρ. simp zq λ h l. CLOSER
 --
 -- `∀₃` (to ∀₁₂, ∀₁₄, ∀₁₆) names the variables v 0, v 1, v 2, in their order. `simp zq` reads the statement: sums, differences, products,
--- negations and whole numbers, joined by ≡ or ≼. Over ℚ it is ℚR, `simp qq`, ≤ℚ and `int (pos 3)`; over a ring R that is a variable, R and `simp gq`.
--- `λ h l.` takes the hypotheses. A quotient or an absolute value in a statement becomes a variable with what is known of it as hypotheses.
+-- negations and whole numbers, joined by ≡ or ≼. Over ℚ it is ℚR, `simp qq`, ≤ℚ and `int (pos 3)`; over a ring R that is a variable, R and
+-- `simp gq`. `λ h l.` takes the hypotheses. A quotient or an absolute value in a statement becomes a variable with what is known of it as
+-- hypotheses.
 --
 -- Closers, each with a last argument `tt`, for which antt computes that nothing is left over:
 --     by-ring tt       an identity
@@ -23,9 +24,10 @@
 -- To find c: write b - a as a sum of products of what is not below 0. Where `tt` is refused (⊥ against Unit), `look c ?` in place of
 -- `by-cert c tt`, checked with --allow-holes, prints what is left: `negsuc 0 · (1 ∷ 2 ∷ [])` is - v 1 * v 2.
 --
--- A linear statement over ℤ, absolute values too, needs no certificate: `all₃ _ λ p n q m r s. simp zs (omega arith)`, two naturals a variable.
--- A statement in fractions (specs/Fractions) is proved in ℚ: `to-≈`, `to-⊑`, `to-⊏` ask for it there, `of-≈`, `of-⊑`, `of-⊏` bring hypotheses
--- along, and `simp toℚ` takes `mk` through sums, products, quotients, sizes and sums over lists.
+-- A linear statement over ℤ, absolute values too, needs no certificate: `all₃ _ λ p n q m r s. simp zs (omega arith)`, two naturals a
+-- variable.
+-- A statement in fractions (specs/Fractions) is proved in ℚ: `to-≈`, `to-⊑`, `to-⊏` ask for it there, `of-≈`, `of-⊑`, `of-⊏` bring
+-- hypotheses along, and `simp toℚ` takes `mk` through sums, products, quotients, sizes and sums over lists.
 use mathlib.Core.Path.{_≡_}
 use native.Mathlib.Omega.{arith}
 use lib.IntN.{ℤ, pos, _+ℤ_, _-ℤ_, _*ℤ_}
@@ -47,7 +49,10 @@ pub square-of-sum : (a b : ℤ) → (a +ℤ b) *ℤ (a +ℤ b) ≡ a *ℤ a +ℤ
 square-of-sum = ∀₂ ℤR _ λ ρ. simp zq (by-ring tt)
 
 -- the same in any ordered ring
-pub square-of-difference : (R : ORing) (a b : R .C) → R .times (R .plus a (R .minus b)) (R .plus a (R .minus b)) ≡ R .plus (R .plus (R .times a a) (R .minus (R .times (R .int (pos 2)) (R .times a b)))) (R .times b b)
+pub square-of-difference :
+    (R : ORing) (a b : R .C) →
+    R .times (R .plus a (R .minus b)) (R .plus a (R .minus b)) ≡
+    R .plus (R .plus (R .times a a) (R .minus (R .times (R .int (pos 2)) (R .times a b)))) (R .times b b)
 square-of-difference R = ∀₂ R _ λ ρ. simp gq (by-ring tt)
 
 -- an inequality: 4 a b is below the square of a + b by the square of a - b

@@ -18,7 +18,13 @@ use Rattle.arith.specs.Bytes.{le2, le4, bytes2, bytes4, twos, ofTwos, si
 digits2 : (v : ℕ) → v < 65536 → v % 256 + 256 * (v / 256 % 256) ≡ v
 digits2 v h = omega arith
 
-digits4-of : (v a b d : ℕ) → a ≡ v / 256 → b ≡ a / 256 → d ≡ b / 256 → v < 4294967296 → v % 256 + 256 * (a % 256) + 65536 * (b % 256 + 256 * (d % 256)) ≡ v
+digits4-of :
+    (v a b d : ℕ) →
+    a ≡ v / 256 →
+    b ≡ a / 256 →
+    d ≡ b / 256 →
+    v < 4294967296 →
+    v % 256 + 256 * (a % 256) + 65536 * (b % 256 + 256 * (d % 256)) ≡ v
 digits4-of v a b d p q r h = omega arith
 
 digits4 : (v : ℕ) → v < 4294967296 → v % 256 + 256 * (v / 256 % 256) + 65536 * (v / 65536 % 256 + 256 * (v / 16777216 % 256)) ≡ v

@@ -10,8 +10,8 @@ use lib.Signed.{ltZ, quotZ, remZ, mag, mag-rem}
 use mir.Syntax.{w64}
 use mir.Val.{SFits, toZ}
 use mir.ValLaws.{sfits-le, toZ-ofZ}
-use Rattle.arith.specs.Rounding.{roundedUpZ}
-use Rattle.arith.specs.Sizes.{Small}
+use Rattle.arith.specs.inner.Rounding.{roundedUpZ}
+use Rattle.arith.specs.inner.Sizes.{Small}
 use Rattle.arith.proofs.Quotients.{up-step, up-level, step-le}
 use Rattle.arith.proofs.Sizes.{natAbs-quot}
 

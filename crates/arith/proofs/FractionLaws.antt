@@ -1,5 +1,6 @@
 -- The laws of fractions (specs/Fractions): an ordered field up to the equality by cross products. From the algebra over ℤ.
--- A law over three fractions is `F₃ _ λ ρ p q r. simp cross (simp zq (by-ring tt))`: v 0 / v 1, v 2 / v 3, v 4 / v 5, and p q r say that v 1, v 3, v 5 are at least 1.
+-- A law over three fractions is `F₃ _ λ ρ p q r. simp cross (simp zq (by-ring tt))`: v 0 / v 1, v 2 / v 3, v 4 / v 5, and p q r say that
+-- v 1, v 3, v 5 are at least 1.
 use mathlib.Core.Path.{_≡_, sym, _∙_}
 use mathlib.Core.Logic.{_↔_, _⊎_, inl, inr}
 use mathlib.Core.List.{List, [], _∷_}
@@ -7,7 +8,8 @@ use Prim.Native.Nat.{ℕ, zero, suc}
 use lib.IntN.{ℤ, pos, negsuc, _+ℤ_, _*ℤ_, *ℤ-comm}
 use Rattle.arith.specs.Fractions.{Frac, _≈_, _⊑_, one-le, int, _+q_, _*q_, negq, recip-at, recip}
 use Rattle.arith.proofs.Polynomials.{E, v, kp, kn, _⊗_}
-use Rattle.arith.proofs.Rings.{X, Le, ∀₁, ∀₂, ∀₄, by-ring, by-cert, by-eqs, over, over-eq, to, times, mul-eq, sq, num, contra, _⊞_, _⊠_, _⊹_}
+use Rattle.arith.proofs.Rings.{X, Le, ∀₁, ∀₂, ∀₄, by-ring, by-cert, by-eqs, over, over-eq, to, times, mul-eq, sq, num, contra, _⊞_}
+use Rattle.arith.proofs.Rings.{_⊠_, _⊹_}
 use Rattle.arith.proofs.Integers.{ℤR, _≼_, nn-pos, antisym}
 use Rattle.arith.proofs.IntegerTerms.{zq}
 use Rattle.arith.proofs.IntegerOrder.{≼-refl, total}
@@ -32,13 +34,24 @@ pub F₁ : (C : Frac → Type 0) → ((ρ : List ℤ) (p : Le ℤR ρ (kp 1) (v 
 unfolding un X
 F₁ C f x = f (x .top ∷ x .bot ∷ []) (record { ineq = x .ok })
 
-pub F₂ : (C : Frac → Frac → Type 0) → ((ρ : List ℤ) (p : Le ℤR ρ (kp 1) (v 1)) (q : Le ℤR ρ (kp 1) (v 3)) → C (frac ρ (v 0) (v 1) p) (frac ρ (v 2) (v 3) q)) → (x y : Frac) → C x y
+pub F₂ :
+    (C : Frac → Frac → Type 0) →
+    ((ρ : List ℤ) (p : Le ℤR ρ (kp 1) (v 1)) (q : Le ℤR ρ (kp 1) (v 3)) → C (frac ρ (v 0) (v 1) p) (frac ρ (v 2) (v 3) q)) →
+    (x y : Frac) →
+    C x y
 unfolding un X
 F₂ C f x y = f (x .top ∷ x .bot ∷ y .top ∷ y .bot ∷ []) (record { ineq = x .ok }) (record { ineq = y .ok })
 
-pub F₃ : (C : Frac → Frac → Frac → Type 0) → ((ρ : List ℤ) (p : Le ℤR ρ (kp 1) (v 1)) (q : Le ℤR ρ (kp 1) (v 3)) (r : Le ℤR ρ (kp 1) (v 5)) → C (frac ρ (v 0) (v 1) p) (frac ρ (v 2) (v 3) q) (frac ρ (v 4) (v 5) r)) → (x y z : Frac) → C x y z
+pub F₃ :
+    (C : Frac → Frac → Frac → Type 0) →
+    ((ρ : List ℤ) (p : Le ℤR ρ (kp 1) (v 1)) (q : Le ℤR ρ (kp 1) (v 3)) (r : Le ℤR ρ (kp 1) (v 5)) →
+    C (frac ρ (v 0) (v 1) p) (frac ρ (v 2) (v 3) q) (frac ρ (v 4) (v 5) r)) →
+    (x y z : Frac) →
+    C x y z
 unfolding un X
-F₃ C f x y z = f (x .top ∷ x .bot ∷ y .top ∷ y .bot ∷ z .top ∷ z .bot ∷ []) (record { ineq = x .ok }) (record { ineq = y .ok }) (record { ineq = z .ok })
+F₃ C f x y z =
+    f (x .top ∷ x .bot ∷ y .top ∷ y .bot ∷ z .top ∷ z .bot ∷ []) (record { ineq = x .ok }) (record { ineq = y .ok })
+    (record { ineq = z .ok })
 
 -- the laws
 pub ≈-refl : (x : Frac) → x ≈ x
@@ -95,7 +108,8 @@ pub ⊑-refl : (x : Frac) → x ⊑ x
 ⊑-refl = F₁ _ λ ρ p. simp cross (simp zq (by-cert (num 0) tt))
 
 pub ⊑-trans : (x y z : Frac) → x ⊑ y → y ⊑ z → x ⊑ z
-⊑-trans = F₃ _ λ ρ p q r. simp cross (simp zq λ h g. over (v 3) (λ l. contra (to q ⊞ to l) tt) ((to r ⊞ num 1) ⊠ to h ⊞ (to p ⊞ num 1) ⊠ to g) tt)
+⊑-trans =
+    F₃ _ λ ρ p q r. simp cross (simp zq λ h g. over (v 3) (λ l. contra (to q ⊞ to l) tt) ((to r ⊞ num 1) ⊠ to h ⊞ (to p ⊞ num 1) ⊠ to g) tt)
 
 pub ≈⊑ : (x y : Frac) → x ≈ y → x ⊑ y
 ≈⊑ = F₂ _ λ ρ p q. simp cross (simp zq λ h. by-cert (times (kn 0) h) tt)

@@ -1,4 +1,5 @@
--- Fractions in ℚ: `mk` takes each operation and order of specs/Fractions to that of ℚ and back, so that a statement in fractions is proved in ℚ.
+-- Fractions in ℚ: `mk` takes each operation and order of specs/Fractions to that of ℚ and back, so that a statement in fractions is
+-- proved in ℚ.
 use mathlib.Core.Path.{_≡_, refl, sym, ap, subst, _∙_}
 use mathlib.Core.Bool.{Bool, true, false, not, cond}
 use mathlib.Core.List.{List, [], _∷_}
@@ -62,7 +63,10 @@ up x h = go (x .top) (x .bot) (x .ok) h
 down : (x : Frac) → x .top ≼ pos 0 → mk (absq x) ≡ mk (negq x)
 down x h = go (x .top) (x .bot) (x .ok) h
   where
-    go : (a b : ℤ) (p : pos 1 ≼ b) → a ≼ pos 0 → mk (absq (record { top = a; bot = b; ok = p })) ≡ mk (negq (record { top = a; bot = b; ok = p }))
+    go :
+        (a b : ℤ) (p : pos 1 ≼ b) →
+        a ≼ pos 0 →
+        mk (absq (record { top = a; bot = b; ok = p })) ≡ mk (negq (record { top = a; bot = b; ok = p }))
     go (pos zero) b p h = refl
     go (pos (suc n)) b p h = absurd (no-less (leb→le (suc n) 0 (h .le)))
       where

@@ -1,5 +1,5 @@
--- ℤ for omega: each integer is a difference of two naturals, `D p n`, and the set `zs` takes an order or an equation between sums, differences
--- and products of such to one between naturals. `all₂ λ p n q m. simp zs (omega arith)` proves a statement over two integers.
+-- ℤ for omega: each integer is a difference of two naturals, `D p n`, and the set `zs` takes an order or an equation between sums,
+-- differences and products of such to one between naturals. `all₂ λ p n q m. simp zs (omega arith)` proves a statement over two integers.
 use mathlib.Core.Path.{_≡_, sym, ap, subst, _∙_}
 use mathlib.Core.Logic.{_↔_}
 use mathlib.Core.List.{[], _∷_}
@@ -26,7 +26,8 @@ D-neg p n = ring ℤR (pos p ∷ pos n ∷ []) (⊖ (v 0 ⊖ v 1)) (v 1 ⊖ v 0)
 
 pub D-mul : (p n q m : ℕ) → D p n *ℤ D q m ≡ D (p * q + n * m) (p * m + n * q)
 unfolding D
-D-mul p n q m = ring ℤR (pos p ∷ pos n ∷ pos q ∷ pos m ∷ []) ((v 0 ⊖ v 1) ⊗ (v 2 ⊖ v 3)) (v 0 ⊗ v 2 ⊕ v 1 ⊗ v 3 ⊖ (v 0 ⊗ v 3 ⊕ v 1 ⊗ v 2)) tt
+D-mul p n q m =
+    ring ℤR (pos p ∷ pos n ∷ pos q ∷ pos m ∷ []) ((v 0 ⊖ v 1) ⊗ (v 2 ⊖ v 3)) (v 0 ⊗ v 2 ⊕ v 1 ⊗ v 3 ⊖ (v 0 ⊗ v 3 ⊕ v 1 ⊗ v 2)) tt
 
 pub D-pos : (n : ℕ) → pos n ≡ D n 0
 unfolding D
@@ -45,15 +46,29 @@ nat-le p n h = record { le = lib.Dec.le→leb p n h }
 pub D-le : (p n q m : ℕ) → (D p n ≼ D q m) ↔ (p + m ≤ q + n)
 unfolding D
 D-le p n q m = (
-  (λ h. le-nat (p + m) (q + n) (of-nn (pos (p + m)) (pos (q + n)) (subst (λ z. pos 0 ≼ z) (ring ℤR (pos p ∷ pos n ∷ pos q ∷ pos m ∷ []) (v 2 ⊖ v 3 ⊖ (v 0 ⊖ v 1)) (v 2 ⊕ v 1 ⊖ (v 0 ⊕ v 3)) tt) (to-nn (pos p -ℤ pos n) (pos q -ℤ pos m) h)))),
-  (λ h. of-nn (pos p -ℤ pos n) (pos q -ℤ pos m) (subst (λ z. pos 0 ≼ z) (ring ℤR (pos p ∷ pos n ∷ pos q ∷ pos m ∷ []) (v 2 ⊕ v 1 ⊖ (v 0 ⊕ v 3)) (v 2 ⊖ v 3 ⊖ (v 0 ⊖ v 1)) tt) (to-nn (pos (p + m)) (pos (q + n)) (nat-le (p + m) (q + n) h)))),
+  (λ h.
+      le-nat (p + m) (q + n)
+      (of-nn (pos (p + m)) (pos (q + n))
+      (subst (λ z. pos 0 ≼ z) (ring ℤR (pos p ∷ pos n ∷ pos q ∷ pos m ∷ []) (v 2 ⊖ v 3 ⊖ (v 0 ⊖ v 1)) (v 2 ⊕ v 1 ⊖ (v 0 ⊕ v 3)) tt)
+      (to-nn (pos p -ℤ pos n) (pos q -ℤ pos m) h)))),
+  (λ h.
+      of-nn (pos p -ℤ pos n) (pos q -ℤ pos m)
+      (subst (λ z. pos 0 ≼ z) (ring ℤR (pos p ∷ pos n ∷ pos q ∷ pos m ∷ []) (v 2 ⊕ v 1 ⊖ (v 0 ⊕ v 3)) (v 2 ⊖ v 3 ⊖ (v 0 ⊖ v 1)) tt)
+      (to-nn (pos (p + m)) (pos (q + n)) (nat-le (p + m) (q + n) h)))),
 )
 
 pub D-eq : (p n q m : ℕ) → (D p n ≡ D q m) ↔ (p + m ≡ q + n)
 unfolding D
 D-eq p n q m = (
-  (λ h. ap natAbs (ring ℤR (pos p ∷ pos n ∷ pos m ∷ []) (v 0 ⊕ v 2) (v 0 ⊖ v 1 ⊕ (v 1 ⊕ v 2)) tt ∙ ap (λ z. z +ℤ (pos n +ℤ pos m)) h ∙ ring ℤR (pos n ∷ pos q ∷ pos m ∷ []) (v 1 ⊖ v 2 ⊕ (v 0 ⊕ v 2)) (v 1 ⊕ v 0) tt)),
-  (λ h. ring ℤR (pos p ∷ pos n ∷ pos m ∷ []) (v 0 ⊖ v 1) (v 0 ⊕ v 2 ⊖ (v 1 ⊕ v 2)) tt ∙ ap (λ z. pos z -ℤ (pos n +ℤ pos m)) h ∙ ring ℤR (pos n ∷ pos q ∷ pos m ∷ []) (v 1 ⊕ v 0 ⊖ (v 0 ⊕ v 2)) (v 1 ⊖ v 2) tt),
+  (λ h.
+      ap natAbs
+      (ring ℤR (pos p ∷ pos n ∷ pos m ∷ []) (v 0 ⊕ v 2) (v 0 ⊖ v 1 ⊕ (v 1 ⊕ v 2)) tt
+      ∙ ap (λ z. z +ℤ (pos n +ℤ pos m)) h
+      ∙ ring ℤR (pos n ∷ pos q ∷ pos m ∷ []) (v 1 ⊖ v 2 ⊕ (v 0 ⊕ v 2)) (v 1 ⊕ v 0) tt)),
+  (λ h.
+      ring ℤR (pos p ∷ pos n ∷ pos m ∷ []) (v 0 ⊖ v 1) (v 0 ⊕ v 2 ⊖ (v 1 ⊕ v 2)) tt
+      ∙ ap (λ z. pos z -ℤ (pos n +ℤ pos m)) h
+      ∙ ring ℤR (pos n ∷ pos q ∷ pos m ∷ []) (v 1 ⊕ v 0 ⊖ (v 0 ⊕ v 2)) (v 1 ⊖ v 2) tt),
 )
 
 -- the absolute value: of the two truncated differences one is 0
@@ -97,10 +112,18 @@ all₃ C f x y z = all₁ (λ x. C x y z) (λ p n. all₂ (C (D p n)) (f p n) y 
 pub all₄ : (C : ℤ → ℤ → ℤ → ℤ → Type 0) → ((p n q m r s t u : ℕ) → C (D p n) (D q m) (D r s) (D t u)) → (x y z w : ℤ) → C x y z w
 all₄ C f x y z w = all₁ (λ x. C x y z w) (λ p n. all₃ (C (D p n)) (f p n) y z w) x
 
-pub all₅ : (C : ℤ → ℤ → ℤ → ℤ → ℤ → Type 0) → ((p n q m r s t u w x : ℕ) → C (D p n) (D q m) (D r s) (D t u) (D w x)) → (x y z w a : ℤ) → C x y z w a
+pub all₅ :
+    (C : ℤ → ℤ → ℤ → ℤ → ℤ → Type 0) →
+    ((p n q m r s t u w x : ℕ) → C (D p n) (D q m) (D r s) (D t u) (D w x)) →
+    (x y z w a : ℤ) →
+    C x y z w a
 all₅ C f x y z w a = all₁ (λ x. C x y z w a) (λ p n. all₄ (C (D p n)) (f p n) y z w a) x
 
-pub all₆ : (C : ℤ → ℤ → ℤ → ℤ → ℤ → ℤ → Type 0) → ((p n q m r s t u w x y z : ℕ) → C (D p n) (D q m) (D r s) (D t u) (D w x) (D y z)) → (x y z w a b : ℤ) → C x y z w a b
+pub all₆ :
+    (C : ℤ → ℤ → ℤ → ℤ → ℤ → ℤ → Type 0) →
+    ((p n q m r s t u w x y z : ℕ) → C (D p n) (D q m) (D r s) (D t u) (D w x) (D y z)) →
+    (x y z w a b : ℤ) →
+    C x y z w a b
 all₆ C f x y z w a b = all₁ (λ x. C x y z w a b) (λ p n. all₅ (C (D p n)) (f p n) y z w a b) x
 
 -- a signed number fits its width where it lies between -H and H - 1: `mag z < H` is what MIR asks (mir.Val.SFits)

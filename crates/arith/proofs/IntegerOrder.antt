@@ -71,7 +71,9 @@ abs-le (pos n) b h l = h
 abs-le (negsuc n) b h l = l
 
 pub abs-add : (x y : ℤ) → abs (x +ℤ y) ≼ abs x +ℤ abs y
-abs-add x y = abs-le (x +ℤ y) (abs x +ℤ abs y) (≼-add x (abs x) y (abs y) (abs-ge x) (abs-ge y)) (subst (λ z. z ≼ abs x +ℤ abs y) (sym (negℤ-+ℤ x y)) (≼-add (negℤ x) (abs x) (negℤ y) (abs y) (abs-ge-neg x) (abs-ge-neg y)))
+abs-add x y =
+    abs-le (x +ℤ y) (abs x +ℤ abs y) (≼-add x (abs x) y (abs y) (abs-ge x) (abs-ge y))
+    (subst (λ z. z ≼ abs x +ℤ abs y) (sym (negℤ-+ℤ x y)) (≼-add (negℤ x) (abs x) (negℤ y) (abs y) (abs-ge-neg x) (abs-ge-neg y)))
 
 pub abs-mul : (x y : ℤ) → abs (x *ℤ y) ≡ abs x *ℤ abs y
 abs-mul x y = ap pos (natAbs-mul x y)

@@ -72,4 +72,26 @@ z-neg-eq = O.q-neg-eq ℤR
 pub z-eq-neg : (ρ : List ℤ) (a : E) (n : ℕ) → (X ℤR ρ a ≡ negsuc n) ↔ Eq ℤR ρ a (kn n)
 z-eq-neg = O.q-eq-neg ℤR
 
-pub ruleset zq = (z-add, z-mul, z-neg, z-pos-add, z-add-pos, z-neg-add, z-add-neg, z-pos-mul, z-mul-pos, z-neg-mul, z-mul-neg, z-eq, z-eq-pos, z-pos-eq, z-eq-neg, z-neg-eq, z-le, z-pos-le, z-le-pos, z-neg-le, z-le-neg)
+pub ruleset zq = (
+  z-add,
+  z-mul,
+  z-neg,
+  z-pos-add,
+  z-add-pos,
+  z-neg-add,
+  z-add-neg,
+  z-pos-mul,
+  z-mul-pos,
+  z-neg-mul,
+  z-mul-neg,
+  z-eq,
+  z-eq-pos,
+  z-pos-eq,
+  z-eq-neg,
+  z-neg-eq,
+  z-le,
+  z-pos-le,
+  z-le-pos,
+  z-neg-le,
+  z-le-neg,
+)

@@ -4,7 +4,8 @@ use mathlib.Core.Bool.{Bool, true, false, cond}
 use Prim.Native.Nat.{ℕ, zero, suc, _+_, _-_, _*_, _≤_}
 use native.Mathlib.Omega.{arith}
 use lib.Dec.{T, leb→le, le→leb, ltb}
-use lib.IntN.{ℤ, pos, negsuc, predℤ, negℤ, natAbs, one, _+ℤ_, _-ℤ_, _*ℤ_, +ℤ-idl, +ℤ-idr, +ℤ-assoc, +ℤ-comm, +ℤ-invr, +ℤ-invl, sucℤ-+ℤ, predℤ-+ℤ, sucℤ-*ℤ, predℤ-*ℤ, zero-*ℤ, *ℤ-comm, *ℤ-one, negℤ-+ℤ, +ℤ-negℤ-cancel, negℤ-negℤ}
+use lib.IntN.{ℤ, pos, negsuc, predℤ, negℤ, natAbs, one, _+ℤ_, _-ℤ_, _*ℤ_, +ℤ-idl, +ℤ-idr, +ℤ-assoc, +ℤ-comm, +ℤ-invr, +ℤ-invl, sucℤ-+ℤ}
+use lib.IntN.{predℤ-+ℤ, sucℤ-*ℤ, predℤ-*ℤ, zero-*ℤ, *ℤ-comm, *ℤ-one, negℤ-+ℤ, +ℤ-negℤ-cancel, negℤ-negℤ}
 use lib.Signed.{_≤ℤ_, leZ, yes-nonNeg, pos-natAbs, ≤ℤ-refl}
 use Rattle.arith.proofs.Rings.{ORing}
 
@@ -18,16 +19,27 @@ pub ruleset +ac = (+ℤ-assoc, +ℤ-comm, +ℤ-left)
 add-mul-pos : (n : ℕ) (k c : ℤ) → (pos n +ℤ k) *ℤ c ≡ pos n *ℤ c +ℤ k *ℤ c
 add-mul-pos zero k c = rw (+ℤ-idl k, zero-*ℤ c, +ℤ-idl (k *ℤ c))
 add-mul-pos (suc n) k c =
-    ap (λ x. x *ℤ c) (sucℤ-+ℤ (pos n) k) ∙ sucℤ-*ℤ (pos n +ℤ k) c ∙ ap (λ x. x +ℤ c) (add-mul-pos n k c) ∙ shuffle (pos n *ℤ c) (k *ℤ c) c ∙ ap (λ x. x +ℤ k *ℤ c) (sym (sucℤ-*ℤ (pos n) c))
+    ap (λ x. x *ℤ c) (sucℤ-+ℤ (pos n) k)
+    ∙ sucℤ-*ℤ (pos n +ℤ k) c
+    ∙ ap (λ x. x +ℤ c) (add-mul-pos n k c)
+    ∙ shuffle (pos n *ℤ c) (k *ℤ c) c
+    ∙ ap (λ x. x +ℤ k *ℤ c) (sym (sucℤ-*ℤ (pos n) c))
   where
     shuffle : (x y z : ℤ) → x +ℤ y +ℤ z ≡ x +ℤ z +ℤ y
     shuffle x y z = simp +ac
 
 add-mul-neg : (n : ℕ) (k c : ℤ) → (negsuc n +ℤ k) *ℤ c ≡ negsuc n *ℤ c +ℤ k *ℤ c
 add-mul-neg zero k c =
-    ap (λ x. x *ℤ c) (predℤ-+ℤ (pos zero) k ∙ ap predℤ (+ℤ-idl k)) ∙ predℤ-*ℤ k c ∙ +ℤ-comm (k *ℤ c) (negℤ c) ∙ ap (λ x. x +ℤ k *ℤ c) (sym (+ℤ-idl (negℤ c)) ∙ ap (λ x. x -ℤ c) (sym (zero-*ℤ c)) ∙ sym (predℤ-*ℤ (pos zero) c))
+    ap (λ x. x *ℤ c) (predℤ-+ℤ (pos zero) k ∙ ap predℤ (+ℤ-idl k))
+    ∙ predℤ-*ℤ k c
+    ∙ +ℤ-comm (k *ℤ c) (negℤ c)
+    ∙ ap (λ x. x +ℤ k *ℤ c) (sym (+ℤ-idl (negℤ c)) ∙ ap (λ x. x -ℤ c) (sym (zero-*ℤ c)) ∙ sym (predℤ-*ℤ (pos zero) c))
 add-mul-neg (suc n) k c =
-    ap (λ x. x *ℤ c) (predℤ-+ℤ (negsuc n) k) ∙ predℤ-*ℤ (negsuc n +ℤ k) c ∙ ap (λ x. x -ℤ c) (add-mul-neg n k c) ∙ shuffle (negsuc n *ℤ c) (k *ℤ c) (negℤ c) ∙ ap (λ x. x +ℤ k *ℤ c) (sym (predℤ-*ℤ (negsuc n) c))
+    ap (λ x. x *ℤ c) (predℤ-+ℤ (negsuc n) k)
+    ∙ predℤ-*ℤ (negsuc n +ℤ k) c
+    ∙ ap (λ x. x -ℤ c) (add-mul-neg n k c)
+    ∙ shuffle (negsuc n *ℤ c) (k *ℤ c) (negℤ c)
+    ∙ ap (λ x. x +ℤ k *ℤ c) (sym (predℤ-*ℤ (negsuc n) c))
   where
     shuffle : (x y z : ℤ) → x +ℤ y +ℤ z ≡ x +ℤ z +ℤ y
     shuffle x y z = simp +ac
@@ -49,12 +61,18 @@ neg-mulℤ m c = neg-unique (m *ℤ c) (negℤ m *ℤ c) (sym (add-mulℤ m (neg
 mul-assoc-pos : (n : ℕ) (k c : ℤ) → (pos n *ℤ k) *ℤ c ≡ pos n *ℤ (k *ℤ c)
 mul-assoc-pos zero k c = rw (zero-*ℤ k, zero-*ℤ c, zero-*ℤ (k *ℤ c))
 mul-assoc-pos (suc n) k c =
-    ap (λ x. x *ℤ c) (sucℤ-*ℤ (pos n) k) ∙ add-mulℤ (pos n *ℤ k) k c ∙ ap (λ x. x +ℤ k *ℤ c) (mul-assoc-pos n k c) ∙ sym (sucℤ-*ℤ (pos n) (k *ℤ c))
+    ap (λ x. x *ℤ c) (sucℤ-*ℤ (pos n) k)
+    ∙ add-mulℤ (pos n *ℤ k) k c
+    ∙ ap (λ x. x +ℤ k *ℤ c) (mul-assoc-pos n k c)
+    ∙ sym (sucℤ-*ℤ (pos n) (k *ℤ c))
 
 pub mul-assocℤ : (m k c : ℤ) → (m *ℤ k) *ℤ c ≡ m *ℤ (k *ℤ c)
 mul-assocℤ (pos n) k c = mul-assoc-pos n k c
 mul-assocℤ (negsuc n) k c =
-    ap (λ x. x *ℤ c) (neg-mulℤ (pos (suc n)) k) ∙ neg-mulℤ (pos (suc n) *ℤ k) c ∙ ap negℤ (mul-assoc-pos (suc n) k c) ∙ sym (neg-mulℤ (pos (suc n)) (k *ℤ c))
+    ap (λ x. x *ℤ c) (neg-mulℤ (pos (suc n)) k)
+    ∙ neg-mulℤ (pos (suc n) *ℤ k) c
+    ∙ ap negℤ (mul-assoc-pos (suc n) k c)
+    ∙ sym (neg-mulℤ (pos (suc n)) (k *ℤ c))
 
 pub one-mulℤ : (k : ℤ) → pos 1 *ℤ k ≡ k
 unfolding one
@@ -72,7 +90,12 @@ pub record Above (a b : ℤ) : Type 0 where
 
 neg-above : (b n : ℕ) → negsuc b ≡ negsuc (b + n) +ℤ pos n
 neg-above b n =
-    sym (ap (λ (m : ℕ). negℤ (pos m) +ℤ pos n) move ∙ ap (λ z. z +ℤ pos n) (negℤ-+ℤ (pos (suc b)) (pos n)) ∙ +ℤ-assoc (negsuc b) (negℤ (pos n)) (pos n) ∙ ap (λ z. negsuc b +ℤ z) (+ℤ-invl (pos n)) ∙ +ℤ-idr (negsuc b))
+    sym
+    (ap (λ (m : ℕ). negℤ (pos m) +ℤ pos n) move
+    ∙ ap (λ z. z +ℤ pos n) (negℤ-+ℤ (pos (suc b)) (pos n))
+    ∙ +ℤ-assoc (negsuc b) (negℤ (pos n)) (pos n)
+    ∙ ap (λ z. negsuc b +ℤ z) (+ℤ-invl (pos n))
+    ∙ +ℤ-idr (negsuc b))
   where
     move : suc (b + n) ≡ suc b + n
     move = omega arith
@@ -83,7 +106,11 @@ le-above (pos a) (pos b) t = record { by = b - a; is = ap pos (go (leb→le a b 
     go : a ≤ b → b ≡ a + (b - a)
     go h = omega arith
 le-above (pos a) (negsuc b) t = absurd t
-le-above (negsuc a) (pos b) t = record { by = suc a + b; is = sym (sym (+ℤ-assoc (negsuc a) (pos (suc a)) (pos b)) ∙ ap (λ z. z +ℤ pos b) (+ℤ-invl (pos (suc a))) ∙ +ℤ-idl (pos b)) }
+le-above (negsuc a) (pos b) t =
+    record {
+      by = suc a + b;
+      is = sym (sym (+ℤ-assoc (negsuc a) (pos (suc a)) (pos b)) ∙ ap (λ z. z +ℤ pos b) (+ℤ-invl (pos (suc a))) ∙ +ℤ-idl (pos b));
+    }
 le-above (negsuc a) (negsuc b) t = record { by = a - b; is = neg-above b (a - b) ∙ ap (λ n. negsuc n +ℤ pos (a - b)) (go (leb→le b a t)) }
   where
     go : b ≤ a → b + (a - b) ≡ a
@@ -130,7 +157,12 @@ to-nn a b h =
     subst (λ z. pos 0 ≼ z) (sym (ap (λ z. z -ℤ a) (u .is ∙ +ℤ-comm a (pos (u .by))) ∙ +ℤ-negℤ-cancel (pos (u .by)) a)) (nn-pos (u .by))
 
 pub of-nn : (a b : ℤ) → pos 0 ≼ b -ℤ a → a ≼ b
-of-nn a b h = below (record { by = natAbs (b -ℤ a); is = sym (ap (λ z. a +ℤ z) (nn-is h) ∙ +ℤ-left a b (negℤ a) ∙ ap (λ z. b +ℤ z) (+ℤ-invr a) ∙ +ℤ-idr b) })
+of-nn a b h =
+    below
+    (record {
+      by = natAbs (b -ℤ a);
+      is = sym (ap (λ z. a +ℤ z) (nn-is h) ∙ +ℤ-left a b (negℤ a) ∙ ap (λ z. b +ℤ z) (+ℤ-invr a) ∙ +ℤ-idr b);
+    })
 
 zero-of : (z : ℤ) → pos 0 ≼ z → pos 0 ≼ negℤ z → z ≡ pos 0
 zero-of (pos zero) h l = refl
@@ -139,7 +171,11 @@ zero-of (negsuc n) h l = absurd (h .le)
 
 pub antisym : (a b : ℤ) → a ≼ b → b ≼ a → a ≡ b
 antisym a b h l =
-    sym (+ℤ-idl a) ∙ ap (λ z. z +ℤ a) (sym (zero-of (b -ℤ a) (to-nn a b h) (subst (λ z. pos 0 ≼ z) turn (to-nn b a l)))) ∙ +ℤ-assoc b (negℤ a) a ∙ ap (λ z. b +ℤ z) (+ℤ-invl a) ∙ +ℤ-idr b
+    sym (+ℤ-idl a)
+    ∙ ap (λ z. z +ℤ a) (sym (zero-of (b -ℤ a) (to-nn a b h) (subst (λ z. pos 0 ≼ z) turn (to-nn b a l))))
+    ∙ +ℤ-assoc b (negℤ a) a
+    ∙ ap (λ z. b +ℤ z) (+ℤ-invl a)
+    ∙ +ℤ-idr b
   where
     turn : a -ℤ b ≡ negℤ (b -ℤ a)
     turn = +ℤ-comm a (negℤ b) ∙ ap (λ z. negℤ b +ℤ z) (sym (negℤ-negℤ a)) ∙ sym (negℤ-+ℤ b (negℤ a))

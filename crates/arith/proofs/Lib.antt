@@ -15,6 +15,7 @@ pub mod FractionsInRationals
 pub mod OrderedField
 pub mod Sums
 -- Bytes, rounding and roots: laws of the definitions in specs/, and of what the functions compute.
+pub mod Arrays
 pub mod ByteLaws
 pub mod Sizes
 pub mod Quotients

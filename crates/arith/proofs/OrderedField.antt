@@ -1,11 +1,12 @@
--- Fractions as an ordered field with a size, up to their equality: the strict order, quotients, the size and the triangle inequality. Through ℚ.
--- The laws of sums, products and the order that is not strict are in FractionLaws.
+-- Fractions as an ordered field with a size, up to their equality: the strict order, quotients, the size and the triangle inequality.
+-- Through ℚ. The laws of sums, products and the order that is not strict are in FractionLaws.
 use mathlib.Core.Path.{ap}
 use lib.IntN.{pos}
 use Rattle.arith.specs.Fractions.{Frac, nat, _≈_, _⊑_, _⊏_, _+q_, _-q_, _*q_, _/q_, negq, absq}
 use Rattle.arith.proofs.Rationals as Q
 use Rattle.arith.proofs.Rationals.{mk, of-⊑, to-⊑, <→≤, _<ℚ_, absℚ}
-use Rattle.arith.proofs.RationalOrder.{lt-of, lt-not, <ℚ-irrefl, <ℚ-trans, <ℚ-≤ℚ-trans, ≤ℚ-<ℚ-trans, <ℚ-add, <ℚ-mul, div-times, div-le, le-div, div-lt, lt-div}
+use Rattle.arith.proofs.RationalOrder.{lt-of, lt-not, <ℚ-irrefl, <ℚ-trans, <ℚ-≤ℚ-trans, ≤ℚ-<ℚ-trans, <ℚ-add, <ℚ-mul, div-times}
+use Rattle.arith.proofs.RationalOrder.{div-le, le-div, div-lt, lt-div}
 use Rattle.arith.proofs.Signs.{nn-q, ge-q, ge-neg-q, absℚ-le, absℚ-nn, absℚ-neg, absℚ-add, absℚ-sub, absℚ-between, absℚ-mul}
 use Rattle.arith.proofs.FractionsInRationals.{to-≈, of-≈, of-⊏, to-⊏, toℚ}
 

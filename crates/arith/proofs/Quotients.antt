@@ -1,7 +1,8 @@
 -- Quotients of whole numbers as the code computes them: of products by parts, and rounded up by a step.
 use Prim.Native.Nat.{ℕ, _+_, _*_, _-_, _/_, _%_, _<_, _≤_}
 use mathlib.Core.Path.{_≡_, sym, ap, _∙_}
-use native.Mathlib.Nat.{mul-comm, mul-assoc, add-mul, div-add-mod', mul-add-div-right, mul-add-mod-self-right, mod-lt, le-of-lt, mul-le-mul-left, mul-le-mul-right, div-le-of-le-mul, div-div-eq-div-mul, div-eq-of-lt, div-eq-of-lt-le, add-zero}
+use native.Mathlib.Nat.{mul-comm, mul-assoc, add-mul, div-add-mod', mul-add-div-right, mul-add-mod-self-right, mod-lt, le-of-lt}
+use native.Mathlib.Nat.{mul-le-mul-left, mul-le-mul-right, div-le-of-le-mul, div-div-eq-div-mul, div-eq-of-lt, div-eq-of-lt-le, add-zero}
 use native.Mathlib.Omega.{arith}
 
 -- x = x / c * c + x % c, times m

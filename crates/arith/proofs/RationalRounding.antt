@@ -4,7 +4,7 @@ use Prim.Native.Nat.{ℕ, suc, _+_, _*_, _-_, _/_, _≤_, _<_}
 use native.Mathlib.Omega.{arith}
 use native.Mathlib.Nat.{div-add-mod', mul-comm, mod-lt}
 use lib.IntN.{ℤ, pos, negsuc, negℤ, _+ℤ_, _*ℤ_}
-use Rattle.arith.specs.Rounding.{scaledDown, roundedUp, roundedUpZ}
+use Rattle.arith.specs.inner.Rounding.{scaledDown, roundedUp, roundedUpZ}
 use Rattle.arith.proofs.Polynomials.{v, _⊗_, ⊖_}
 use Rattle.arith.proofs.Rings.{∀₃, ∀₄, ∀₅, by-cert, to, times, contra, _⊞_, _⊠_}
 use Rattle.arith.proofs.Integers.{ℤR, _≼_}
@@ -55,7 +55,9 @@ module _ {x c r : ℤ} (c0 : int (pos 0) <ℚ int c) where
   up-le u = div-le (int x) (int c) (int r) c0 (up-low u)
 
   pub up-lt : Up x c r → int r <ℚ int x /ℚ int c +ℚ int (pos 1)
-  up-lt u = lt-of (int r) (int x /ℚ int c +ℚ int (pos 1)) (go (int x) (int c) (recipℚ (int c)) (int r) (recip-times (int c) c0) (<→≤ c0) (up-high u))
+  up-lt u =
+      lt-of (int r) (int x /ℚ int c +ℚ int (pos 1))
+      (go (int x) (int c) (recipℚ (int c)) (int r) (recip-times (int c) c0) (<→≤ c0) (up-high u))
     where
       go : (x c q r : ℚ) → c *ℚ q ≡ int (pos 1) → int (pos 0) ≤ℚ c → c *ℚ r +ℚ int (pos 1) ≤ℚ x +ℚ c → x *ℚ q +ℚ int (pos 1) ≤ℚ r → ⊥
       go = ∀₄ ℚR _ λ ρ. simp qq λ e c0 h l. contra (to c0 ⊠ to l ⊞ to h ⊞ times (v 0) e) tt
@@ -102,16 +104,26 @@ ceil-upZ (negsuc n) d h = neg-up (pos (suc n)) (pos d) (pos (suc n / d)) (div-do
 -- x / c in units of 1 / u, rounded down: at most one unit short
 module _ (x u : ℤ) {c r : ℤ} (c0 : int (pos 0) <ℚ int c) (d : Down (x *ℤ u) c r) where
   pub scaled-low : int r ≤ℚ int u *ℚ (int x /ℚ int c)
-  scaled-low = go (int x) (int u) (int c) (recipℚ (int c)) (int r) (recip-times (int c) c0) (recip-nn (int c)) (subst (λ y. int c *ℚ int r ≤ℚ y) (int-times x u) (down-low d))
+  scaled-low =
+      go (int x) (int u) (int c) (recipℚ (int c)) (int r) (recip-times (int c) c0) (recip-nn (int c))
+      (subst (λ y. int c *ℚ int r ≤ℚ y) (int-times x u) (down-low d))
     where
       go : (x u c q r : ℚ) → c *ℚ q ≡ int (pos 1) → int (pos 0) ≤ℚ q → c *ℚ r ≤ℚ x *ℚ u → r ≤ℚ u *ℚ (x *ℚ q)
       go = ∀₅ ℚR _ λ ρ. simp qq λ e q0 h. by-cert (to q0 ⊠ to h ⊞ times (v 4) e) tt
 
   pub scaled-lt : int u *ℚ (int x /ℚ int c) <ℚ int r +ℚ int (pos 1)
   scaled-lt =
-      lt-of (int u *ℚ (int x /ℚ int c)) (int r +ℚ int (pos 1)) (go (int x) (int u) (int c) (recipℚ (int c)) (int r) (recip-times (int c) c0) (<→≤ c0) (subst (λ y. y +ℚ int (pos 1) ≤ℚ int c *ℚ int r +ℚ int c) (int-times x u) (down-high d)))
+      lt-of (int u *ℚ (int x /ℚ int c)) (int r +ℚ int (pos 1))
+      (go (int x) (int u) (int c) (recipℚ (int c)) (int r) (recip-times (int c) c0) (<→≤ c0)
+      (subst (λ y. y +ℚ int (pos 1) ≤ℚ int c *ℚ int r +ℚ int c) (int-times x u) (down-high d)))
     where
-      go : (x u c q r : ℚ) → c *ℚ q ≡ int (pos 1) → int (pos 0) ≤ℚ c → x *ℚ u +ℚ int (pos 1) ≤ℚ c *ℚ r +ℚ c → r +ℚ int (pos 1) ≤ℚ u *ℚ (x *ℚ q) → ⊥
+      go :
+          (x u c q r : ℚ) →
+          c *ℚ q ≡ int (pos 1) →
+          int (pos 0) ≤ℚ c →
+          x *ℚ u +ℚ int (pos 1) ≤ℚ c *ℚ r +ℚ c →
+          r +ℚ int (pos 1) ≤ℚ u *ℚ (x *ℚ q) →
+          ⊥
       go = ∀₅ ℚR _ λ ρ. simp qq λ e c0 h l. contra (to c0 ⊠ to l ⊞ to h ⊞ times (⊖ (v 0 ⊗ v 1)) e) tt
 
   pub scaled-high : int u *ℚ (int x /ℚ int c) ≤ℚ int r +ℚ int (pos 1)

@@ -81,4 +81,29 @@ q-int-mul = O.q-int-mul ℚR
 pub q-int-neg : (a : ℤ) → negℚ (int a) ≡ int (negℤ a)
 q-int-neg = O.q-int-neg ℚR
 
-pub ruleset qq = (q-add, q-mul, q-neg, q-pos-add, q-add-pos, q-neg-add, q-add-neg, q-pos-mul, q-mul-pos, q-neg-mul, q-mul-neg, q-eq, q-eq-pos, q-pos-eq, q-eq-neg, q-neg-eq, q-int-add, q-int-mul, q-int-neg, q-le, q-pos-le, q-le-pos, q-neg-le, q-le-neg)
+pub ruleset qq = (
+  q-add,
+  q-mul,
+  q-neg,
+  q-pos-add,
+  q-add-pos,
+  q-neg-add,
+  q-add-neg,
+  q-pos-mul,
+  q-mul-pos,
+  q-neg-mul,
+  q-mul-neg,
+  q-eq,
+  q-eq-pos,
+  q-pos-eq,
+  q-eq-neg,
+  q-neg-eq,
+  q-int-add,
+  q-int-mul,
+  q-int-neg,
+  q-le,
+  q-pos-le,
+  q-le-pos,
+  q-neg-le,
+  q-le-neg,
+)

@@ -42,7 +42,9 @@ abbrev lift₁ : (f : Frac → Frac) → ((x y : Frac) → x ≈ y → f x ≈ f
 lift₁ f c p = Quot·lift Quot-set (λ x. mk (f x)) (λ x y h. same (c x y h)) p
 
 abbrev lift₂ : (f : Frac → Frac → Frac) → ((x y z : Frac) → x ≈ y → f x z ≈ f y z) → ((x y z : Frac) → x ≈ y → f z x ≈ f z y) → ℚ → ℚ → ℚ
-lift₂ f c d p q = Quot·lift Quot-set (λ x. lift₁ (f x) (λ y z h. d y z x h) q) (λ x y h. eq₁ (lift₁ (f x) (λ u w h. d u w x h)) (lift₁ (f y) (λ u w h. d u w y h)) (λ z. same (c x y z h)) q) p
+lift₂ f c d p q =
+    Quot·lift Quot-set (λ x. lift₁ (f x) (λ y z h. d y z x h) q)
+    (λ x y h. eq₁ (lift₁ (f x) (λ u w h. d u w x h)) (lift₁ (f y) (λ u w h. d u w y h)) (λ z. same (c x y z h)) q) p
 
 infixl 6 _+ℚ_ _-ℚ_
 unfoldable pub _+ℚ_ : ℚ → ℚ → ℚ
@@ -129,16 +131,22 @@ to-test : (x y : Frac) → x ⊑ y → T (test x y)
 to-test x y h = h .cross .le
 
 pub test-l : (x y z : Frac) → x ≈ y → test x z ≡ test y z
-test-l x y z h = bool-ext (test x z) (test y z) (λ t. to-test y z (F.⊑-cong x y z h (of-test x z t))) (λ t. to-test x z (F.⊑-cong y x z (F.≈-sym x y h) (of-test y z t)))
+test-l x y z h =
+    bool-ext (test x z) (test y z) (λ t. to-test y z (F.⊑-cong x y z h (of-test x z t)))
+    (λ t. to-test x z (F.⊑-cong y x z (F.≈-sym x y h) (of-test y z t)))
 
 pub test-r : (x y z : Frac) → x ≈ y → test z x ≡ test z y
-test-r x y z h = bool-ext (test z x) (test z y) (λ t. to-test z y (F.⊑-cong-r x y z h (of-test z x t))) (λ t. to-test z x (F.⊑-cong-r y x z (F.≈-sym x y h) (of-test z y t)))
+test-r x y z h =
+    bool-ext (test z x) (test z y) (λ t. to-test z y (F.⊑-cong-r x y z h (of-test z x t)))
+    (λ t. to-test z x (F.⊑-cong-r y x z (F.≈-sym x y h) (of-test z y t)))
 
 abbrev test₁ : Frac → ℚ → Bool
 test₁ x q = Quot·lift Bool-set (test x) (λ y z h. test-r y z x h) q
 
 unfoldable pub leℚ : ℚ → ℚ → Bool
-leℚ p q = Quot·lift Bool-set (λ x. test₁ x q) (λ x y h. ind₁ (λ q. test₁ x q ≡ test₁ y q) (λ q. Bool-set (test₁ x q) (test₁ y q)) (λ z. test-l x y z h) q) p
+leℚ p q =
+    Quot·lift Bool-set (λ x. test₁ x q)
+    (λ x y h. ind₁ (λ q. test₁ x q ≡ test₁ y q) (λ q. Bool-set (test₁ x q) (test₁ y q)) (λ z. test-l x y z h) q) p
 
 infix 4 _≤ℚ_
 pub record _≤ℚ_ (p q : ℚ) : Type 0 where
@@ -164,12 +172,16 @@ nn-int n = of-⊑ (Fr.int (pos 0)) (Fr.int (pos n)) (F.nn-intq n)
 
 pub nn-plus : (p q : ℚ) → int (pos 0) ≤ℚ p → int (pos 0) ≤ℚ q → int (pos 0) ≤ℚ p +ℚ q
 unfolding int _+ℚ_
-nn-plus = ind₂ (λ p q. int (pos 0) ≤ℚ p → int (pos 0) ≤ℚ q → int (pos 0) ≤ℚ p +ℚ q) (λ p q. Π-prop (λ h. Π-prop (λ l. ≤-prop (int (pos 0)) (p +ℚ q))))
+nn-plus =
+    ind₂ (λ p q. int (pos 0) ≤ℚ p → int (pos 0) ≤ℚ q → int (pos 0) ≤ℚ p +ℚ q)
+    (λ p q. Π-prop (λ h. Π-prop (λ l. ≤-prop (int (pos 0)) (p +ℚ q))))
     (λ x y h l. of-⊑ (Fr.int (pos 0)) (x +q y) (F.nn-+q x y (to-⊑ (Fr.int (pos 0)) x h) (to-⊑ (Fr.int (pos 0)) y l)))
 
 pub nn-times : (p q : ℚ) → int (pos 0) ≤ℚ p → int (pos 0) ≤ℚ q → int (pos 0) ≤ℚ p *ℚ q
 unfolding int _*ℚ_
-nn-times = ind₂ (λ p q. int (pos 0) ≤ℚ p → int (pos 0) ≤ℚ q → int (pos 0) ≤ℚ p *ℚ q) (λ p q. Π-prop (λ h. Π-prop (λ l. ≤-prop (int (pos 0)) (p *ℚ q))))
+nn-times =
+    ind₂ (λ p q. int (pos 0) ≤ℚ p → int (pos 0) ≤ℚ q → int (pos 0) ≤ℚ p *ℚ q)
+    (λ p q. Π-prop (λ h. Π-prop (λ l. ≤-prop (int (pos 0)) (p *ℚ q))))
     (λ x y h l. of-⊑ (Fr.int (pos 0)) (x *q y) (F.nn-*q x y (to-⊑ (Fr.int (pos 0)) x h) (to-⊑ (Fr.int (pos 0)) y l)))
 
 pub nn-sq : (p : ℚ) → int (pos 0) ≤ℚ p *ℚ p
@@ -178,11 +190,15 @@ nn-sq = ind₁ (λ p. int (pos 0) ≤ℚ p *ℚ p) (λ p. ≤-prop (int (pos 0))
 
 pub to-nn : (p q : ℚ) → p ≤ℚ q → int (pos 0) ≤ℚ q +ℚ negℚ p
 unfolding int _+ℚ_ negℚ
-to-nn = ind₂ (λ p q. p ≤ℚ q → int (pos 0) ≤ℚ q +ℚ negℚ p) (λ p q. Π-prop (λ h. ≤-prop (int (pos 0)) (q +ℚ negℚ p))) (λ x y h. of-⊑ (Fr.int (pos 0)) (y +q negq x) (F.to-nnq x y (to-⊑ x y h)))
+to-nn =
+    ind₂ (λ p q. p ≤ℚ q → int (pos 0) ≤ℚ q +ℚ negℚ p) (λ p q. Π-prop (λ h. ≤-prop (int (pos 0)) (q +ℚ negℚ p)))
+    (λ x y h. of-⊑ (Fr.int (pos 0)) (y +q negq x) (F.to-nnq x y (to-⊑ x y h)))
 
 pub of-nn : (p q : ℚ) → int (pos 0) ≤ℚ q +ℚ negℚ p → p ≤ℚ q
 unfolding int _+ℚ_ negℚ
-of-nn = ind₂ (λ p q. int (pos 0) ≤ℚ q +ℚ negℚ p → p ≤ℚ q) (λ p q. Π-prop (λ h. ≤-prop p q)) (λ x y h. of-⊑ x y (F.of-nnq x y (to-⊑ (Fr.int (pos 0)) (y +q negq x) h)))
+of-nn =
+    ind₂ (λ p q. int (pos 0) ≤ℚ q +ℚ negℚ p → p ≤ℚ q) (λ p q. Π-prop (λ h. ≤-prop p q))
+    (λ x y h. of-⊑ x y (F.of-nnq x y (to-⊑ (Fr.int (pos 0)) (y +q negq x) h)))
 
 pub one-pos : ¬ (int (pos 1) ≤ℚ int (pos 0))
 unfolding int
@@ -190,11 +206,15 @@ one-pos h = F.one-posq (to-⊑ (Fr.int (pos 1)) (Fr.int (pos 0)) h)
 
 pub cancel : (m p : ℚ) → ¬ (m ≤ℚ int (pos 0)) → int (pos 0) ≤ℚ m *ℚ p → int (pos 0) ≤ℚ p
 unfolding int _*ℚ_
-cancel = ind₂ (λ m p. ¬ (m ≤ℚ int (pos 0)) → int (pos 0) ≤ℚ m *ℚ p → int (pos 0) ≤ℚ p) (λ m p. Π-prop (λ h. Π-prop (λ l. ≤-prop (int (pos 0)) p)))
+cancel =
+    ind₂ (λ m p. ¬ (m ≤ℚ int (pos 0)) → int (pos 0) ≤ℚ m *ℚ p → int (pos 0) ≤ℚ p)
+    (λ m p. Π-prop (λ h. Π-prop (λ l. ≤-prop (int (pos 0)) p)))
     (λ x y h l. of-⊑ (Fr.int (pos 0)) y (F.cancelq x y (λ k. h (of-⊑ x (Fr.int (pos 0)) k)) (to-⊑ (Fr.int (pos 0)) (x *q y) l)))
 
 pub antisym : (p q : ℚ) → p ≤ℚ q → q ≤ℚ p → p ≡ q
-antisym = ind₂ (λ p q. p ≤ℚ q → q ≤ℚ p → p ≡ q) (λ p q. Π-prop (λ h. Π-prop (λ l. Quot-set p q))) (λ x y h l. same (F.⊑-antisym x y (to-⊑ x y h) (to-⊑ y x l)))
+antisym =
+    ind₂ (λ p q. p ≤ℚ q → q ≤ℚ p → p ≡ q) (λ p q. Π-prop (λ h. Π-prop (λ l. Quot-set p q)))
+    (λ x y h l. same (F.⊑-antisym x y (to-⊑ x y h) (to-⊑ y x l)))
 
 abbrev pub ℚR : ORing
 ℚR = record {
@@ -256,11 +276,14 @@ above-at x t = go (split (pos 0) (x .top))
 
 pub recip-times : (p : ℚ) → int (pos 0) <ℚ p → p *ℚ recipℚ p ≡ int (pos 1)
 unfolding leℚ int _*ℚ_ recipℚ
-recip-times = ind₁ (λ p. int (pos 0) <ℚ p → p *ℚ recipℚ p ≡ int (pos 1)) (λ p. Π-prop (λ h. Quot-set (p *ℚ recipℚ p) (int (pos 1)))) (λ x h. same (F.recip-mul x (above-at x (h .lt))))
+recip-times =
+    ind₁ (λ p. int (pos 0) <ℚ p → p *ℚ recipℚ p ≡ int (pos 1)) (λ p. Π-prop (λ h. Quot-set (p *ℚ recipℚ p) (int (pos 1))))
+    (λ x h. same (F.recip-mul x (above-at x (h .lt))))
 
 pub recip-nn : (p : ℚ) → int (pos 0) ≤ℚ recipℚ p
 unfolding int recipℚ
-recip-nn = ind₁ (λ p. int (pos 0) ≤ℚ recipℚ p) (λ p. ≤-prop (int (pos 0)) (recipℚ p)) (λ x. of-⊑ (Fr.int (pos 0)) (Fr.recip x) (F.recip-nnq x))
+recip-nn =
+    ind₁ (λ p. int (pos 0) ≤ℚ recipℚ p) (λ p. ≤-prop (int (pos 0)) (recipℚ p)) (λ x. of-⊑ (Fr.int (pos 0)) (Fr.recip x) (F.recip-nnq x))
 
 -- the absolute value
 unfoldable pub absℚ : ℚ → ℚ

@@ -4,7 +4,7 @@ use mathlib.Core.Path.{_≡_, subst}
 use native.Mathlib.Nat.{mul-le-mul, lt-div-mul-add}
 use native.Mathlib.Decide.{decLe}
 use native.Mathlib.Omega.{arith}
-use Rattle.arith.specs.Roots.{Least}
+use Rattle.arith.specs.inner.Roots.{Least}
 
 -- four times a product is at most the square of the sum
 four-from : (a d : ℕ) → 4 * (a * (a + d)) ≤ (a + (a + d)) * (a + (a + d))

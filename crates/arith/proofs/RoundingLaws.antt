@@ -4,12 +4,13 @@ use Prim.Native.Nat.{ℕ, _+_, _*_, _/_, _<_, _≤_}
 use native.Mathlib.Nat.{div-mul-le-self, lt-div-mul-add}
 use lib.IntN.{ℤ, pos}
 use Rattle.arith.specs.Fractions.{nat, int, _⊑_, _⊏_, _+q_, _*q_, _/q_}
-use Rattle.arith.specs.Rounding.{scaledDown, roundedUp, roundedUpZ}
+use Rattle.arith.specs.inner.Rounding.{scaledDown, roundedUp, roundedUpZ}
 use Rattle.arith.proofs.Rationals as Q
 use Rattle.arith.proofs.Rationals.{to-⊑, _+ℚ_, _/ℚ_, int-plus}
 use Rattle.arith.proofs.FractionsInRationals.{to-⊏, toℚ}
 use Rattle.arith.proofs.RationalOrder.{above-0, div-le, lt-div}
-use Rattle.arith.proofs.RationalRounding.{down-le, down-lt, up-le, up-lt, div-down, ceil-up, ceil-upZ, scaled-down, scaled-low, scaled-lt}
+use Rattle.arith.proofs.RationalRounding.{down-le, down-lt, up-le, up-lt, div-down, ceil-up, ceil-upZ, scaled-down, scaled-low}
+use Rattle.arith.proofs.RationalRounding.{scaled-lt}
 
 next : (n : ℕ) → Q.int (pos (n + 1)) ≡ Q.int (pos n) +ℚ Q.int (pos 1)
 next n = int-plus (pos n) (pos 1)
@@ -40,18 +41,27 @@ module _ (z : ℤ) (d : ℕ) (h : 0 < d) where
 -- x / c in units of 1 / m, rounded down: in units, and as a fraction less than 1 / m short
 module _ (x m c : ℕ) (h : 0 < c) where
   pub scaled-units-low : nat (scaledDown x m c) ⊑ nat m *q (nat x /q nat c)
-  scaled-units-low = to-⊑ (nat (scaledDown x m c)) (nat m *q (nat x /q nat c)) (simp toℚ (scaled-low (pos x) (pos m) (above-0 c h) (scaled-down x m c h)))
+  scaled-units-low =
+      to-⊑ (nat (scaledDown x m c)) (nat m *q (nat x /q nat c)) (simp toℚ (scaled-low (pos x) (pos m) (above-0 c h) (scaled-down x m c h)))
 
   pub scaled-units-high : nat m *q (nat x /q nat c) ⊏ nat (scaledDown x m c + 1)
-  scaled-units-high = to-⊏ (nat m *q (nat x /q nat c)) (nat (scaledDown x m c + 1)) (simp toℚ (rw next (scaled-lt (pos x) (pos m) (above-0 c h) (scaled-down x m c h))))
+  scaled-units-high =
+      to-⊏ (nat m *q (nat x /q nat c)) (nat (scaledDown x m c + 1))
+      (simp toℚ (rw next (scaled-lt (pos x) (pos m) (above-0 c h) (scaled-down x m c h))))
 
   pub scaled-frac-low : 0 < m → nat (scaledDown x m c) /q nat m ⊑ nat x /q nat c
   scaled-frac-low k =
-      to-⊑ (nat (scaledDown x m c) /q nat m) (nat x /q nat c) (simp toℚ (div-le (Q.int (pos (scaledDown x m c))) (Q.int (pos m)) (Q.int (pos x) /ℚ Q.int (pos c)) (above-0 m k) (scaled-low (pos x) (pos m) (above-0 c h) (scaled-down x m c h))))
+      to-⊑ (nat (scaledDown x m c) /q nat m) (nat x /q nat c)
+      (simp toℚ
+      (div-le (Q.int (pos (scaledDown x m c))) (Q.int (pos m)) (Q.int (pos x) /ℚ Q.int (pos c)) (above-0 m k)
+      (scaled-low (pos x) (pos m) (above-0 c h) (scaled-down x m c h))))
 
   pub scaled-frac-high : 0 < m → nat x /q nat c ⊏ nat (scaledDown x m c + 1) /q nat m
   scaled-frac-high k =
-      to-⊏ (nat x /q nat c) (nat (scaledDown x m c + 1) /q nat m) (simp toℚ (lt-div (Q.int (pos (scaledDown x m c + 1))) (Q.int (pos m)) (Q.int (pos x) /ℚ Q.int (pos c)) (above-0 m k) (rw next (scaled-lt (pos x) (pos m) (above-0 c h) (scaled-down x m c h)))))
+      to-⊏ (nat x /q nat c) (nat (scaledDown x m c + 1) /q nat m)
+      (simp toℚ
+      (lt-div (Q.int (pos (scaledDown x m c + 1))) (Q.int (pos m)) (Q.int (pos x) /ℚ Q.int (pos c)) (above-0 m k)
+      (rw next (scaled-lt (pos x) (pos m) (above-0 c h) (scaled-down x m c h)))))
 
   -- the same multiplied out
   pub scaled-times-le : scaledDown x m c * c ≤ x * m

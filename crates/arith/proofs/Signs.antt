@@ -9,7 +9,8 @@ use Rattle.arith.proofs.Rings.{ORing, ∀₁, ∀₂, ∀₃, ∀₄, b
 use Rattle.arith.proofs.Integers.{ℤR, _≼_, antisym}
 use Rattle.arith.proofs.IntegerTerms.{zq}
 use Rattle.arith.proofs.IntegerOrder.{abs, abs-nn, abs-ge, abs-ge-neg}
-use Rattle.arith.proofs.Rationals.{ℚR, ℚ, _+ℚ_, _-ℚ_, _*ℚ_, _/ℚ_, negℚ, recipℚ, int, _≤ℚ_, _<ℚ_, leℚ, flip, recip-times, absℚ, to-⊑, of-⊑}
+use Rattle.arith.proofs.Rationals.{ℚR, ℚ, _+ℚ_, _-ℚ_, _*ℚ_, _/ℚ_, negℚ, recipℚ, int, _≤ℚ_, _<ℚ_, leℚ, flip, recip-times, absℚ, to-⊑}
+use Rattle.arith.proofs.Rationals.{of-⊑}
 use Rattle.arith.specs.Fractions as F
 use Rattle.arith.proofs.RationalTerms.{qq}
 
@@ -90,7 +91,13 @@ minus-le-q : (x a : ℚ) → negℚ x ≤ℚ a → int (negsuc 0) *ℚ x ≤ℚ 
 minus-le-q = ∀₂ ℚR _ λ ρ. simp qq λ h. by-cert (to h) tt
 
 -- the test `0 ≤ p` and what it decides, by cases
-pub cases : (p : ℚ) (c : Bool) → leℚ (int (pos 0)) p ≡ c → (Z : Bool → Type 0) → (int (pos 0) ≤ℚ p → Z true) → (p ≤ℚ int (pos 0) → Z false) → Z c
+pub cases :
+    (p : ℚ) (c : Bool) →
+    leℚ (int (pos 0)) p ≡ c →
+    (Z : Bool → Type 0) →
+    (int (pos 0) ≤ℚ p → Z true) →
+    (p ≤ℚ int (pos 0) → Z false) →
+    Z c
 cases p true e Z f g = f (record { le = subst T (sym e) tt })
 cases p false e Z f g = g (flip (int (pos 0)) p (subst (λ b. T (not b)) (sym e) tt))
 
@@ -122,7 +129,9 @@ back-q p = on p (λ c. cond c (int (pos 1)) (int (negsuc 0)) *ℚ cond c p (neg�
 
 pub low-q : (p x : ℚ) → sgq p *ℚ x ≤ℚ absℚ x
 unfolding sgq
-low-q p x = on p (λ c. cond c (int (pos 1)) (int (negsuc 0)) *ℚ x ≤ℚ absℚ x) (λ h. one-le-q x (absℚ x) (ge-q x)) (λ h. minus-le-q x (absℚ x) (ge-neg-q x))
+low-q p x =
+    on p (λ c. cond c (int (pos 1)) (int (negsuc 0)) *ℚ x ≤ℚ absℚ x) (λ h. one-le-q x (absℚ x) (ge-q x))
+    (λ h. minus-le-q x (absℚ x) (ge-neg-q x))
 
 abbrev pub ℚS : Signs ℚR
 ℚS = record { abs = absℚ; nn = nn-q; sg = sgq; hit = hit-q; back = back-q; low = low-q }
@@ -153,7 +162,8 @@ absℚ-neg p =
 
 pub absℚ-add : (p q : ℚ) → absℚ (p +ℚ q) ≤ℚ absℚ p +ℚ absℚ q
 absℚ-add p q =
-    absℚ-le (p +ℚ q) (absℚ p +ℚ absℚ q) (plus p q (absℚ p) (absℚ q) (ge-q p) (ge-q q)) (minus p q (absℚ p) (absℚ q) (ge-neg-q p) (ge-neg-q q))
+    absℚ-le (p +ℚ q) (absℚ p +ℚ absℚ q) (plus p q (absℚ p) (absℚ q) (ge-q p) (ge-q q))
+    (minus p q (absℚ p) (absℚ q) (ge-neg-q p) (ge-neg-q q))
   where
     plus : (p q a b : ℚ) → p ≤ℚ a → q ≤ℚ b → p +ℚ q ≤ℚ a +ℚ b
     plus = ∀₄ ℚR _ λ ρ. simp qq λ h l. by-cert (to h ⊞ to l) tt
@@ -208,7 +218,8 @@ unfolding int
 le-int a b h = of-⊑ (F.int a) (F.int b) (record { cross = tinu a b h })
 
 pub int-inj : (a b : ℤ) → int a ≡ int b → a ≡ b
-int-inj a b e = antisym a b (int-le a b (subst (λ z. int a ≤ℚ z) e (same-le (int a)))) (int-le b a (subst (λ z. z ≤ℚ int a) e (same-le (int a))))
+int-inj a b e =
+    antisym a b (int-le a b (subst (λ z. int a ≤ℚ z) e (same-le (int a)))) (int-le b a (subst (λ z. z ≤ℚ int a) e (same-le (int a))))
 
 -- p = a / d where p d = a
 pub div-eq : (p a d : ℚ) → int (pos 0) <ℚ d → p *ℚ d ≡ a → p ≡ a /ℚ d

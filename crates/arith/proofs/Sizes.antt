@@ -10,7 +10,7 @@ use lib.IntN.{ℤ, pos, negsuc, natAbs, negℤ, subℕ, _+ℤ_, _-ℤ_, _*ℤ_}
 use lib.Signed.{mag, quotZ}
 use mir.Syntax.{w32, w64}
 use mir.Val.{SFits}
-use Rattle.arith.specs.Sizes.{Small}
+use Rattle.arith.specs.inner.Sizes.{Small}
 
 mag-le : (z : ℤ) → mag z ≤ natAbs z
 mag-le (pos n) = omega arith

@@ -6,9 +6,13 @@ use lib.Dec.{ltb}
 use lib.IntN.{ℤ, pos, negsuc, _-ℤ_}
 use lib.ListN.{getD}
 
--- the number whose two bytes, least first, stand at `at`; a byte past the end reads 0
+-- the byte at `at`; one past the end reads 0
+abbrev pub byteAt : List ℕ → ℕ → ℕ
+byteAt s at = getD s at 0
+
+-- the number whose two bytes, least first, stand at `at`
 abbrev pub le2 : List ℕ → ℕ → ℕ
-le2 s at = getD s at 0 + 256 * getD s (at + 1) 0
+le2 s at = byteAt s at + 256 * byteAt s (at + 1)
 
 -- the number whose four bytes stand at `at`
 abbrev pub le4 : List ℕ → ℕ → ℕ

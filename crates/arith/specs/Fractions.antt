@@ -61,7 +61,8 @@ abbrev pub _*q_ : Frac → Frac → Frac
 x *q y =
     record { top = x .top *ℤ y .top; bot = x .bot *ℤ y .bot; ok = ok-mul (x .bot) (y .bot) (x .ok) (y .ok) }
 
--- 1 over a fraction above zero. What is not above zero divides nothing here: for it 0 stands, so that a quotient needs no proof to be written
+-- 1 over a fraction above zero. What is not above zero divides nothing here: for it 0 stands, so that a quotient needs no proof to be
+-- written
 abbrev pub recip-at : (a b : ℤ) → pos 1 ≤ℤ b → Frac
 recip-at (pos zero) b p = int (pos 0)
 recip-at (pos (suc n)) b p = record { top = b; bot = pos (suc n); ok = one-le n }

@@ -1,5 +1,4 @@
 pub mod Fractions
+pub mod Lists
 pub mod Bytes
-pub mod Rounding
-pub mod Roots
-pub mod Sizes
+pub mod inner

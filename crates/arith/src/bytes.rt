@@ -5,7 +5,7 @@ ghost use mathlib.Core.List.{_∷_, []};
 ghost use Prim.Native.Nat.{_+_, _<_, _≤_};
 ghost use lib.ListN.{length, getD};
 ghost use lib.Seq.{sets};
-ghost use Rattle.arith.specs.Bytes.{le2, le4, bytes2, bytes4, twos};
+ghost use Rattle.arith.specs.Bytes.{le2, le4, bytes4, twos};
 
 // A byte as a number.
 pub fn wide(x: u8) -> u64
@@ -40,14 +40,6 @@ pub fn write1(buf: &mut [u8], at: usize, v: u64)
     ensures { λ _. ⌜ now (buf .exit) ≡ sets (now (buf .entry)) at (v ∷ []) ⌝ }
 {
     buf[at] = v as u8;
-}
-
-pub fn write2(buf: &mut [u8], at: usize, v: u64)
-    requires { ⌜ (at + 2 ≤ length (now buf)) × (v < 65536) ⌝ }
-    ensures { λ _. ⌜ now (buf .exit) ≡ sets (now (buf .entry)) at (bytes2 v) ⌝ }
-{
-    buf[at] = (v % 256) as u8;
-    buf[at + 1] = (v / 256 % 256) as u8;
 }
 
 pub fn write4(buf: &mut [u8], at: usize, v: u64)

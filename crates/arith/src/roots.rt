@@ -2,7 +2,7 @@
 
 ghost use Prim.Native.Nat.{_+_, _*_, _<_, _≤_};
 ghost use mathlib.Core.Path.{_≡_};
-ghost use Rattle.arith.specs.Roots.{Least};
+ghost use Rattle.arith.specs.inner.Roots.{Least};
 
 // The longest of three sides, which is no longer than their line.
 fn longest(x: u64, y: u64, z: u64) -> u64

@@ -3,8 +3,8 @@
 ghost use mathlib.Core.Path.{_≡_};
 ghost use Prim.Native.Nat.{_+_, _*_, _/_, _<_, _≤_, _^_};
 ghost use lib.IntN.{natAbs};
-ghost use Rattle.arith.specs.Rounding.{scaledDown, roundedUp, roundedUpZ};
-ghost use Rattle.arith.specs.Sizes.{Small};
+ghost use Rattle.arith.specs.inner.Rounding.{scaledDown, roundedUp, roundedUpZ};
+ghost use Rattle.arith.specs.inner.Sizes.{Small};
 
 // x * m / c, rounded down: the whole part of x / c and its remainder are scaled apart.
 pub fn scaled(x: u64, m: u64, c: u64) -> u64

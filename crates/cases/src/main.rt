@@ -13,13 +13,13 @@ mod layout; // layout.rt: where the parts of a case stand
 mod space; // space.rt: the answer buffer, filled before each case
 
 ghost use lib.ListN.{length};
-ghost use Rattle.cases.specs.Places.{Placed};
+ghost use Rattle.cases.specs.inner.Places.{Placed};
+use answer::Outcome;
 use fields::Held;
 use layout::Case;
 use layout::Item;
 use libc::STDIN_FILENO;
 use libc::STDOUT_FILENO;
-use report::Outcome;
 
 fn main() {
     let mut input = io::large_buffer();
@@ -53,7 +53,7 @@ fn run(input: &[u8], case: Case)
     let mut filled = space::filled();
     let buffer: &mut [u8] = &mut filled;
     let answer = &mut buffer[..room];
-    let outcome = answer::check(&input[sheet..fields], answer);
+    let outcome = stack_check::check(&input[sheet..fields], answer);
     match outcome {
         Outcome::Taken(n) => tell_taken(input, case, answer, n),
         Outcome::Refused(number, second) => tell_refused(answer, number, second),

@@ -1,7 +1,1 @@
-pub mod Loads
-pub mod Lashes
-pub mod Ends
-pub mod Posts
-pub mod Reported
-pub mod Fixed
-pub mod Facts
+pub mod inner

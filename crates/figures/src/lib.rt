@@ -1,26 +1,106 @@
-// The figures that are reported of a stack. Its exact forces are in specs/; proofs/ shows that figures computed in whole numbers report them.
+// Every reported force of a stack: rackings, posts and lashes of both ends.
 
-// The figures of one end: racking per tier, compression per level from 0, tension per level from 0, and each lash's tension,
-// athwart and vertical part, all in N.
-pub struct EndFigures {
-    pub racking: [i32; 10],
-    pub compression: [u64; 11],
-    pub tension: [u64; 10],
-    pub pull: [u64; 8],
-    pub athwart: [u64; 8],
-    pub vertical: [u64; 8],
+ghost use Prim.Native.Nat.{_≤_};
+ghost use mathlib.Core.Path.{_≡_};
+ghost use lib.ListN.{length, take};
+ghost use Rattle.sheet.specs.Fits.{Fits};
+ghost use Rattle.springs.specs.inner.Elimination.{solved};
+ghost use Rattle.statics.specs.inner.Computed.{stiffnessesOf, figuresAt, figuresBy, classLoadRule};
+ghost use Rattle.figures.specs.inner.Ends.{Workable};
+use sheet::Lash;
+use sheet::Sheet;
+use sheet::Tier;
+use statics::EndFigures;
+use statics::Figures;
+use statics::LoadRule;
+
+mod loads; // loads.rt: the loads on the levels and the weights above them
+
+// K of a tier at the door end and at the closed end, N/mm (CR Table 2-4).
+const DOOR_SPRING: u64 = 3730;
+
+const CLOSED_SPRING: u64 = 15690;
+
+// The share of F that a tier's own top takes by the class rule, in twentieths: 0.45.
+const CLASS_SHARE: u64 = 9;
+
+// The figures of one end: n tiers with a spring for each, m lashes, and the loads and weights that both ends share.
+fn end_figures(
+    n: usize,
+    k: &[u64],
+    tiers: [Tier; 10],
+    lashes: [Lash; 8],
+    m: usize,
+    loads: &[u64],
+    vmax: &[u64],
+    vmin: &[u64],
+) -> EndFigures
+    requires { ⌜ Workable n (now k) (take n tiers) m (take m lashes) (now loads) (now vmax) (now vmin) ⌝ }
+    requires { ⌜ (length (now k) ≡ 10) × (length (now loads) ≡ 10) × (length (now vmax) ≡ 11) × (length (now vmin) ≡ 11) ⌝ }
+    ensures { λ r. ⌜ r ≡ figuresAt n (now (k .entry)) (take n tiers) (take m lashes)
+        (solved n (now (k .entry)) (stiffnessesOf (take m lashes)) (now (loads .entry))) ⌝ }
+{
+    let mut lengths = [0u64; 8];
+    let mut stiffnesses = [0u64; 8];
+    let mut kappa = [0u64; 10];
+    figures_lashes::lash_stiffnesses(lashes, m, &mut lengths, &mut stiffnesses, &mut kappa);
+    let d = springs::solve(n, k, &kappa, loads);
+    let lash_forces = figures_lashes::lash_figures(lashes, m, &lengths, &stiffnesses, &d);
+    let levels = figures_levels::level_figures(
+        n,
+        k,
+        tiers,
+        &d,
+        vmax,
+        vmin,
+        &lash_forces.lee,
+        &lash_forces.windward,
+    );
+    let racking = levels.racking;
+    let compression = levels.compression;
+    let tension = levels.tension;
+    let pull = lash_forces.tension;
+    let athwart = lash_forces.athwart;
+    let vertical = lash_forces.vertical;
+    EndFigures {
+        racking,
+        compression,
+        tension,
+        pull,
+        athwart,
+        vertical,
+    }
 }
 
-pub struct Figures {
-    pub door: EndFigures,
-    pub closed: EndFigures,
+// The figures of both ends, with what the loads go by.
+pub fn figures_by(s: Sheet, rule: LoadRule) -> Figures
+    requires { ⌜ Fits s × (rule .share ≤ 20) × (rule .factor ≤ 1000) ⌝ }
+    ensures { λ r. ⌜ r ≡ figuresBy rule s ⌝ }
+{
+    let n = s.ntiers;
+    let tiers = s.tiers;
+    let door = s.door;
+    let closed = s.closed;
+    let mut loads = [0u64; 10];
+    let mut vmax = [0u64; 11];
+    let mut vmin = [0u64; 11];
+    loads::loads_of(n, tiers, rule, &mut loads, &mut vmax, &mut vmin);
+    let k = [DOOR_SPRING; 10];
+    let h = [CLOSED_SPRING; 10];
+    Figures {
+        door: end_figures(n, &k, tiers, door, s.ndoor, &loads, &vmax, &vmin),
+        closed: end_figures(n, &h, tiers, closed, s.nclosed, &loads, &vmax, &vmin),
+    }
 }
 
-// Vertical parts of lashes on the two posts.
-pub struct PostParts {
-    pub lee: u64,
-    pub windward: u64,
+// What the loads of a sheet go by: 0.45 of F on a tier's own top, and the route factor.
+pub fn class_rule(s: Sheet) -> LoadRule
+    requires { ⌜ Fits s ⌝ }
+    ensures { λ r. ⌜ (r ≡ classLoadRule s) × (r .share ≤ 20) × (r .factor ≤ 1000) ⌝ }
+{
+    let head = s.head;
+    LoadRule {
+        share: CLASS_SHARE,
+        factor: 10 * sheet::route_percent(head.route),
+    }
 }
-
-// 1 N in 2^-18 N, the scale of lash parts, rackings and post sums.
-pub const NEWTON: u64 = 262144;

@@ -2,8 +2,8 @@
 use Prim.Native.Nat.{ℕ, _/_, _%_}
 use mathlib.Core.List.{List}
 use mathlib.Core.Path.{_≡_}
-use Rattle.report.specs.declared.Outcome.{Outcome}
-use Rattle.report.specs.Checked.{Checked, number, second}
+use Rattle.answer.specs.declared.Outcome.{Outcome}
+use Rattle.answer.specs.Checked.{Checked, number, second}
 
 -- the number is in the low 8 bits of r, the second number above them
 pub record Called (margin : ℕ) (s before after : List ℕ) (r : ℕ) : Type 0 where

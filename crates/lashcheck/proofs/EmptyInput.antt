@@ -7,17 +7,13 @@ use native.Mathlib.Nat.{pow-le-pow-right}
 use native.Mathlib.Omega.{arith}
 use borrow.Author.Tests.{ltb-true, ltb-false}
 use lib.Dec.{ltb}
-use lib.ListN.{length}
 use Rattle.io.specs.Digits.{digits, Fewest}
 use Rattle.sheet.specs.declared.Reading.{Reading}
 use Rattle.sheet.specs.declared.Reading.the-variants as R
-use Rattle.sheet.specs.Refusals.{first, refusal}
+use Rattle.sheet.specs.Refusals.{first, refusalOf, refusal}
 use Rattle.sheet.specs.Layout.{sheetOf}
-use Rattle.report.specs.declared.Outcome.{Outcome}
-use Rattle.report.specs.declared.Outcome.the-variants.{Taken, Refused}
-use Rattle.report.specs.Checked.{TurnedBack, CheckedAs, number, second}
 use Rattle.lashcheck.specs.Lines.{Decimal, Line}
-use Rattle.lashcheck.specs.Replies.{WrittenFor, Reply}
+use Rattle.lashcheck.specs.Replies.{ReplyAs, Reply}
 
 -- a number below 10 is one digit
 one-digit : (n k : ℕ) → n < 10 → Fewest 10 1 n k → k ≡ 1
@@ -37,19 +33,9 @@ decimal n h d = d .spelled ∙ ap (λ k. digits 10 k n) (one-digit n (d .count) 
 line : {text : List ℕ} → Line 1 0 text → text ≡ 49 ∷ 32 ∷ 48 ∷ 10 ∷ []
 line l = l .whole ∙ rw (decimal 1 (omega arith) (l .left-in), decimal 0 (omega arith) (l .right-in))
 
-short : (room : ℕ) → refusal [] room ≡ R.Refused 1 0
-unfolding refusal first
-short room = refl
+short : refusal [] 834 ≡ R.Refused 1 0
+unfolding refusal refusalOf first
+short = refl
 
-module _ {margin : ℕ} {before bytes : List ℕ} (r : Reply margin [] before bytes) where
-  turned : TurnedBack 1 0 before (r .after) (r .outcome)
-  turned =
-      subst (λ (q : Reading). CheckedAs q margin (sheetOf []) before (r .after) (r .outcome)) (short (length before))
-      (r .checked .holds)
-
-  pub empty-input : bytes ≡ 49 ∷ 32 ∷ 48 ∷ 10 ∷ []
-  empty-input = go (r .outcome) (turned .first) (turned .next) (r .written)
-    where
-      go : (o : Outcome) → number o ≡ 1 → second o ≡ 0 → WrittenFor o (r .after) bytes → bytes ≡ 49 ∷ 32 ∷ 48 ∷ 10 ∷ []
-      go (Taken n) a b w = absurd (omega arith)
-      go (Refused c p) a b w = line (rw (a, b) at w)
+pub empty-input : {margin : ℕ} {bytes : List ℕ} → Reply margin [] bytes → bytes ≡ 49 ∷ 32 ∷ 48 ∷ 10 ∷ []
+empty-input {margin} {bytes} r = line (subst (λ (q : Reading). ReplyAs q margin (sheetOf []) bytes) short (r .holds))

@@ -1,6 +1,7 @@
 -- Theorems for the reader.
-pub mod FirstBytes
-pub mod EmptyInput
--- What the proofs of the functions rest on.
+pub mod Theorems
+-- What they and the proofs of the functions rest on.
+mod FirstBytes
+mod EmptyInput
 mod Text
 mod Outcomes

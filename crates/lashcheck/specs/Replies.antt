@@ -1,21 +1,20 @@
 -- What the program writes for a sheet.
 use Prim.Native.Nat.{ℕ}
 use mathlib.Core.List.{List}
-use mathlib.Core.Path.{_≡_}
-use lib.ListN.{take}
-use Rattle.report.specs.declared.Outcome.{Outcome}
-use Rattle.report.specs.declared.Outcome.the-variants.{Taken, Refused}
-use Rattle.report.specs.Checked.{Checked}
+use Rattle.sheet.specs.declared.Reading.{Reading}
+use Rattle.sheet.specs.declared.Reading.the-variants.{Taken, Refused}
+use Rattle.sheet.specs.declared.Sheet.{Sheet}
+use Rattle.sheet.specs.Layout.{sheetOf}
+use Rattle.sheet.specs.Refusals.{longestAnswer, refusal}
+use Rattle.statics.specs.Loads.{classRule}
+use Rattle.answer.specs.Checked.{AnswerTo}
 use Rattle.lashcheck.specs.Lines.{Line}
 
--- for an outcome of the check, which left `after` in the answer buffer: the answer's bytes, or the line of the refusal
-abbrev pub WrittenFor : Outcome → List ℕ → List ℕ → Type 0
-WrittenFor (Taken n) after bytes = bytes ≡ take n after
-WrittenFor (Refused number second) after bytes = Line number second bytes
+-- the line of a refusal, or the bytes that answer the sheet
+abbrev pub ReplyAs : Reading → ℕ → Sheet → List ℕ → Type 0
+ReplyAs (Refused number second) margin t bytes = Line number second bytes
+ReplyAs Taken margin t bytes = AnswerTo margin (classRule t) t bytes
 
--- for the sheet s, with an answer buffer that held `before`
-pub record Reply (margin : ℕ) (s before bytes : List ℕ) : Type 0 where
-  pub outcome : Outcome
-  pub after : List ℕ
-  pub checked : Checked margin s before after outcome
-  pub written : WrittenFor outcome after bytes
+-- for the sheet s; the program's answer buffer has room for the longest answer
+pub record Reply (margin : ℕ) (s bytes : List ℕ) : Type 0 where
+  pub holds : ReplyAs (refusal s longestAnswer) margin (sheetOf s) bytes

@@ -2,7 +2,7 @@
 ghost use Prim.Native.Nat.{_+_, _≤_};
 ghost use lib.ListN.{length};
 ghost use Rattle.io.specs.Counts.{Counts};
-ghost use Rattle.lashcheck.specs.Steps.{counted};
+ghost use Rattle.lashcheck.specs.inner.Texts.{counted};
 use libc::STDIN_FILENO;
 
 // What reading gives: how many bytes stand at the start of the buffer, or that a read failed.

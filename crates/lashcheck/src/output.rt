@@ -2,19 +2,18 @@
 ghost use Prim.Native.Nat.{_+_, _≤_};
 ghost use lib.ListN.{length, take};
 ghost use Rattle.io.specs.Counts.{Counts};
-ghost use Rattle.report.specs.Checked.{demanded, kept};
+ghost use Rattle.answer.specs.Checked.{kept};
 ghost use Rattle.lashcheck.specs.Lines.{Line};
 ghost use Rattle.lashcheck.specs.Replies.{Reply};
-ghost use Rattle.lashcheck.specs.Steps.{Put};
-use report::Outcome;
+ghost use Rattle.lashcheck.specs.inner.Texts.{Put};
+use answer::Outcome;
 
 // Puts what is written for the sheet at the start of `out`, and answers its length.
 pub fn reply(sheet: &[u8], out: &mut [u8; 834]) -> usize
     ensures { λ r. ⌜ Counts r (now (out .exit)) ⌝ }
-    ensures within { λ r. ⌜ Reply kept (now (sheet .entry)) (now (out .entry)) (take r (now (out .exit))) ⌝ }
-    ensures asked { λ r. ⌜ Reply demanded (now (sheet .entry)) (now (out .entry)) (take r (now (out .exit))) ⌝ }
+    ensures { λ r. ⌜ Reply kept (now (sheet .entry)) (take r (now (out .exit))) ⌝ }
 {
-    let outcome = answer::check(sheet, out);
+    let outcome = stack_check::check(sheet, out);
     match outcome {
         Outcome::Taken(n) => n,
         Outcome::Refused(number, second) => put_line(number, second as u64, out),

@@ -9,8 +9,11 @@ use borrow.Author.Tests.{ltb-false}
 use lib.ListN.{length}
 use Rattle.sheet.specs.declared.Reading.{Reading}
 use Rattle.sheet.specs.declared.Reading.the-variants.{Taken, Refused}
-use Rattle.sheet.specs.Layout.{from, below, byteAt, tierCount, tierPlace, lashPlace, doorPlace, sparePlace}
-use Rattle.sheet.specs.Refusals.{Row, row2, first, headRows, tierCountRows, tierRows, tiersRows, lashCountRows, lashRows, endRows, doorRows, closedRows, endsRows, sheetRows}
+use Rattle.sheet.specs.Layout.{tierCount, tierPlace, lashPlace, doorPlace, sparePlace}
+use Rattle.arith.specs.Bytes.{byteAt}
+use Rattle.arith.specs.Lists.{from, below}
+use Rattle.sheet.specs.Refusals.{Row, row2, first, headRows, tierCountRows, tierRows, tiersRows, lashCountRows, lashRows, endRows}
+use Rattle.sheet.specs.Refusals.{doorRows, closedRows, endsRows, sheetRows}
 use Rattle.sheet.proofs.Items.{count-fits}
 
 abbrev IsRefused : Reading → Type 0

@@ -4,18 +4,19 @@ use mathlib.Core.List.{List, [], _∷_, _++_, map, flatMap}
 use mathlib.Core.Path.{_≡_, refl}
 use Rattle.sheet.specs.declared.Reading.{Reading}
 use Rattle.sheet.specs.declared.Reading.the-variants.{Taken, Refused}
-use Rattle.sheet.specs.Layout.{headOf, tierOf, lashOf, tierFits, breakingFits, lashFits, from, below}
-use Rattle.sheet.specs.Refusals.{offTiers, later, notLater, first, refusal}
+use Rattle.sheet.specs.Layout.{headOf, tierOf, lashOf, tierFits, breakingFits, lashFits}
+use Rattle.arith.specs.Lists.{from, below}
+use Rattle.sheet.specs.Refusals.{offTiers, later, notLater, first, refusalOf, refusal}
 use Rattle.sheet.specs.Written.{headBytes, tierBytes, lashBytes}
 
 -- rule 1, route 0, an ordinary lock of 400,000 N
 abbrev head : List ℕ
-head = headBytes (record { rule = 1; route = 0; lock = 0; zero = 0; breaking = 400000 })
+head = headBytes (record { rule = 1; route = 0; lockMaterial = 0; zero = 0; lockBreakingLoad = 400000 })
 
 -- a box like B, of a size, height, mass and A_Vmin
 abbrev box : ℕ → ℕ → ℕ → ℕ → List ℕ
-box size height mass avmin =
-    tierBytes (record { size = size; wind = 0; height = height; mass = mass; at = 500; avmax = 1500; avmin = avmin })
+box size height mass aVmin =
+    tierBytes (record { size = size; wind = 0; height = height; mass = mass; aT = 500; aVmax = 1500; aVmin = aVmin })
 
 abbrev B : List ℕ
 B = box 40 2591 20000 800
@@ -34,7 +35,7 @@ rod tier hook kind ly =
       lz = 2600;
       area = 500;
       modulus = 130000;
-      breaking = 200000;
+      breakingLoad = 200000;
     })
 
 abbrev S : ℕ → ℕ → ℕ → List ℕ
@@ -98,5 +99,5 @@ cases =
     ∷ []
 
 pub answered : map (λ c. refusal (c .sheet) (c .room)) cases ≡ map (λ c. c .answer) cases
-unfolding refusal first headOf tierOf lashOf tierFits breakingFits lashFits offTiers later notLater flatMap from
+unfolding refusal refusalOf first headOf tierOf lashOf tierFits breakingFits lashFits offTiers later notLater flatMap from
 answered = refl

@@ -10,14 +10,18 @@ use borrow.Author.Tests.{ltb-true, ltb-false, le-ltb, lt-ltb}
 use lib.Dec.{ltb}
 use lib.ListN.{length, getD, take, length-take}
 use lib.Seq.{take-all, getD-take}
-use Rattle.arith.specs.Bytes.{le2, le4}
+use Rattle.arith.specs.Bytes.{le2, le4, byteAt}
 use Rattle.sheet.specs.declared.Reading.{Reading}
 use Rattle.sheet.specs.declared.Reading.the-variants.{Taken, Refused}
 use Rattle.sheet.specs.declared.Sheet.{Sheet}
-use Rattle.sheet.specs.Layout.{byteAt, headOf, tierOf, lashOf, tierCount, tierPlace, lashPlace, doorPlace, closedPlace, sparePlace, from, below, sheetOf}
-use Rattle.sheet.specs.Refusals.{Row, row1, row2, row3, row4, row5, row6, row7, row8, row9, row10, row11, row12, row13, notLater, first, headRows, tierCountRows, tierRows, tiersRows, lashCountRows, lashRows, endRows, doorRows, closedRows, sheetRows, unlessRefused, decoded, refusal}
+use Rattle.sheet.specs.Layout.{headOf, tierOf, lashOf, tierCount, tierPlace, lashPlace, doorPlace, closedPlace, sparePlace, sheetOf}
+use Rattle.arith.specs.Lists.{from, below}
+use Rattle.sheet.specs.Refusals.{Row, row1, row2, row3, row4, row5, row6, row7, row8, row9, row10, row11, row12, row13, notLater}
+use Rattle.sheet.specs.Refusals.{first, headRows, tierCountRows, tierRows, tiersRows, lashCountRows, lashRows, endRows, doorRows}
+use Rattle.sheet.specs.Refusals.{closedRows, sheetRows, unlessRefused, decoded, refusalOf, longestAnswer, refusal}
+use Rattle.sheet.specs.Theorems.{FirstBytesDecide}
 use Rattle.sheet.proofs.Items.{count-fits}
-use Rattle.sheet.proofs.Rows.{orElse, first-append}
+use Rattle.sheet.proofs.Rows.{row-holds, row-passed, orElse, first-append}
 use Rattle.sheet.proofs.Clear.{clear, few-tiers, few-lashes}
 use Rattle.sheet.proofs.Refusal.{refusal-of}
 
@@ -57,12 +61,10 @@ each f g i (suc left) m b h =
 
 -- 1 does not hold where 452 bytes are there
 enough : (s : List ℕ) → 452 ≤ length s → (at size : ℕ) → at + size ≤ 452 → (rs : List Row) → first (row1 s at size ∷ rs) ≡ first rs
-unfolding first
-enough s l at size h rs = rw (le-ltb (length s) (at + size) (omega arith))
+enough s l at size h rs = row-passed _ rs (le-ltb (length s) (at + size) (omega arith))
 
 spare : (s : List ℕ) → sparePlace s < length s → first (row2 s (sparePlace s) ∷ []) ≡ Refused 2 (sparePlace s)
-unfolding first
-spare s h = rw (lt-ltb (sparePlace s) (length s) h)
+spare s h = row-holds _ [] (lt-ltb (sparePlace s) (length s) h)
 
 same-decoded : (r q : Reading) (t u : Sheet) → Alike r q → unlessRefused r t ≡ unlessRefused q u
 same-decoded r q t u a = rw (a .left, a .right)
@@ -211,7 +213,7 @@ module _ (s t : List ℕ) (ls : 452 ≤ length s) (lt : 452 ≤ length t) (same 
   unfolding decoded
   long-alike = same-decoded (first (sheetRows s)) (first (sheetRows t)) (sheetOf s) (sheetOf t) sheets-alike
 
-pub first-452 : (s : List ℕ) → decoded (take 452 s) ≡ decoded s
+pub first-452 : FirstBytesDecide
 first-452 s = go (ltb (length s) 452) refl
   where
     go : (b : Bool) → ltb (length s) 452 ≡ b → decoded (take 452 s) ≡ decoded s
@@ -220,8 +222,12 @@ first-452 s = go (ltb (length s) 452) refl
         let long : 452 ≤ length s = ltb-false (length s) 452 e in
         long-alike (take 452 s) s (rw length-take (omega arith)) long (λ i h. getD-take 452 s i 0 h)
 
+pub refusal-of-452 : (s : List ℕ) (own : List Row) (needed room : ℕ) → refusalOf (take 452 s) own needed room ≡ refusalOf s own needed room
+refusal-of-452 s own needed room =
+    refusal-of (take 452 s) own needed room
+    ∙ ap (λ d. orElse (d .reading) (first (own ++ (row13 needed room ∷ [])))) (first-452 s)
+    ∙ sym (refusal-of s own needed room)
+
 pub refusal-452 : (s : List ℕ) (room : ℕ) → refusal (take 452 s) room ≡ refusal s room
-refusal-452 s room =
-    refusal-of (take 452 s) room
-    ∙ ap (λ d. orElse (d .reading) (first (row13 room ∷ []))) (first-452 s)
-    ∙ sym (refusal-of s room)
+unfolding refusal
+refusal-452 s room = refusal-of-452 s [] longestAnswer room

@@ -6,7 +6,8 @@ use mathlib.Core.Path.{_≡_, refl, ap}
 use native.Mathlib.Omega.{arith}
 use borrow.Author.Tests.{ltb-false, eqb-false}
 use lib.Dec.{ltb, eqb}
-use Rattle.sheet.specs.Layout.{byteAt, tierOf, lashOf, lashPlace, lashIn}
+use Rattle.sheet.specs.Layout.{tierOf, lashOf, lashPlace, lashIn}
+use Rattle.arith.specs.Bytes.{byteAt}
 use Rattle.sheet.specs.Refusals.{later, notLater}
 use Rattle.sheet.proofs.Bools.{or-false}
 

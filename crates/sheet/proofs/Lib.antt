@@ -1,7 +1,8 @@
 -- Theorems for the reader and for the crates above.
 pub mod Limits
-pub mod Taken
-pub mod Levels
+pub mod TakenSheets
+pub mod FourALevel
+pub mod SheetLimits
 pub mod Refusal
 pub mod Routes
 pub mod FirstBytes
@@ -11,7 +12,6 @@ pub mod WrittenBytes
 -- What they and the decoder's proofs rest on.
 pub mod Rows
 pub mod Items
-pub mod Arrays
 pub mod Clear
 mod Bools
 mod ReadBack

@@ -1,4 +1,4 @@
--- What the tests of a tier and of a lash say in numbers.
+-- The tests of a tier and of a lash give their limits in numbers.
 use Prim.Native.Nat.{ℕ, zero, suc, _-_, _≤_}
 use mathlib.Core.Bool.{Bool, true, false, _&&_, _||_, true≢false}
 use mathlib.Core.Logic.{_⊎_, inl, inr, ⊎-elim}
@@ -11,6 +11,7 @@ use Rattle.sheet.specs.declared.Lash.{Lash}
 use Rattle.sheet.specs.Layout.{within, upTo, tierFits, breakingFits, lashFits}
 use Rattle.sheet.specs.Refusals.{offTiers}
 use Rattle.sheet.specs.Lashings.{levelOf}
+use Rattle.sheet.specs.inner.Limits.{BreakingLimits, Box, TierFilled, LashLimits}
 use Rattle.sheet.proofs.Bools.{and-true, or-true, or-false}
 
 least : (lo hi x : ℕ) → within lo hi x ≡ true → lo ≤ x
@@ -19,30 +20,9 @@ least lo hi x e = leb-true lo x (and-true (leb lo x) (leb x hi) e .0)
 most : (lo hi x : ℕ) → within lo hi x ≡ true → x ≤ hi
 most lo hi x e = leb-true x hi (and-true (leb lo x) (leb x hi) e .1)
 
-pub record BreakingLimits (x : ℕ) : Type 0 where
-  pub least : 1 ≤ x
-  pub most : x ≤ 2000000
-
 pub breaking-limits : (x : ℕ) → breakingFits x ≡ true → BreakingLimits x
 unfolding breakingFits
-breaking-limits x e = record { least = least 1 2000000 x e; most = most 1 2000000 x e }
-
--- a box's size, in feet, and the heights that go with it, in mm
-abbrev pub Box : ℕ → ℕ → Type 0
-Box size height =
-    ((size ≡ 20) × ((height ≡ 2438) ⊎ (height ≡ 2591))) ⊎ ((size ≡ 40) × ((height ≡ 2591) ⊎ (height ≡ 2896)))
-
-pub record TierLimits (t : Tier) : Type 0 where
-  pub box : Box (t .size) (t .height)
-  pub heightLeast : 2438 ≤ t .height
-  pub heightMost : t .height ≤ 2896
-  pub wind : t .wind ≤ 1
-  pub massLeast : 1 ≤ t .mass
-  pub massMost : t .mass ≤ 30480
-  pub at : t .at ≤ 1500
-  pub avmax : t .avmax ≤ 3000
-  pub avmin : t .avmin ≤ 1000
-  pub order : t .avmin ≤ t .avmax
+breaking-limits x e = record { some = least 1 2000000 x e; most = most 1 2000000 x e }
 
 sized : (s h z a b : ℕ) → eqb s z && (eqb h a || eqb h b) ≡ true → (s ≡ z) × ((h ≡ a) ⊎ (h ≡ b))
 sized s h z a b e =
@@ -55,13 +35,13 @@ heights s h (inl (p, inr q)) = (omega arith, omega arith)
 heights s h (inr (p, inl q)) = (omega arith, omega arith)
 heights s h (inr (p, inr q)) = (omega arith, omega arith)
 
-pub tier-limits : (t : Tier) → tierFits t ≡ true → TierLimits t
+pub tier-filled : (t : Tier) → tierFits t ≡ true → TierFilled t
 unfolding tierFits
-tier-limits t e =
+tier-filled t e =
     let order = and-true _ _ e in
-    let avmin = and-true _ _ (order .0) in
-    let avmax = and-true _ _ (avmin .0) in
-    let at = and-true _ _ (avmax .0) in
+    let aVmin = and-true _ _ (order .0) in
+    let aVmax = and-true _ _ (aVmin .0) in
+    let at = and-true _ _ (aVmax .0) in
     let mass = and-true _ _ (at .0) in
     let wind = and-true _ _ (mass .0) in
     let box : Box (t .size) (t .height) =
@@ -69,58 +49,19 @@ tier-limits t e =
     (or-true _ _ (wind .0)) in
     let tall = heights (t .size) (t .height) box in
     record {
+      limits =
+          record {
+            height = tall .1;
+            mass = most 1 30480 _ (mass .1);
+            aT = leb-true _ _ (at .1);
+            aVmax = leb-true _ _ (aVmax .1);
+            aVmin = leb-true _ _ (aVmin .1);
+          };
       box = box;
-      heightLeast = tall .0;
-      heightMost = tall .1;
+      height = tall .0;
       wind = leb-true _ _ (wind .1);
-      massLeast = least 1 30480 _ (mass .1);
-      massMost = most 1 30480 _ (mass .1);
-      at = leb-true _ _ (at .1);
-      avmax = leb-true _ _ (avmax .1);
-      avmin = leb-true _ _ (avmin .1);
+      mass = least 1 30480 _ (mass .1);
       order = leb-true _ _ (order .1);
-    }
-
-pub record LashLimits (l : Lash) : Type 0 where
-  pub hook : l .hook ≤ 1
-  pub kind : l .kind ≤ 1
-  pub material : l .material ≤ 3
-  pub lx : l .lx ≤ 5000
-  pub lyLeast : 500 ≤ l .ly
-  pub lyMost : l .ly ≤ 10000
-  pub lzLeast : 500 ≤ l .lz
-  pub lzMost : l .lz ≤ 20000
-  pub areaLeast : 50 ≤ l .area
-  pub areaMost : l .area ≤ 1000
-  pub modulusLeast : 10000 ≤ l .modulus
-  pub modulusMost : l .modulus ≤ 200000
-  pub breaking : BreakingLimits (l .breaking)
-
-pub lash-limits : (l : Lash) → lashFits l ≡ true → LashLimits l
-unfolding lashFits
-lash-limits l e =
-    let breaking = and-true _ _ e in
-    let modulus = and-true _ _ (breaking .0) in
-    let area = and-true _ _ (modulus .0) in
-    let lz = and-true _ _ (area .0) in
-    let ly = and-true _ _ (lz .0) in
-    let lx = and-true _ _ (ly .0) in
-    let material = and-true _ _ (lx .0) in
-    let kind = and-true (upTo 1 (l .hook)) (upTo 1 (l .kind)) (material .0) in
-    record {
-      hook = leb-true _ _ (kind .0);
-      kind = leb-true _ _ (kind .1);
-      material = leb-true _ _ (material .1);
-      lx = leb-true _ _ (lx .1);
-      lyLeast = least 500 10000 _ (ly .1);
-      lyMost = most 500 10000 _ (ly .1);
-      lzLeast = least 500 20000 _ (lz .1);
-      lzMost = most 500 20000 _ (lz .1);
-      areaLeast = least 50 1000 _ (area .1);
-      areaMost = most 50 1000 _ (area .1);
-      modulusLeast = least 10000 200000 _ (modulus .1);
-      modulusMost = most 10000 200000 _ (modulus .1);
-      breaking = breaking-limits (l .breaking) (breaking .1);
     }
 
 -- a hook or kind is 0 or 1
@@ -137,13 +78,7 @@ pub level-bottom : (l : Lash) → l .hook ≡ 1 → levelOf l ≡ l .tier - 1
 unfolding levelOf
 level-bottom l e = omega (arith, e)
 
--- a lash that row 11 passes is on a tier, its hook at level 1 to n
-pub record LashPlaced (n : ℕ) (l : Lash) : Type 0 where
-  pub tierLeast : 1 ≤ l .tier
-  pub tierMost : l .tier ≤ n
-  pub levelLeast : 1 ≤ levelOf l
-  pub levelMost : levelOf l ≤ n
-
+-- the level of a lash that row 11 passes
 module _ (n : ℕ) (l : Lash) (e : offTiers n l ≡ false) where
   tests : (eqb (l .tier) 0 || ltb n (l .tier) ≡ false) × (eqb (l .tier) 1 && eqb (l .hook) 1 ≡ false)
   unfolding offTiers
@@ -168,21 +103,64 @@ module _ (n : ℕ) (l : Lash) (e : offTiers n l ≡ false) where
       go true q r = absurd (true≢false (sym (eq-eqb (l .hook) 1 h) ∙ r))
       go false q r = more (eqb-false (l .tier) 1 q)
 
-  pub lash-placed : l .hook ≤ 1 → LashPlaced n l
-  lash-placed h = go (code (l .hook) h)
+  level : l .hook ≤ 1 → (1 ≤ levelOf l) × (levelOf l ≤ n)
+  level h = go (code (l .hook) h)
     where
-      go : (l .hook ≡ 0) ⊎ (l .hook ≡ 1) → LashPlaced n l
-      go (inl q) =
-          record {
-            tierLeast = on .0;
-            tierMost = on .1;
-            levelLeast = rw (level-top l q) (on .0);
-            levelMost = rw (level-top l q) (on .1);
-          }
-      go (inr q) =
-          record {
-            tierLeast = on .0;
-            tierMost = on .1;
-            levelLeast = rw (level-bottom l q) (omega (arith, bottom q));
-            levelMost = rw (level-bottom l q) (omega (arith, on));
-          }
+      go : (l .hook ≡ 0) ⊎ (l .hook ≡ 1) → (1 ≤ levelOf l) × (levelOf l ≤ n)
+      go (inl q) = rw (level-top l q) on
+      go (inr q) = rw (level-bottom l q) (omega (arith, bottom q), omega (arith, on))
+
+  pub lash-limits : lashFits l ≡ true → LashLimits n l
+  unfolding lashFits
+  lash-limits f =
+      let breaking = and-true _ _ f in
+      let modulus = and-true _ _ (breaking .0) in
+      let area = and-true _ _ (modulus .0) in
+      let lz = and-true _ _ (area .0) in
+      let ly = and-true _ _ (lz .0) in
+      let lx = and-true _ _ (ly .0) in
+      let material = and-true _ _ (lx .0) in
+      let kind = and-true (upTo 1 (l .hook)) (upTo 1 (l .kind)) (material .0) in
+      let hook : l .hook ≤ 1 = leb-true _ _ (kind .0) in
+      record {
+        hook = hook;
+        kind = leb-true _ _ (kind .1);
+        material = leb-true _ _ (material .1);
+        lx = leb-true _ _ (lx .1);
+        ly = least 500 10000 _ (ly .1);
+        ly-most = most 500 10000 _ (ly .1);
+        lz = least 500 20000 _ (lz .1);
+        lz-most = most 500 20000 _ (lz .1);
+        area = least 50 1000 _ (area .1);
+        area-most = most 50 1000 _ (area .1);
+        modulus = least 10000 200000 _ (modulus .1);
+        modulus-most = most 10000 200000 _ (modulus .1);
+        breaking = breaking-limits (l .breakingLoad) (breaking .1);
+        tier = on .0;
+        tier-most = on .1;
+        raised = level hook .0;
+        inside = level hook .1;
+      }
+
+-- of more tiers than the lash's stack has
+pub lash-wider : {n m : ℕ} {l : Lash} → n ≤ m → LashLimits n l → LashLimits m l
+lash-wider h f =
+    record {
+      hook = f .hook;
+      kind = f .kind;
+      material = f .material;
+      lx = f .lx;
+      ly = f .ly;
+      ly-most = f .ly-most;
+      lz = f .lz;
+      lz-most = f .lz-most;
+      area = f .area;
+      area-most = f .area-most;
+      modulus = f .modulus;
+      modulus-most = f .modulus-most;
+      breaking = f .breaking;
+      tier = f .tier;
+      tier-most = omega (arith, f .tier-most);
+      raised = f .raised;
+      inside = omega (arith, f .inside);
+    }

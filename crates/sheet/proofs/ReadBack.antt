@@ -12,7 +12,7 @@ use Rattle.sheet.specs.declared.Tier.{Tier}
 use Rattle.sheet.specs.declared.Lash.{Lash}
 use Rattle.sheet.specs.Layout.{headOf, tierOf, lashOf, blankTier, blankLash}
 use Rattle.sheet.specs.Written.{headBytes, tierBytes, lashBytes}
-use Rattle.sheet.proofs.Limits.{TierLimits, LashLimits}
+use Rattle.sheet.specs.inner.Limits.{TierLimits, LashLimits}
 
 -- a field behind the bytes a and p
 module _ (a p b : List ℕ) (at : ℕ) (e : length a ≡ at) where
@@ -29,9 +29,9 @@ module _ (a p b : List ℕ) (at : ℕ) (e : length a ≡ at) where
   pub four-back : (v : ℕ) → v < 4294967296 → le4 (a ++ (p ++ (bytes4 v ++ b))) (at + length p) ≡ v
   four-back v h = rw (← append-assoc a p (bytes4 v ++ b)) (le4-back v (a ++ p) b (at + length p) place h)
 
-pub head-back : (h : Head) (b : List ℕ) → h .breaking < 4294967296 → headOf (headBytes h ++ b) ≡ h
+pub head-back : (h : Head) (b : List ℕ) → h .lockBreakingLoad < 4294967296 → headOf (headBytes h ++ b) ≡ h
 unfolding headOf
-head-back h b l = rw (four-back [] (h .rule ∷ h .route ∷ h .lock ∷ h .zero ∷ []) b 0 refl (h .breaking) l)
+head-back h b l = rw (four-back [] (h .rule ∷ h .route ∷ h .lockMaterial ∷ h .zero ∷ []) b 0 refl (h .lockBreakingLoad) l)
 
 pub first-back : (a : List ℕ) (at : ℕ) → length a ≡ at → (x : ℕ) (c : List ℕ) → getD (a ++ (x ∷ c)) at 0 ≡ x
 first-back a at e x c = rw (add-zero at) at (getD-behind a (x ∷ c) at 0 e)
@@ -44,19 +44,19 @@ module _ (a b : List ℕ) (at : ℕ) (e : length a ≡ at) where
       let p2 = t .size ∷ t .wind ∷ [] in
       let p4 = p2 ++ bytes2 (t .height) in
       let p6 = p4 ++ bytes2 (t .mass) in
-      let p8 = p6 ++ bytes2 (t .at) in
-      let p10 = p8 ++ bytes2 (t .avmax) in
+      let p8 = p6 ++ bytes2 (t .aT) in
+      let p10 = p8 ++ bytes2 (t .aVmax) in
       rw (
         first-back a at e (t .size) _,
         byte-back a p1 _ at e (t .wind),
         two-back a p2 _ at e (t .height) (omega arith),
         two-back a p4 _ at e (t .mass) (omega arith),
-        two-back a p6 _ at e (t .at) (omega arith),
-        two-back a p8 _ at e (t .avmax) (omega arith),
-        two-back a p10 b at e (t .avmin) (omega arith),
+        two-back a p6 _ at e (t .aT) (omega arith),
+        two-back a p8 _ at e (t .aVmax) (omega arith),
+        two-back a p10 b at e (t .aVmin) (omega arith),
       )
 
-  pub lash-back : (l : Lash) → LashLimits l → lashOf (a ++ (lashBytes l ++ b)) at ≡ l
+  pub lash-back : (l : Lash) → LashLimits 10 l → lashOf (a ++ (lashBytes l ++ b)) at ≡ l
   unfolding lashOf
   lash-back l h =
       let p1 = l .tier ∷ [] in
@@ -78,7 +78,7 @@ module _ (a b : List ℕ) (at : ℕ) (e : length a ≡ at) where
         two-back a p8 _ at e (l .lz) (omega arith),
         two-back a p10 _ at e (l .area) (omega arith),
         four-back a p12 _ at e (l .modulus) (omega arith),
-        four-back a p16 b at e (l .breaking) (omega arith),
+        four-back a p16 b at e (l .breakingLoad) (omega arith),
       )
 
 -- a kind of entry: its bytes, of one size, and that they read back
@@ -111,7 +111,7 @@ lashEntry =
       sized = λ l. refl;
       read = lashOf;
       blank = blankLash;
-      Limits = LashLimits;
+      Limits = LashLimits 10;
       back = lash-back;
     }
 

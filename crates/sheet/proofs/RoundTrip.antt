@@ -2,7 +2,7 @@
 use Prim.Native.Nat.{ℕ, zero, suc, _+_, _*_, _<_, _≤_}
 use mathlib.Core.Bool.{false}
 use mathlib.Core.List.{List, [], _∷_, _++_, map, flatMap, append-assoc, append-nil}
-use mathlib.Core.Path.{_≡_, refl, sym, ap, subst, subst₂, _∙_}
+use mathlib.Core.Path.{_≡_, refl, sym, ap, ap₂, subst, subst₂, _∙_}
 use native.Mathlib.Omega.{arith}
 use borrow.Author.Tests.{le-ltb, eq-eqb, ne-eqb}
 use lib.Dec.{eqb}
@@ -11,14 +11,23 @@ use lib.Seq.{getD-take}
 use Rattle.sheet.specs.declared.Lash.{Lash}
 use Rattle.sheet.specs.declared.Sheet.{Sheet}
 use Rattle.sheet.specs.declared.Reading.the-variants.{Taken}
-use Rattle.sheet.specs.Layout.{byteAt, headOf, tierCount, tierPlace, lashPlace, doorPlace, closedPlace, sparePlace, below, padded, blankTier, blankLash, tiersIn, lashesIn, sheetOf}
-use Rattle.sheet.specs.Refusals.{notLater, first, headRows, tierRows, tierCountRows, tiersRows, lashCountRows, lashRows, endRows, doorRows, closedRows, endsRows, sheetRows, row2, decoded}
+use Rattle.sheet.specs.Layout.{headOf, tierCount, tierPlace, lashPlace, doorPlace, closedPlace, sparePlace, blankTier, blankLash}
+use Rattle.sheet.specs.Layout.{tiersIn, lashesIn, sheetOf}
+use Rattle.arith.specs.Bytes.{byteAt}
+use Rattle.arith.specs.Lists.{below, padded}
+use Rattle.sheet.specs.Refusals.{notLater, first, headRows, tierRows, tierCountRows, tiersRows, lashCountRows, lashRows, endRows}
+use Rattle.sheet.specs.Refusals.{doorRows, closedRows, endsRows, sheetRows, row2, decoded}
 use Rattle.sheet.specs.Fits.{EndFits, Fits, Padded}
-use Rattle.sheet.specs.Written.{headBytes, tierBytes, lashBytes, counted, written}
-use Rattle.sheet.proofs.Arrays.{entries-are, full}
+use Rattle.sheet.specs.Written.{headBytes, tierBytes, lashBytes, written}
+use Rattle.sheet.specs.Theorems.{EachWritten}
+use Rattle.arith.proofs.Arrays.{entries-are, full, counted-entries}
 use Rattle.sheet.proofs.Clear.{Clear, clear-taken, clear-join, clear-all}
-use Rattle.sheet.proofs.Limits.{tier-limits, lash-limits, breaking-limits}
+use Rattle.sheet.proofs.Limits.{tier-filled, lash-limits, lash-wider, breaking-limits}
 use Rattle.sheet.proofs.ReadBack.{first-back, head-back, Entry, tierEntry, lashEntry, entries-length, entry-back}
+
+-- a count, and the bytes of as many entries of a list
+abbrev listed : {A : Type 0} → (A → List ℕ) → ℕ → List A → List ℕ
+listed bytes n l = n ∷ flatMap bytes (take n l)
 
 -- a count at `at`, and behind it entries that read as the list's
 record Held {A : Type 0} (E : Entry A) (s : List ℕ) (at : ℕ) (l : List A) (n : ℕ) : Type 0 where
@@ -28,11 +37,11 @@ record Held {A : Type 0} (E : Entry A) (s : List ℕ) (at : ℕ) (l : List A) (n
 
 -- so it is where they are written
 module _ {A : Type 0} (E : Entry A) (l : List A) (n : ℕ) (some : length (take n l) ≡ n) where
-  counted-length : length (counted (E .bytes) n l) ≡ 1 + E .size * n
+  counted-length : length (listed (E .bytes) n l) ≡ 1 + E .size * n
   counted-length = simp (entries-length E (take n l), some) (omega arith)
 
   module _ (good : (k : ℕ) → k < n → E .Limits (getD l k (E .blank))) (a b : List ℕ) (at : ℕ) (e : length a ≡ at) where
-    counted-back : (k : ℕ) → k < n → E .read (a ++ (counted (E .bytes) n l ++ b)) (at + 1 + E .size * k) ≡ getD l k (E .blank)
+    counted-back : (k : ℕ) → k < n → E .read (a ++ (listed (E .bytes) n l ++ b)) (at + 1 + E .size * k) ≡ getD l k (E .blank)
     counted-back k h =
         subst (λ s. E .read s (at + 1 + E .size * k) ≡ getD l k (E .blank))
         (append-assoc a (n ∷ []) (flatMap (E .bytes) (take n l) ++ b))
@@ -44,7 +53,7 @@ module _ {A : Type 0} (E : Entry A) (l : List A) (n : ℕ) (some : length (take 
         longer : length (a ++ (n ∷ [])) ≡ at + 1
         longer = length-append a (n ∷ []) ∙ ap (λ m. m + 1) e
 
-    held-there : Held E (a ++ (counted (E .bytes) n l ++ b)) at l n
+    held-there : Held E (a ++ (listed (E .bytes) n l ++ b)) at l n
     held-there =
         record {
           count = first-back a at e n (flatMap (E .bytes) (take n l) ++ b);
@@ -87,9 +96,6 @@ some-tier : (n : ℕ) → 1 ≤ n → eqb n 0 ≡ false
 some-tier n h = ne-eqb n 0 (λ e. omega (arith, h, e))
 
 module _ (t : Sheet) (f : Fits t) (p : Padded t) where
-  abbrev s : List ℕ
-  s = written t
-
   abbrev n : ℕ
   n = t .ntiers
 
@@ -97,13 +103,16 @@ module _ (t : Sheet) (f : Fits t) (p : Padded t) where
   head = headBytes (t .head)
 
   abbrev tiers : List ℕ
-  tiers = counted tierBytes n (t .tiers)
+  tiers = listed tierBytes n (t .tiers)
 
   abbrev door : List ℕ
-  door = counted lashBytes (t .ndoor) (t .door)
+  door = listed lashBytes (t .ndoor) (t .door)
 
   abbrev closed : List ℕ
-  closed = counted lashBytes (t .nclosed) (t .closed)
+  closed = listed lashBytes (t .nclosed) (t .closed)
+
+  unfoldable s : List ℕ
+  s = head ++ (tiers ++ (door ++ closed))
 
   -- where the ends' counts and the end of the bytes are
   abbrev doorAt : ℕ
@@ -140,16 +149,16 @@ module _ (t : Sheet) (f : Fits t) (p : Padded t) where
 
   -- the bytes, regrouped
   after-tiers : head ++ tiers ++ (door ++ closed) ≡ s
-  unfolding written
+  unfolding s
   after-tiers = append-assoc head tiers (door ++ closed)
 
   after-door : head ++ tiers ++ door ++ closed ≡ s
   after-door = append-assoc (head ++ tiers) door closed ∙ after-tiers
 
   tiers-held : Held tierEntry s 8 (t .tiers) n
-  unfolding written
+  unfolding s
   tiers-held =
-      held-there tierEntry (t .tiers) n tiers-full (λ k q. tier-limits _ (f .tiers k q)) head (door ++ closed) 8 refl
+      held-there tierEntry (t .tiers) n tiers-full (λ k q. tier-filled _ (f .tiers k q) .limits) head (door ++ closed) 8 refl
 
   end-held :
       (lashes : List Lash) (c : ℕ) →
@@ -157,8 +166,8 @@ module _ (t : Sheet) (f : Fits t) (p : Padded t) where
       length (take c lashes) ≡ c →
       (a b : List ℕ) (at : ℕ) →
       length a ≡ at →
-      Held lashEntry (a ++ (counted lashBytes c lashes ++ b)) at lashes c
-  end-held lashes c g some = held-there lashEntry lashes c some (λ k q. lash-limits _ (g .fits k q))
+      Held lashEntry (a ++ (listed lashBytes c lashes ++ b)) at lashes c
+  end-held lashes c g some = held-there lashEntry lashes c some (λ k q. lash-wider (f .few) (lash-limits n _ (g .placed k q) (g .fits k q)))
 
   door-held : Held lashEntry s doorAt (t .door) (t .ndoor)
   door-held =
@@ -182,8 +191,8 @@ module _ (t : Sheet) (f : Fits t) (p : Padded t) where
 
   -- no row of the table holds
   head-held : headOf s ≡ t .head
-  unfolding written
-  head-held = head-back (t .head) (tiers ++ (door ++ closed)) (omega (arith, breaking-limits (t .head .breaking) (f .breaking)))
+  unfolding s
+  head-held = head-back (t .head) (tiers ++ (door ++ closed)) (omega (arith, breaking-limits (t .head .lockBreakingLoad) (f .breaking)))
 
   head-clear : Clear (headRows s)
   head-clear =
@@ -191,7 +200,7 @@ module _ (t : Sheet) (f : Fits t) (p : Padded t) where
         le-ltb (length s) 8 (omega (arith, tiers-held .there)),
         (
           rw (eq-eqb (t .head .rule) 1 (f .rule), eq-eqb (t .head .zero) 0 (f .zero)),
-          (le-ltb 12 (t .head .route) (f .route), (rw (le-ltb 2 (t .head .lock) (f .lock), f .breaking), tt)),
+          (le-ltb 12 (t .head .route) (f .route), (rw (le-ltb 2 (t .head .lockMaterial) (f .lock), f .breaking), tt)),
         ),
       )
 
@@ -264,6 +273,14 @@ module _ (t : Sheet) (f : Fits t) (p : Padded t) where
       closed-count : byteAt s (closedPlace s) ≡ t .nclosed
       closed-count = rw closed-place (closed-held .count)
 
-pub round-trip : (t : Sheet) → Fits t → Padded t → decoded (written t) ≡ record { reading = Taken; sheet = t }
+  written-is : written t ≡ s
+  unfolding written s
+  written-is =
+      ap {B = List ℕ} (λ l. head ++ l)
+      (ap₂ (λ (a b : List ℕ). a ++ b) (counted-entries tierBytes blankTier (t .tiers) n tiers-full)
+      (ap₂ (λ (a b : List ℕ). a ++ b) (counted-entries lashBytes blankLash (t .door) (t .ndoor) door-full)
+      (counted-entries lashBytes blankLash (t .closed) (t .nclosed) closed-full)))
+
+pub round-trip : EachWritten
 unfolding decoded
-round-trip t f p = rw (taken t f p, sheet-back t f p)
+round-trip t f p = rw (written-is t f p, taken t f p, sheet-back t f p)

@@ -7,8 +7,22 @@ use native.Mathlib.Numerals.{add-one}
 use native.Mathlib.Omega.{arith}
 use Rattle.sheet.specs.declared.Reading.{Reading}
 use Rattle.sheet.specs.declared.Reading.the-variants.{Taken, Refused}
-use Rattle.sheet.specs.Layout.{from, sparePlace}
+use Rattle.sheet.specs.Layout.{sparePlace}
+use Rattle.arith.specs.Lists.{from}
 use Rattle.sheet.specs.Refusals.{Row, first, row2, headRows, tiersRows, doorRows, closedRows, endsRows, sheetRows}
+
+pub no-rows : first [] ≡ Taken
+unfolding first
+no-rows = refl
+
+module _ (r : Row) (rs : List Row) where
+  pub row-holds : r .holds ≡ true → first (r ∷ rs) ≡ Refused (r .number) (r .second)
+  unfolding first
+  row-holds e = rw e
+
+  pub row-passed : r .holds ≡ false → first (r ∷ rs) ≡ first rs
+  unfolding first
+  row-passed e = rw e
 
 -- the first reading, unless it is Taken: then the second
 abbrev pub orElse : Reading → Reading → Reading

@@ -7,7 +7,8 @@ use lib.ListN.{getD, take}
 use Rattle.sheet.specs.declared.Tier.{Tier}
 use Rattle.sheet.specs.declared.Lash.{Lash}
 use Rattle.sheet.specs.declared.Sheet.{Sheet}
-use Rattle.sheet.specs.Layout.{tierFits, breakingFits, lashFits, blankTier, blankLash, padded}
+use Rattle.sheet.specs.Layout.{tierFits, breakingFits, lashFits, blankTier, blankLash}
+use Rattle.arith.specs.Lists.{padded}
 use Rattle.sheet.specs.Refusals.{offTiers, later}
 
 abbrev pub tierAt : List Tier → ℕ → Tier
@@ -29,8 +30,8 @@ pub record Fits (t : Sheet) : Type 0 where
   pub rule : t .head .rule ≡ 1
   pub zero : t .head .zero ≡ 0
   pub route : t .head .route ≤ 12
-  pub lock : t .head .lock ≤ 2
-  pub breaking : breakingFits (t .head .breaking) ≡ true
+  pub lock : t .head .lockMaterial ≤ 2
+  pub breaking : breakingFits (t .head .lockBreakingLoad) ≡ true
   pub some : 1 ≤ t .ntiers
   pub few : t .ntiers ≤ 10
   pub tiers : (k : ℕ) → k < t .ntiers → tierFits (tierAt (t .tiers) k) ≡ true

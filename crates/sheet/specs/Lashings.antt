@@ -1,7 +1,6 @@
 -- Document 01: a lash is a cross lash on the lee corner or a side lash on the windward corner; the level of its hook.
-use Prim.Native.Nat.{ℕ, _+_, _-_}
+use Prim.Native.Nat.{ℕ, _-_}
 use mathlib.Core.Bool.{cond}
-use mathlib.Core.List.{List, [], _∷_}
 use Rattle.sheet.specs.declared.Lash.{Lash}
 use Rattle.sheet.specs.declared.Lashing.{Lashing}
 use Rattle.sheet.specs.declared.Lashing.the-variants.{Cross, Side}
@@ -14,8 +13,3 @@ lashingOf l = cond (l .kind is 0) (Cross l) (Side l)
 -- level i is the top of tier i: a top hook (0) of tier i and a bottom hook (1) of tier i + 1 both lie at level i
 unfoldable pub levelOf : Lash → ℕ
 levelOf l = l .tier - l .hook
-
--- how many of the lashes lie at level i
-unfoldable pub atLevel : ℕ → List Lash → ℕ
-atLevel i [] = 0
-atLevel i (l ∷ ls) = cond (i is levelOf l) 1 0 + atLevel i ls

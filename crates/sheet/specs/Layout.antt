@@ -5,7 +5,8 @@ use mathlib.Core.Bool.{Bool, _&&_, _||_}
 use mathlib.Core.List.{List, [], _∷_, _++_, map}
 use lib.Dec.{leb, ltb, eqb}
 use lib.ListN.{length, getD, replicate}
-use Rattle.arith.specs.Bytes.{le2, le4}
+use Rattle.arith.specs.Bytes.{byteAt, le2, le4}
+use Rattle.arith.specs.Lists.{below, padded}
 use Rattle.sheet.specs.declared.Head.{Head}
 use Rattle.sheet.specs.declared.Tier.{Tier}
 use Rattle.sheet.specs.declared.Lash.{Lash}
@@ -13,18 +14,15 @@ use Rattle.sheet.specs.declared.Sheet.{Sheet}
 
 -- Fields: one byte each, or two or four, the least byte first
 
-abbrev pub byteAt : List ℕ → ℕ → ℕ
-byteAt s at = getD s at 0
-
 -- the head, 8 bytes: rule number, route, lock material, a zero byte, lock breaking load
 unfoldable pub headOf : List ℕ → Head
 headOf s =
     record {
       rule = byteAt s 0;
       route = byteAt s 1;
-      lock = byteAt s 2;
+      lockMaterial = byteAt s 2;
       zero = byteAt s 3;
-      breaking = le4 s 4;
+      lockBreakingLoad = le4 s 4;
     }
 
 -- a tier, 12 bytes: size, wind, height, mass, A_T, A_Vmax, A_Vmin
@@ -35,9 +33,9 @@ tierOf s at =
       wind = byteAt s (at + 1);
       height = le2 s (at + 2);
       mass = le2 s (at + 4);
-      at = le2 s (at + 6);
-      avmax = le2 s (at + 8);
-      avmin = le2 s (at + 10);
+      aT = le2 s (at + 6);
+      aVmax = le2 s (at + 8);
+      aVmin = le2 s (at + 10);
     }
 
 -- a lash, 20 bytes: tier, hook, kind, material, LX, LY, LZ, area, modulus, breaking load
@@ -53,7 +51,7 @@ lashOf s at =
       lz = le2 s (at + 8);
       area = le2 s (at + 10);
       modulus = le4 s (at + 12);
-      breaking = le4 s (at + 16);
+      breakingLoad = le4 s (at + 16);
     }
 
 -- Places
@@ -109,10 +107,14 @@ tierFits t =
     || t .size is 40 && (t .height is 2591 || t .height is 2896))
     && upTo 1 (t .wind)
     && within 1 30480 (t .mass)
-    && upTo 1500 (t .at)
-    && upTo 3000 (t .avmax)
-    && upTo 1000 (t .avmin)
-    && upTo (t .avmax) (t .avmin)
+    && upTo 1500 (t .aT)
+    && upTo 3000 (t .aVmax)
+    && upTo 1000 (t .aVmin)
+    && upTo (t .aVmax) (t .aVmin)
+
+-- wind: 0 sheltered, 1 exposed
+abbrev pub exposed : Tier → Bool
+exposed t = t .wind is 1
 
 -- breaking loads, of the lock and of a lash: 1 to 2,000,000
 unfoldable pub breakingFits : ℕ → Bool
@@ -130,27 +132,16 @@ lashFits l =
     && within 500 20000 (l .lz)
     && within 50 1000 (l .area)
     && within 10000 200000 (l .modulus)
-    && breakingFits (l .breaking)
+    && breakingFits (l .breakingLoad)
 
 -- What a sheet holds. An array's entries behind its count are blank
 
 abbrev pub blankTier : Tier
-blankTier = record { size = 0; wind = 0; height = 0; mass = 0; at = 0; avmax = 0; avmin = 0 }
+blankTier = record { size = 0; wind = 0; height = 0; mass = 0; aT = 0; aVmax = 0; aVmin = 0 }
 
 abbrev pub blankLash : Lash
 blankLash =
-    record { tier = 0; hook = 0; kind = 0; material = 0; lx = 0; ly = 0; lz = 0; area = 0; modulus = 0; breaking = 0 }
-
--- i, i + 1, .. of which there are `left`; 0 to n - 1
-unfoldable pub from : ℕ → ℕ → List ℕ
-from i zero = []
-from i (suc left) = i ∷ from (suc i) left
-
-abbrev pub below : ℕ → List ℕ
-below n = from 0 n
-
-abbrev pub padded {ℓ} : {A : Type ℓ} → ℕ → A → List A → List A
-padded size blank l = l ++ replicate (size - length l) blank
+    record { tier = 0; hook = 0; kind = 0; material = 0; lx = 0; ly = 0; lz = 0; area = 0; modulus = 0; breakingLoad = 0 }
 
 abbrev pub tiersIn : List ℕ → ℕ → List Tier
 tiersIn s n = padded 10 blankTier (map (tierIn s) (below n))
@@ -173,7 +164,7 @@ sheetOf s =
 unfoldable pub blankSheet : Sheet
 blankSheet =
     record {
-      head = record { rule = 0; route = 0; lock = 0; zero = 0; breaking = 0 };
+      head = record { rule = 0; route = 0; lockMaterial = 0; zero = 0; lockBreakingLoad = 0 };
       tiers = replicate 10 blankTier;
       ntiers = 0;
       door = replicate 8 blankLash;

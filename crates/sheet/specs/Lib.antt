@@ -2,5 +2,8 @@ pub mod Layout
 pub mod Refusals
 pub mod Lashings
 pub mod Routes
+pub mod Ends
 pub mod Fits
 pub mod Written
+pub mod Theorems
+pub mod inner

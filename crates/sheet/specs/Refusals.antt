@@ -9,7 +9,10 @@ use Rattle.sheet.specs.declared.Sheet.{Sheet}
 use Rattle.sheet.specs.declared.Reading.{Reading}
 use Rattle.sheet.specs.declared.Reading.the-variants.{Taken, Refused}
 use Rattle.sheet.specs.declared.Decoded.{Decoded}
-use Rattle.sheet.specs.Layout.{byteAt, headOf, tierCount, tierPlace, tierIn, lashPlace, lashIn, doorPlace, closedPlace, sparePlace, _is_, _above_, tierFits, breakingFits, lashFits, below, sheetOf, blankSheet}
+use Rattle.sheet.specs.Layout.{headOf, tierCount, tierPlace, tierIn, lashPlace, lashIn, doorPlace, closedPlace, sparePlace, _is_}
+use Rattle.sheet.specs.Layout.{_above_, tierFits, breakingFits, lashFits, sheetOf, blankSheet}
+use Rattle.arith.specs.Bytes.{byteAt}
+use Rattle.arith.specs.Lists.{below}
 
 -- a row: the two numbers that are returned, and whether its condition holds
 pub record Row : Type 0 where
@@ -38,7 +41,7 @@ row4 s = row 4 1 (headOf s .route above 12)
 
 -- 5, 2: lock material above 2, or its breaking load outside the limits
 abbrev pub row5 : List ℕ → Row
-row5 s = row 5 2 (headOf s .lock above 2 || not (breakingFits (headOf s .breaking)))
+row5 s = row 5 2 (headOf s .lockMaterial above 2 || not (breakingFits (headOf s .lockBreakingLoad)))
 
 -- 6, 8: tier count 0 or above 10
 abbrev pub row6 : List ℕ → Row
@@ -82,9 +85,9 @@ notLater s at (suc k) = not (later (lashIn s at k) (lashIn s at (suc k)))
 abbrev pub row12 : List ℕ → ℕ → ℕ → Row
 row12 s at k = row 12 (lashPlace at k) (notLater s at k)
 
--- 13, 834: answer buffer, of `room` bytes, under 834 bytes
-abbrev pub row13 : ℕ → Row
-row13 room = row 13 834 (834 above room)
+-- 13, 834: answer buffer under 834 bytes (`needed`: what a call needs, of which the buffer has `room`)
+abbrev pub row13 : ℕ → ℕ → Row
+row13 needed room = row 13 needed (needed above room)
 
 -- The sheet is read in order; an item is tested for number 1 first, then by rising number among those of its kind
 
@@ -140,6 +143,14 @@ unlessRefused (Refused number second) held = record { reading = Refused number s
 unfoldable pub decoded : List ℕ → Decoded
 decoded s = unlessRefused (first (sheetRows s)) (sheetOf s)
 
--- 13 comes last: what a check of the sheet with an answer buffer of `room` bytes is turned back for
+-- 13 comes last: what a call is turned back for that reads the sheet, then tests rows of its own, and needs so many bytes of an answer
+-- buffer of `room`
+unfoldable pub refusalOf : List ℕ → List Row → ℕ → ℕ → Reading
+refusalOf s own needed room = first (sheetRows s then own then row13 needed room ∷ [])
+
+-- the check of a stack has no rows of its own, and needs room for the longest answer
+abbrev pub longestAnswer : ℕ
+longestAnswer = 834
+
 unfoldable pub refusal : List ℕ → ℕ → Reading
-refusal s room = first (sheetRows s then row13 room ∷ [])
+refusal s room = refusalOf s [] longestAnswer room

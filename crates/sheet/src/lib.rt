@@ -1,8 +1,9 @@
-// A stack sheet: what it holds, or why it is turned back; `decoder` reads one from its bytes. Entries of the arrays are counted
+// A stack sheet: what it holds, or why it is turned back; `sheet_decode` reads one from its bytes. Entries of the arrays are counted
 // from 0, bottom tier first.
 
 ghost use mathlib.Core.Path.{_≡_};
 ghost use Prim.Native.Nat.{_<_, _≤_};
+ghost use Rattle.sheet.specs.Layout.{exposed};
 ghost use Rattle.sheet.specs.Lashings.{lashingOf};
 ghost use Rattle.sheet.specs.Routes.{routePercent};
 
@@ -13,9 +14,9 @@ ghost use Rattle.sheet.specs.Routes.{routePercent};
 pub struct Head {
     pub rule: u8,
     pub route: u8,
-    pub lock: u8,
+    pub lockMaterial: u8,
     pub zero: u8,
-    pub breaking: u32,
+    pub lockBreakingLoad: u32,
 }
 
 // A tier: size in feet, wind (0 sheltered, 1 exposed), height in mm, mass in kg; A_T, A_Vmax and A_Vmin in thousandths
@@ -25,9 +26,9 @@ pub struct Tier {
     pub wind: u8,
     pub height: u16,
     pub mass: u16,
-    pub at: u16,
-    pub avmax: u16,
-    pub avmin: u16,
+    pub aT: u16,
+    pub aVmax: u16,
+    pub aVmin: u16,
 }
 
 // A lash: tier (from 1), hook (0 top corner, 1 bottom corner), kind (0 cross, 1 side), material (0 ordinary rod, 1 higher
@@ -42,7 +43,7 @@ pub struct Lash {
     pub lz: u16,
     pub area: u16,
     pub modulus: u32,
-    pub breaking: u32,
+    pub breakingLoad: u32,
 }
 
 // A decoded sheet. Entries of an array behind its count are blank.
@@ -54,6 +55,13 @@ pub struct Sheet {
     pub ndoor: usize,
     pub closed: [Lash; 8],
     pub nclosed: usize,
+}
+
+// Whether a tier is exposed to the wind.
+pub fn exposed(t: Tier) -> bool
+    ensures { λ r. ⌜ r ≡ exposed t ⌝ }
+{
+    t.wind == 1
 }
 
 // What comes of reading: the sheet is taken, or refused with a number of the table and its second number.

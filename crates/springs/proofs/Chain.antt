@@ -1,14 +1,15 @@
--- A chain of springs over ℚ: under any shifts of its levels, what its lashes hold and the force of each spring are at most the sum of the loads' sizes.
+-- A chain of springs over ℚ: under any shifts of its levels, what its lashes hold and the force of each spring are at most the sum of the
+-- loads' sizes.
 use mathlib.Core.Path.{_≡_, refl, sym, ap, ap₂, subst, _∙_}
 use mathlib.Core.Logic.{_⊎_, inl, inr}
 use mathlib.Core.Bool.{Bool, true, false, not}
-use mathlib.Core.List.{List, [], _∷_}
 use Prim.Native.Nat.{ℕ, zero, suc, _+_, _<_, _≤_}
 use native.Mathlib.Nat.{zero-add, add-suc, suc-add}
 use native.Mathlib.Omega.{arith}
 use native.Mathlib.Decide.{decLe}
 use lib.Dec.{T}
 use lib.IntN.{pos}
+use Rattle.arith.specs.Lists.{from, below}
 use Rattle.arith.proofs.Polynomials.{v, kp}
 use Rattle.arith.proofs.Rings.{∀₁, ∀₂, ∀₃, ∀₆, ∀₇, ∀₈, ∀₉, ∀₁₁, by-ring, by-cert, to, times, num, _⊞_, _⊠_}
 use Rattle.arith.proofs.Rationals.{ℚR, ℚ, int, _+ℚ_, _-ℚ_, _*ℚ_, negℚ, _≤ℚ_, leℚ, flip, absℚ, plus-zero, plus-assoc, nn-int, nn-plus}
@@ -21,11 +22,6 @@ use Rattle.arith.proofs.Sums.{sumℚ-nn}
 -- a whole number
 abbrev pub natℚ : ℕ → ℚ
 natℚ n = int (pos n)
-
--- m numbers from i on
-abbrev pub numbers : ℕ → ℕ → List ℕ
-numbers i zero = []
-numbers i (suc m) = i ∷ numbers (suc i) m
 
 pub total : (p q : ℚ) → (p ≤ℚ q) ⊎ (q ≤ℚ p)
 total p q = go (leℚ p q) refl
@@ -46,27 +42,34 @@ load K k e i = force K e i -ℚ force K e (suc i) +ℚ k i *ℚ e (suc i)
 pub load-minus : (K k e f : ℕ → ℚ) (i : ℕ) → load K k (λ j. e j -ℚ f j) i ≡ load K k e i -ℚ load K k f i
 load-minus K k e f i = go (K i) (K (suc i)) (k i) (e i) (e (suc i)) (e (suc (suc i))) (f i) (f (suc i)) (f (suc (suc i)))
   where
-    go : (K L k a b c x y z : ℚ) → K *ℚ ((b -ℚ y) -ℚ (a -ℚ x)) -ℚ L *ℚ ((c -ℚ z) -ℚ (b -ℚ y)) +ℚ k *ℚ (b -ℚ y) ≡ (K *ℚ (b -ℚ a) -ℚ L *ℚ (c -ℚ b) +ℚ k *ℚ b) -ℚ (K *ℚ (y -ℚ x) -ℚ L *ℚ (z -ℚ y) +ℚ k *ℚ y)
+    go :
+        (K L k a b c x y z : ℚ) →
+        K *ℚ ((b -ℚ y) -ℚ (a -ℚ x)) -ℚ L *ℚ ((c -ℚ z) -ℚ (b -ℚ y)) +ℚ k *ℚ (b -ℚ y)
+        ≡ (K *ℚ (b -ℚ a) -ℚ L *ℚ (c -ℚ b) +ℚ k *ℚ b) -ℚ (K *ℚ (y -ℚ x) -ℚ L *ℚ (z -ℚ y) +ℚ k *ℚ y)
     go = ∀₉ ℚR _ λ ρ. simp qq (by-ring tt)
 
--- the sum of f at the numbers below i
-abbrev below : (ℕ → ℚ) → ℕ → ℚ
-below f zero = natℚ 0
-below f (suc i) = below f i +ℚ f i
+-- the sum of f at each number under i
+abbrev sumBelow : (ℕ → ℚ) → ℕ → ℚ
+sumBelow f zero = natℚ 0
+sumBelow f (suc i) = sumBelow f i +ℚ f i
 
-below-nn : (f : ℕ → ℚ) → ((i : ℕ) → natℚ 0 ≤ℚ f i) → (i : ℕ) → natℚ 0 ≤ℚ below f i
-below-nn f h zero = nn-int 0
-below-nn f h (suc i) = nn-plus (below f i) (f i) (below-nn f h i) (h i)
+sumBelow-nn : (f : ℕ → ℚ) → ((i : ℕ) → natℚ 0 ≤ℚ f i) → (i : ℕ) → natℚ 0 ≤ℚ sumBelow f i
+sumBelow-nn f h zero = nn-int 0
+sumBelow-nn f h (suc i) = nn-plus (sumBelow f i) (f i) (sumBelow-nn f h i) (h i)
 
-below-from : (f : ℕ → ℚ) (i m : ℕ) → below f i +ℚ sumℚ f (numbers i m) ≡ sumℚ f (numbers 0 (i + m))
-unfolding sumℚ
-below-from f zero m = plus-zero (sumℚ f (numbers 0 m)) ∙ ap (λ n. sumℚ f (numbers 0 n)) (sym (zero-add m))
-below-from f (suc i) m = plus-assoc (below f i) (f i) (sumℚ f (numbers (suc i) m)) ∙ below-from f i (suc m) ∙ ap (λ n. sumℚ f (numbers 0 n)) (add-suc i m ∙ sym (suc-add i m))
+sumBelow-rest : (f : ℕ → ℚ) (i m : ℕ) → sumBelow f i +ℚ sumℚ f (from i m) ≡ sumℚ f (below (i + m))
+unfolding sumℚ from
+sumBelow-rest f zero m = plus-zero (sumℚ f (below m)) ∙ ap (λ n. sumℚ f (below n)) (sym (zero-add m))
+sumBelow-rest f (suc i) m =
+    plus-assoc (sumBelow f i) (f i) (sumℚ f (from (suc i) m))
+    ∙ sumBelow-rest f i (suc m)
+    ∙ ap (λ n. sumℚ f (below n)) (add-suc i m ∙ sym (suc-add i m))
 
 -- the same shifts up to level n need the same loads, where no tier stands on it
 pub load-same : (K k d e : ℕ → ℚ) (n : ℕ) → K n ≡ natℚ 0 → ((i : ℕ) → i ≤ n → d i ≡ e i) → (i : ℕ) → i < n → load K k d i ≡ load K k e i
 load-same K k d e n top h i l =
-    ap₂ (λ f x. f +ℚ k i *ℚ x) (ap₂ _-ℚ_ (ap₂ (λ x y. K i *ℚ (x -ℚ y)) (h (suc i) l) (h i (omega arith))) (over (decLe (suc (suc i)) n))) (h (suc i) l)
+    ap₂ (λ f x. f +ℚ k i *ℚ x) (ap₂ _-ℚ_ (ap₂ (λ x y. K i *ℚ (x -ℚ y)) (h (suc i) l) (h i (omega arith))) (over (decLe (suc (suc i)) n)))
+    (h (suc i) l)
   where
     none : (x y : ℚ) → natℚ 0 *ℚ x ≡ natℚ 0 *ℚ y
     none = ∀₂ ℚR _ λ ρ. simp qq (by-ring tt)
@@ -75,14 +78,16 @@ load-same K k d e n top h i l =
     over (yes b) = ap₂ (λ x y. K (suc i) *ℚ (x -ℚ y)) (h (suc (suc i)) b) (h (suc i) l)
     over (no b) =
         let z : K (suc i) ≡ natℚ 0 = ap K {x = suc i} {y = n} (omega arith) ∙ top in
-        ap (λ x. x *ℚ (d (suc (suc i)) -ℚ d (suc i))) z ∙ none (d (suc (suc i)) -ℚ d (suc i)) (e (suc (suc i)) -ℚ e (suc i)) ∙ sym (ap (λ x. x *ℚ (e (suc (suc i)) -ℚ e (suc i))) z)
+        ap (λ x. x *ℚ (d (suc (suc i)) -ℚ d (suc i))) z
+        ∙ none (d (suc (suc i)) -ℚ d (suc i)) (e (suc (suc i)) -ℚ e (suc i))
+        ∙ sym (ap (λ x. x *ℚ (e (suc (suc i)) -ℚ e (suc i))) z)
 
 -- a spring of no stiffness
-slack : (s d : ℚ) → s *ℚ (natℚ 0 *ℚ d) ≡ natℚ 0
-slack = ∀₂ ℚR _ λ ρ. simp qq (by-ring tt)
+no-stiffness : (s d : ℚ) → s *ℚ (natℚ 0 *ℚ d) ≡ natℚ 0
+no-stiffness = ∀₂ ℚR _ λ ρ. simp qq (by-ring tt)
 
--- n levels, no tier over the uppermost. Both bounds go by induction over the levels, with the sign of each shift: a spring between two levels pulls
--- with the sign of their difference, so that it can only help
+-- n levels, no tier over the uppermost. Both bounds go by induction over the levels, with the sign of each shift: a spring between two
+-- levels pulls with the sign of their difference, so that it can only help
 module _ (K k e : ℕ → ℚ) (n : ℕ) (stiff : (i : ℕ) → natℚ 0 ≤ℚ K i) (held : (i : ℕ) → natℚ 0 ≤ℚ k i) (top : K n ≡ natℚ 0) where
   abbrev size : ℕ → ℚ
   size i = absℚ (load K k e i)
@@ -91,30 +96,45 @@ module _ (K k e : ℕ → ℚ) (n : ℕ) (stiff : (i : ℕ) → natℚ 0 ≤ℚ 
   size-nn i = nn-q (load K k e i)
 
   abbrev sizes : ℕ → ℕ → ℚ
-  sizes i m = sumℚ size (numbers i m)
+  sizes i m = sumℚ size (from i m)
 
   abbrev holds : ℕ → ℕ → ℚ
-  holds i m = sumℚ (λ j. k j *ℚ absℚ (e (suc j))) (numbers i m)
+  holds i m = sumℚ (λ j. k j *ℚ absℚ (e (suc j))) (from i m)
 
   top-force : (i : ℕ) → i + 0 ≡ n → (s : ℚ) → s *ℚ force K e i ≡ natℚ 0
-  top-force i h s = ap (λ z. s *ℚ (z *ℚ (e (suc i) -ℚ e i))) (ap K {x = i} {y = n} (omega arith) ∙ top) ∙ slack s (e (suc i) -ℚ e i)
+  top-force i h s = ap (λ z. s *ℚ (z *ℚ (e (suc i) -ℚ e i))) (ap K {x = i} {y = n} (omega arith) ∙ top) ∙ no-stiffness s (e (suc i) -ℚ e i)
 
   -- s may be any sign of the shift e i, so that it can be 0 at 0
-  bound : (i m : ℕ) → i + m ≡ n → (s : ℚ) → s *ℚ e i ≡ absℚ (e i) → ((x : ℚ) → s *ℚ x ≤ℚ absℚ x) → holds i m ≤ℚ sizes i m -ℚ s *ℚ force K e i
-  unfolding sumℚ
+  bound :
+      (i m : ℕ) →
+      i + m ≡ n →
+      (s : ℚ) →
+      s *ℚ e i ≡ absℚ (e i) →
+      ((x : ℚ) → s *ℚ x ≤ℚ absℚ x) →
+      holds i m ≤ℚ sizes i m -ℚ s *ℚ force K e i
+  unfolding sumℚ from
   bound i zero h s a b = subst (λ z. natℚ 0 ≤ℚ natℚ 0 -ℚ z) (sym (top-force i h s)) none
     where
       none : natℚ 0 ≤ℚ natℚ 0 -ℚ natℚ 0
       none = simp qq (nn-int 0)
   bound i (suc m) h s a b =
-      step (K i) (k i) (e (suc i)) (e i) (force K e (suc i)) (absℚ (e (suc i))) (size i) (sgq (e (suc i))) s (holds (suc i) m) (sizes (suc i) m) (stiff i) (hit-q (e (suc i))) (low-q (e (suc i)) (load K k e i))
-      (grow (e (suc i)) (e i) (sgq (e (suc i))) s (absℚ (e (suc i))) (absℚ (e i)) (hit-q (e (suc i))) a (low-q (e (suc i)) (e i)) (b (e (suc i))))
+      step (K i) (k i) (e (suc i)) (e i) (force K e (suc i)) (absℚ (e (suc i))) (size i) (sgq (e (suc i))) s (holds (suc i) m)
+      (sizes (suc i) m) (stiff i) (hit-q (e (suc i))) (low-q (e (suc i)) (load K k e i))
+      (grow (e (suc i)) (e i) (sgq (e (suc i))) s (absℚ (e (suc i))) (absℚ (e i)) (hit-q (e (suc i))) a (low-q (e (suc i)) (e i))
+      (b (e (suc i))))
       (bound (suc i) m (omega arith) (sgq (e (suc i))) (hit-q (e (suc i))) (low-q (e (suc i))))
     where
       grow : (e p s t a b : ℚ) → s *ℚ e ≡ a → t *ℚ p ≡ b → s *ℚ p ≤ℚ b → t *ℚ e ≤ℚ a → natℚ 0 ≤ℚ (s -ℚ t) *ℚ (e -ℚ p)
       grow = ∀₆ ℚR _ λ ρ. simp qq λ x y h l. by-cert (to h ⊞ to l ⊞ times (kp 1) x ⊞ times (kp 1) y) tt
 
-      step : (K k e p F ae ag se sp H G : ℚ) → natℚ 0 ≤ℚ K → se *ℚ e ≡ ae → se *ℚ (K *ℚ (e -ℚ p) -ℚ F +ℚ k *ℚ e) ≤ℚ ag → natℚ 0 ≤ℚ (se -ℚ sp) *ℚ (e -ℚ p) → H ≤ℚ G -ℚ se *ℚ F → k *ℚ ae +ℚ H ≤ℚ ag +ℚ G -ℚ sp *ℚ (K *ℚ (e -ℚ p))
+      step :
+          (K k e p F ae ag se sp H G : ℚ) →
+          natℚ 0 ≤ℚ K →
+          se *ℚ e ≡ ae →
+          se *ℚ (K *ℚ (e -ℚ p) -ℚ F +ℚ k *ℚ e) ≤ℚ ag →
+          natℚ 0 ≤ℚ (se -ℚ sp) *ℚ (e -ℚ p) →
+          H ≤ℚ G -ℚ se *ℚ F →
+          k *ℚ ae +ℚ H ≤ℚ ag +ℚ G -ℚ sp *ℚ (K *ℚ (e -ℚ p))
       step = ∀₁₁ ℚR _ λ ρ. simp qq λ pK sa sl gr ih. by-cert (to ih ⊞ to sl ⊞ to pK ⊠ to gr ⊞ times (v 1) sa) tt
 
   -- with the deck at rest, the lashes hold no more than the loads
@@ -136,20 +156,30 @@ module _ (K k e : ℕ → ℚ) (n : ℕ) (stiff : (i : ℕ) → natℚ 0 ≤ℚ 
   -- s is 1 or -1
   module _ (s : ℚ) (low : (x : ℚ) → s *ℚ x ≤ℚ absℚ x) where
     sizes-nn : (i m : ℕ) → natℚ 0 ≤ℚ sizes i m
-    sizes-nn i m = sumℚ-nn size size-nn (numbers i m)
+    sizes-nn i m = sumℚ-nn size size-nn (from i m)
 
     abbrev under : ℕ → ℚ
-    under i = below size i
+    under i = sumBelow size i
 
-    from-below : (i : ℕ) → natℚ 0 ≤ℚ s *ℚ e (suc i) → s *ℚ e i ≤ℚ s *ℚ e (suc i) → negℚ (s *ℚ force K e (suc i)) ≤ℚ under (suc i)
-    from-below i l b = back s (K i) (force K e (suc i)) (k i) (e (suc i)) (e i) (size i) (under i) (low (load K k e i)) (stiff i) b (held i) l (below-nn size size-nn i)
+    further : (i : ℕ) → natℚ 0 ≤ℚ s *ℚ e (suc i) → s *ℚ e i ≤ℚ s *ℚ e (suc i) → negℚ (s *ℚ force K e (suc i)) ≤ℚ under (suc i)
+    further i l b =
+        back s (K i) (force K e (suc i)) (k i) (e (suc i)) (e i) (size i) (under i) (low (load K k e i)) (stiff i) b (held i) l
+        (sumBelow-nn size size-nn i)
       where
-        back : (s K F k d e g G : ℚ) → s *ℚ (K *ℚ (d -ℚ e) -ℚ F +ℚ k *ℚ d) ≤ℚ g → natℚ 0 ≤ℚ K → s *ℚ e ≤ℚ s *ℚ d → natℚ 0 ≤ℚ k → natℚ 0 ≤ℚ s *ℚ d → natℚ 0 ≤ℚ G → negℚ (s *ℚ F) ≤ℚ G +ℚ g
+        back :
+            (s K F k d e g G : ℚ) →
+            s *ℚ (K *ℚ (d -ℚ e) -ℚ F +ℚ k *ℚ d) ≤ℚ g →
+            natℚ 0 ≤ℚ K →
+            s *ℚ e ≤ℚ s *ℚ d →
+            natℚ 0 ≤ℚ k →
+            natℚ 0 ≤ℚ s *ℚ d →
+            natℚ 0 ≤ℚ G →
+            negℚ (s *ℚ F) ≤ℚ G +ℚ g
         back = ∀₈ ℚR _ λ ρ. simp qq λ h a b c d g. by-cert (to h ⊞ to a ⊠ to b ⊞ to c ⊠ to d ⊞ to g) tt
 
     -- a spring over a level that is to leeward pulls to leeward by no more than the loads over it
     pull-up : (i m : ℕ) → i + m ≡ n → natℚ 0 ≤ℚ s *ℚ e i → s *ℚ force K e i ≤ℚ sizes i m
-    unfolding sumℚ
+    unfolding sumℚ from
     pull-up i zero h l = subst (λ z. z ≤ℚ natℚ 0) (sym (top-force i h s)) (nn-int 0)
     pull-up i (suc m) h l = go (pull-up (suc i) m (omega arith)) (total (s *ℚ e (suc i)) (s *ℚ e i))
       where
@@ -159,43 +189,68 @@ module _ (K k e : ℕ → ℚ) (n : ℕ) (stiff : (i : ℕ) → natℚ 0 ≤ℚ 
         onward : (s f F k d g G : ℚ) → s *ℚ (f -ℚ F +ℚ k *ℚ d) ≤ℚ g → s *ℚ F ≤ℚ G → natℚ 0 ≤ℚ k → natℚ 0 ≤ℚ s *ℚ d → s *ℚ f ≤ℚ g +ℚ G
         onward = ∀₇ ℚR _ λ ρ. simp qq λ a b c d. by-cert (to a ⊞ to b ⊞ to c ⊠ to d) tt
 
-        go : (natℚ 0 ≤ℚ s *ℚ e (suc i) → s *ℚ force K e (suc i) ≤ℚ sizes (suc i) m) → (s *ℚ e (suc i) ≤ℚ s *ℚ e i) ⊎ (s *ℚ e i ≤ℚ s *ℚ e (suc i)) → s *ℚ force K e i ≤ℚ sizes i (suc m)
+        go :
+            (natℚ 0 ≤ℚ s *ℚ e (suc i) → s *ℚ force K e (suc i) ≤ℚ sizes (suc i) m) →
+            (s *ℚ e (suc i) ≤ℚ s *ℚ e i) ⊎ (s *ℚ e i ≤ℚ s *ℚ e (suc i)) →
+            s *ℚ force K e i ≤ℚ sizes i (suc m)
         go ih (inl b) = back s (K i) (e (suc i)) (e i) (size i) (sizes (suc i) m) (stiff i) b (size-nn i) (sizes-nn (suc i) m)
         go ih (inr b) =
             let over = ≤ℚ-trans (natℚ 0) (s *ℚ e i) (s *ℚ e (suc i)) l b in
-            onward s (force K e i) (force K e (suc i)) (k i) (e (suc i)) (size i) (sizes (suc i) m) (low (load K k e i)) (ih over) (held i) over
+            onward s (force K e i) (force K e (suc i)) (k i) (e (suc i)) (size i) (sizes (suc i) m) (low (load K k e i)) (ih over)
+            (held i) over
 
     -- and pulls to windward by no more than the loads under it
     pull-down : e 0 ≡ natℚ 0 → (i : ℕ) → natℚ 0 ≤ℚ s *ℚ e (suc i) → negℚ (s *ℚ force K e (suc i)) ≤ℚ under (suc i)
-    pull-down z zero l = from-below 0 l (subst (λ x. s *ℚ x ≤ℚ s *ℚ e 1) (sym z) (rest s (s *ℚ e 1) l))
+    pull-down z zero l = further 0 l (subst (λ x. s *ℚ x ≤ℚ s *ℚ e 1) (sym z) (rest s (s *ℚ e 1) l))
       where
         rest : (s x : ℚ) → natℚ 0 ≤ℚ x → s *ℚ natℚ 0 ≤ℚ x
         rest = ∀₂ ℚR _ λ ρ. simp qq λ h. by-cert (to h) tt
     pull-down z (suc i) l = go (pull-down z i) (total (s *ℚ e (suc i)) (s *ℚ e (suc (suc i))))
       where
-        onward : (s f F k d g G : ℚ) → s *ℚ (f -ℚ F +ℚ k *ℚ d) ≤ℚ g → negℚ (s *ℚ f) ≤ℚ G → natℚ 0 ≤ℚ k → natℚ 0 ≤ℚ s *ℚ d → negℚ (s *ℚ F) ≤ℚ G +ℚ g
+        onward :
+            (s f F k d g G : ℚ) →
+            s *ℚ (f -ℚ F +ℚ k *ℚ d) ≤ℚ g →
+            negℚ (s *ℚ f) ≤ℚ G →
+            natℚ 0 ≤ℚ k →
+            natℚ 0 ≤ℚ s *ℚ d →
+            negℚ (s *ℚ F) ≤ℚ G +ℚ g
         onward = ∀₇ ℚR _ λ ρ. simp qq λ a b c d. by-cert (to a ⊞ to b ⊞ to c ⊠ to d) tt
 
-        go : (natℚ 0 ≤ℚ s *ℚ e (suc i) → negℚ (s *ℚ force K e (suc i)) ≤ℚ under (suc i)) → (s *ℚ e (suc i) ≤ℚ s *ℚ e (suc (suc i))) ⊎ (s *ℚ e (suc (suc i)) ≤ℚ s *ℚ e (suc i)) → negℚ (s *ℚ force K e (suc (suc i))) ≤ℚ under (suc (suc i))
-        go ih (inl b) = from-below (suc i) l b
+        go :
+            (natℚ 0 ≤ℚ s *ℚ e (suc i) → negℚ (s *ℚ force K e (suc i)) ≤ℚ under (suc i)) →
+            (s *ℚ e (suc i) ≤ℚ s *ℚ e (suc (suc i))) ⊎ (s *ℚ e (suc (suc i)) ≤ℚ s *ℚ e (suc i)) →
+            negℚ (s *ℚ force K e (suc (suc i))) ≤ℚ under (suc (suc i))
+        go ih (inl b) = further (suc i) l b
         go ih (inr b) =
-            onward s (force K e (suc i)) (force K e (suc (suc i))) (k (suc i)) (e (suc (suc i))) (size (suc i)) (under (suc i)) (low (load K k e (suc i))) (ih (≤ℚ-trans (natℚ 0) (s *ℚ e (suc (suc i))) (s *ℚ e (suc i)) l b)) (held (suc i)) l
+            onward s (force K e (suc i)) (force K e (suc (suc i))) (k (suc i)) (e (suc (suc i))) (size (suc i)) (under (suc i))
+            (low (load K k e (suc i))) (ih (≤ℚ-trans (natℚ 0) (s *ℚ e (suc (suc i))) (s *ℚ e (suc i)) l b)) (held (suc i)) l
 
   -- what is at most the loads under a level, or those over it, is at most all of them
-  all-under : (i m : ℕ) → i + m ≡ n → (x : ℚ) → x ≤ℚ below size i → x ≤ℚ sizes 0 n
-  all-under i m h x l = subst (λ z. x ≤ℚ z) (below-from size i m ∙ ap (λ (j : ℕ). sizes 0 j) h) (go x (below size i) (sizes i m) l (sumℚ-nn size size-nn (numbers i m)))
+  all-under : (i m : ℕ) → i + m ≡ n → (x : ℚ) → x ≤ℚ sumBelow size i → x ≤ℚ sizes 0 n
+  all-under i m h x l =
+      subst (λ z. x ≤ℚ z) (sumBelow-rest size i m ∙ ap (λ (j : ℕ). sizes 0 j) h)
+      (go x (sumBelow size i) (sizes i m) l (sumℚ-nn size size-nn (from i m)))
     where
       go : (x a b : ℚ) → x ≤ℚ a → natℚ 0 ≤ℚ b → x ≤ℚ a +ℚ b
       go = ∀₃ ℚR _ λ ρ. simp qq λ h l. by-cert (to h ⊞ to l) tt
 
   all-over : (i m : ℕ) → i + m ≡ n → (x : ℚ) → x ≤ℚ sizes i m → x ≤ℚ sizes 0 n
-  all-over i m h x l = subst (λ z. x ≤ℚ z) (below-from size i m ∙ ap (λ (j : ℕ). sizes 0 j) h) (go x (below size i) (sizes i m) l (below-nn size size-nn i))
+  all-over i m h x l =
+      subst (λ z. x ≤ℚ z) (sumBelow-rest size i m ∙ ap (λ (j : ℕ). sizes 0 j) h)
+      (go x (sumBelow size i) (sizes i m) l (sumBelow-nn size size-nn i))
     where
       go : (x a b : ℚ) → x ≤ℚ b → natℚ 0 ≤ℚ a → x ≤ℚ a +ℚ b
       go = ∀₃ ℚR _ λ ρ. simp qq λ h l. by-cert (to h ⊞ to l) tt
 
   -- to either side: s is 1 or -1
-  pull : e 0 ≡ natℚ 0 → (s : ℚ) → ((x : ℚ) → s *ℚ x ≤ℚ absℚ x) → ((x : ℚ) → negℚ s *ℚ x ≤ℚ absℚ x) → (i m : ℕ) → i + m ≡ n → s *ℚ force K e i ≤ℚ sizes 0 n
+  pull :
+      e 0 ≡ natℚ 0 →
+      (s : ℚ) →
+      ((x : ℚ) → s *ℚ x ≤ℚ absℚ x) →
+      ((x : ℚ) → negℚ s *ℚ x ≤ℚ absℚ x) →
+      (i m : ℕ) →
+      i + m ≡ n →
+      s *ℚ force K e i ≤ℚ sizes 0 n
   pull z s low high zero m h = all-over 0 m h (s *ℚ force K e 0) (pull-up s low 0 m h (subst (λ x. natℚ 0 ≤ℚ s *ℚ x) (sym z) (rest s)))
     where
       rest : (s : ℚ) → natℚ 0 ≤ℚ s *ℚ natℚ 0
@@ -212,14 +267,15 @@ module _ (K k e : ℕ → ℚ) (n : ℕ) (stiff : (i : ℕ) → natℚ 0 ≤ℚ 
       go (inl l) = all-over (suc i) m h (s *ℚ force K e (suc i)) (pull-up s low (suc i) m h l)
       go (inr l) =
           all-under (suc i) m h (s *ℚ force K e (suc i))
-          (twice s (force K e (suc i)) (below size (suc i)) (pull-down (negℚ s) high z i (turned s (e (suc i)) l)))
+          (twice s (force K e (suc i)) (sumBelow size (suc i)) (pull-down (negℚ s) high z i (turned s (e (suc i)) l)))
 
   -- nor is any spring's force more
   pub forced-by-loads : e 0 ≡ natℚ 0 → (i m : ℕ) → i + m ≡ n → absℚ (force K e i) ≤ℚ sizes 0 n
   forced-by-loads z i m h =
       absℚ-le (force K e i) (sizes 0 n)
       (one (force K e i) (sizes 0 n) (pull z (natℚ 1) (λ x. plain x (absℚ x) (ge-q x)) (λ x. minus x (absℚ x) (ge-neg-q x)) i m h))
-      (minus-one (force K e i) (sizes 0 n) (pull z (negℚ (natℚ 1)) (λ x. minus x (absℚ x) (ge-neg-q x)) (λ x. twice x (absℚ x) (ge-q x)) i m h))
+      (minus-one (force K e i) (sizes 0 n)
+      (pull z (negℚ (natℚ 1)) (λ x. minus x (absℚ x) (ge-neg-q x)) (λ x. twice x (absℚ x) (ge-q x)) i m h))
     where
       plain : (x a : ℚ) → x ≤ℚ a → natℚ 1 *ℚ x ≤ℚ a
       plain = ∀₂ ℚR _ λ ρ. simp qq λ h. by-cert (to h) tt

@@ -3,7 +3,7 @@ use mathlib.Core.Path.{sym, subst}
 use Prim.Native.Nat.{ℕ, _+_, _<_, _≤_}
 use lib.IntN.{pos}
 use Rattle.arith.specs.Fractions.{Frac, nat, _+q_, _*q_, _/q_, _≈_}
-use Rattle.arith.specs.Rounding.{scaledDown}
+use Rattle.arith.specs.inner.Rounding.{scaledDown}
 use Rattle.arith.proofs.Rings.{∀₁, ∀₄, ∀₅, ∀₇, by-cert, to, num, _⊞_}
 use Rattle.arith.proofs.Rationals.{ℚR, ℚ, mk, _+ℚ_, _*ℚ_, _≤ℚ_, of-⊑, to-⊑, int-plus}
 use Rattle.arith.proofs.RationalTerms.{qq}
@@ -11,7 +11,7 @@ use Rattle.arith.proofs.RationalOrder.{nat-q}
 use Rattle.arith.proofs.FractionsInRationals.{mk-int, mk-add, of-≈, toℚ}
 use Rattle.arith.proofs.OrderedField.{⊏-⊑}
 use Rattle.arith.proofs.RoundingLaws.{scaled-units-low, scaled-units-high}
-use Rattle.springs.specs.Promise.{Rounded}
+use Rattle.springs.specs.inner.Promise.{Rounded}
 use Rattle.springs.proofs.Chain.{natℚ}
 
 -- over ℚ
@@ -36,7 +36,9 @@ rounded-quotient x m c h = record {
 }
 
 pub rounded-none : (m : ℕ) → Rounded m 0 0 (nat 0)
-rounded-none m = rounded m 0 0 (nat 0) (subst (λ z. natℚ 0 ≤ℚ natℚ m *ℚ z) (sym (mk-int (pos 0))) (low (natℚ m))) (subst (λ z. natℚ m *ℚ z ≤ℚ natℚ 0 +ℚ natℚ 0) (sym (mk-int (pos 0))) (high (natℚ m)))
+rounded-none m =
+    rounded m 0 0 (nat 0) (subst (λ z. natℚ 0 ≤ℚ natℚ m *ℚ z) (sym (mk-int (pos 0))) (low (natℚ m)))
+    (subst (λ z. natℚ m *ℚ z ≤ℚ natℚ 0 +ℚ natℚ 0) (sym (mk-int (pos 0))) (high (natℚ m)))
   where
     low : (m : ℚ) → natℚ 0 ≤ℚ m *ℚ natℚ 0
     low = ∀₁ ℚR _ λ ρ. simp qq (by-cert (num 0) tt)
@@ -47,8 +49,10 @@ rounded-none m = rounded m 0 0 (nat 0) (subst (λ z. natℚ 0 ≤ℚ natℚ m *�
 pub rounded-sum : (m a b x z : ℕ) (y w : Frac) → Rounded m a x y → Rounded m b z w → Rounded m (a + b) (x + z) (y +q w)
 rounded-sum m a b x z y w r s =
     rounded m (a + b) (x + z) (y +q w)
-    (rw (mk-add y w, int-plus (pos x) (pos z)) (low (natℚ m) (natℚ x) (natℚ z) (mk y) (mk w) (rounded-low m a x y r) (rounded-low m b z w s)))
-    (rw (mk-add y w, int-plus (pos x) (pos z), int-plus (pos a) (pos b)) (high (natℚ m) (natℚ a) (natℚ b) (natℚ x) (natℚ z) (mk y) (mk w) (rounded-high m a x y r) (rounded-high m b z w s)))
+    (rw (mk-add y w, int-plus (pos x) (pos z))
+    (low (natℚ m) (natℚ x) (natℚ z) (mk y) (mk w) (rounded-low m a x y r) (rounded-low m b z w s)))
+    (rw (mk-add y w, int-plus (pos x) (pos z), int-plus (pos a) (pos b))
+    (high (natℚ m) (natℚ a) (natℚ b) (natℚ x) (natℚ z) (mk y) (mk w) (rounded-high m a x y r) (rounded-high m b z w s)))
   where
     low : (m x z y w : ℚ) → x ≤ℚ m *ℚ y → z ≤ℚ m *ℚ w → x +ℚ z ≤ℚ m *ℚ (y +ℚ w)
     low = ∀₅ ℚR _ λ ρ. simp qq λ h l. by-cert (to h ⊞ to l) tt
@@ -57,10 +61,13 @@ rounded-sum m a b x z y w r s =
     high = ∀₇ ℚR _ λ ρ. simp qq λ h l. by-cert (to h ⊞ to l) tt
 
 pub rounded-more : (m a b x : ℕ) (y : Frac) → a ≤ b → Rounded m a x y → Rounded m b x y
-rounded-more m a b x y h r = rounded m b x y (rounded-low m a x y r) (go (natℚ m *ℚ mk y) (natℚ x) (natℚ a) (natℚ b) (rounded-high m a x y r) (nat-q a b h))
+rounded-more m a b x y h r =
+    rounded m b x y (rounded-low m a x y r) (go (natℚ m *ℚ mk y) (natℚ x) (natℚ a) (natℚ b) (rounded-high m a x y r) (nat-q a b h))
   where
     go : (u x a b : ℚ) → u ≤ℚ x +ℚ a → a ≤ℚ b → u ≤ℚ x +ℚ b
     go = ∀₄ ℚR _ λ ρ. simp qq λ h l. by-cert (to h ⊞ to l) tt
 
 pub rounded-same : (m a x : ℕ) (y z : Frac) → y ≈ z → Rounded m a x y → Rounded m a x z
-rounded-same m a x y z e r = rounded m a x z (subst (λ u. natℚ x ≤ℚ natℚ m *ℚ u) (of-≈ y z e) (rounded-low m a x y r)) (subst (λ u. natℚ m *ℚ u ≤ℚ natℚ x +ℚ natℚ a) (of-≈ y z e) (rounded-high m a x y r))
+rounded-same m a x y z e r =
+    rounded m a x z (subst (λ u. natℚ x ≤ℚ natℚ m *ℚ u) (of-≈ y z e) (rounded-low m a x y r))
+    (subst (λ u. natℚ m *ℚ u ≤ℚ natℚ x +ℚ natℚ a) (of-≈ y z e) (rounded-high m a x y r))

@@ -5,10 +5,12 @@ pub mod Levels
 pub mod Growth
 pub mod OneSolution
 pub mod Stability
+pub mod Recursion
 pub mod Ranges
 pub mod Unheld
 pub mod Inputs
 pub mod Residuals
-pub mod Kept
+pub mod Bound
+pub mod Solved
 pub mod Loops
 pub mod Examples

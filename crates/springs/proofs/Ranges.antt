@@ -7,8 +7,11 @@ use native.Mathlib.Numerals.{add-one}
 use native.Mathlib.Omega.{arith}
 use native.Mathlib.Decide.{decLe}
 use lib.ListN.{getD}
-use Rattle.springs.specs.Promise.{stiffnessScale, softest, stiffest, mostLoaded, farthest, Solvable}
-use Rattle.springs.specs.Steps.{divisor, stiffnessDown, loadDown, shiftUp, InRange, mostLoad, HandedDown, Climbed}
+use Rattle.springs.specs.Equations.{doorSpring, closedSpring}
+use Rattle.springs.specs.inner.Promise.{stiffnessScale, mostLoaded, farthest, Solvable}
+use Rattle.springs.specs.inner.Elimination.{divisor, stiffnessDown, loadDown, shiftUp, InRange, mostLoadTogether}
+use Rattle.springs.proofs.Recursion.{x, y, d, stiffness-top, load-top, stiffness-step, load-step, shift-deck, shift-step}
+use Rattle.springs.proofs.Recursion.{shift-behind}
 
 pub quotient-le : (x c b : ℕ) → 0 < c → x ≤ b * c → x / c ≤ b
 quotient-le x c b p h = le-of-mul-le-mul-right (omega (arith, div-add-mod' x c)) p
@@ -28,9 +31,15 @@ load-le k κ ω x y p = quotient-le (k * (ω + y) * stiffnessScale) (divisor k �
     go : (k a b : ℕ) → k * a * stiffnessScale ≤ a * (k * stiffnessScale + b)
     go k a b = omega arith
 
-pub shift-le : (k κ ω x y p : ℕ) → softest ≤ k → softest * shiftUp k κ ω x y p ≤ ω + y + softest * p
+pub shift-le : (k κ ω x y p : ℕ) → doorSpring ≤ k → doorSpring * shiftUp k κ ω x y p ≤ ω + y + doorSpring * p
 unfolding shiftUp
-shift-le k κ ω x y p h = go (ω + y) (shiftUp k κ ω x y p) (omega (arith, div-add-mod' ((ω + y + k * p) * stiffnessScale) (divisor k κ x), mul-le-mul-left (shiftUp k κ ω x y p) (more (k * stiffnessScale) (κ + x))))
+shift-le k κ ω x y p h =
+    go (ω + y) (shiftUp k κ ω x y p)
+    (omega (
+      arith,
+      div-add-mod' ((ω + y + k * p) * stiffnessScale) (divisor k κ x),
+      mul-le-mul-left (shiftUp k κ ω x y p) (more (k * stiffnessScale) (κ + x)),
+    ))
   where
     more : (a b : ℕ) → a ≤ a + b
     more a b = omega arith
@@ -38,25 +47,29 @@ shift-le k κ ω x y p h = go (ω + y) (shiftUp k κ ω x y p) (omega (arith, di
     split : (q : ℕ) → p ≤ q → k * (q - p) + k * p ≡ k * q
     split q l = sym (mul-add k (q - p) p) ∙ ap (λ (m : ℕ). k * m) (omega arith)
 
-    go : (a q : ℕ) → q * (k * stiffnessScale) ≤ (a + k * p) * stiffnessScale → softest * q ≤ a + softest * p
+    go : (a q : ℕ) → q * (k * stiffnessScale) ≤ (a + k * p) * stiffnessScale → doorSpring * q ≤ a + doorSpring * p
     go a q e = by-cases (decLe q p)
       where
-        by-cases : Dec (q ≤ p) → softest * q ≤ a + softest * p
+        by-cases : Dec (q ≤ p) → doorSpring * q ≤ a + doorSpring * p
         by-cases (yes l) = omega arith
         by-cases (no l) = omega (arith, mul-le-mul-right (q - p) h, split q (omega arith))
 
 -- what a step scales by 2^22 is at most 2^28 times its divisor, and the divisor is below 2^42
 module _ (k κ x : ℕ) (r : InRange k κ x) where
-  pub scalable : (a : ℕ) → a / divisor k κ x ≤ 2 ^ 28 → (0 < divisor k κ x) × (divisor k κ x * stiffnessScale < 2 ^ 64) × ((a / divisor k κ x + 1) * stiffnessScale < 2 ^ 64)
+  pub scalable :
+      (a : ℕ) →
+      a / divisor k κ x ≤ 2 ^ 28 →
+      (0 < divisor k κ x) × (divisor k κ x * stiffnessScale < 2 ^ 64) × ((a / divisor k κ x + 1) * stiffnessScale < 2 ^ 64)
   scalable a h = (omega (arith, r .low), omega (arith, r .high, r .held, r .above), omega arith)
 
   pub stiffness-fits : k * (κ + x) / divisor k κ x ≤ 2 ^ 28
-  stiffness-fits = quotient-le (k * (κ + x)) (divisor k κ x) (2 ^ 28) (omega (arith, r .low)) (omega (arith, mul-le-mul-right (κ + x) (r .high)))
+  stiffness-fits =
+      quotient-le (k * (κ + x)) (divisor k κ x) (2 ^ 28) (omega (arith, r .low)) (omega (arith, mul-le-mul-right (κ + x) (r .high)))
 
-  pub load-fits : (a : ℕ) → a ≤ mostLoad → k * a / divisor k κ x ≤ 2 ^ 28
+  pub load-fits : (a : ℕ) → a ≤ mostLoadTogether → k * a / divisor k κ x ≤ 2 ^ 28
   load-fits a h = quotient-le (k * a) (divisor k κ x) (2 ^ 28) (omega (arith, r .low)) (omega (arith, mul-le-mul-left k h))
 
-  pub shift-fits : (a p : ℕ) → a ≤ mostLoad → p ≤ farthest → (a + k * p) / divisor k κ x ≤ 2 ^ 28
+  pub shift-fits : (a p : ℕ) → a ≤ mostLoadTogether → p ≤ farthest → (a + k * p) / divisor k κ x ≤ 2 ^ 28
   shift-fits a p h l = quotient-le (a + k * p) (divisor k κ x) (2 ^ 28) (omega (arith, r .low)) (omega (arith, mul-le-mul-left k l, r .low))
 
 -- 1 + 2 + .. + m
@@ -74,38 +87,71 @@ triangle-le n h = omega (arith, twice n, mul-le-mul h h)
     twice zero = refl
     twice (suc m) = step m (suc m) (triangle m) (sym (add-one m)) (twice m)
 
--- what is known from level i up is known from any level over it
-pub later : (i j n : ℕ) (k κ ω x y : List ℕ) → i ≤ j → HandedDown i n k κ ω x y → HandedDown j n k κ ω x y
-later i j n k κ ω x y l h = record { top-stiffness = h .top-stiffness; top-load = h .top-load; stiffness = λ m b. h .stiffness m (omega arith); load = λ m b. h .load m (omega arith) }
+module _ (n : ℕ) (k κ ω : List ℕ) (s : Solvable n k κ ω) where
+  -- what is handed down to level j, and its shift
+  abbrev xs : ℕ → ℕ
+  xs = x n k κ ω
 
-module _ (n : ℕ) (k κ ω x y : List ℕ) (s : Solvable n k κ ω) where
-  -- what is handed down to level j
-  stiffness-at : (i j : ℕ) → HandedDown i n k κ ω x y → i ≤ j → j ≤ n → getD x j 0 ≤ stiffest * stiffnessScale
-  stiffness-at i j h l b = go (decLe (suc j) n)
+  abbrev ys : ℕ → ℕ
+  ys = y n k κ ω
+
+  abbrev ds : ℕ → ℕ
+  ds = d n k κ ω
+
+  stiff : (j : ℕ) → j < n → 0 < getD k j 0
+  stiff j l = omega (arith, s .springs j l)
+
+  stiffness-most : (j : ℕ) → j ≤ n → xs j ≤ closedSpring * stiffnessScale
+  stiffness-most j b = go (decLe (suc j) n)
     where
-      go : Dec (suc j ≤ n) → getD x j 0 ≤ stiffest * stiffnessScale
-      go (yes c) = omega (arith, h .stiffness j l c, stiffness-le (getD k j 0) (getD κ j 0) (getD x (suc j) 0) (omega (arith, s .springs j c)), s .springs j c)
-      go (no c) = subst (λ (z : ℕ). getD x z 0 ≤ stiffest * stiffnessScale) {x = n} {y = j} (omega arith) (omega (arith, h .top-stiffness))
+      go : Dec (suc j ≤ n) → xs j ≤ closedSpring * stiffnessScale
+      go (yes c) =
+          omega
+          (arith, stiffness-step n k κ ω j c, stiffness-le (getD k j 0) (getD κ j 0) (xs (suc j)) (stiff j c), s .springs j c)
+      go (no c) =
+          subst (λ (z : ℕ). xs z ≤ closedSpring * stiffnessScale) {x = n} {y = j} (omega arith) (omega (arith, stiffness-top n k κ ω))
 
-  load-at : (i j m : ℕ) → HandedDown i n k κ ω x y → i ≤ j → j + m ≡ n → getD y j 0 ≤ m * mostLoaded
-  load-at i j zero h l e = subst (λ (z : ℕ). getD y z 0 ≤ 0 * mostLoaded) {x = n} {y = j} (omega arith) (omega (arith, h .top-load))
-  load-at i j (suc m) h l e =
-      omega (arith, h .load j l (omega arith), load-le (getD k j 0) (getD κ j 0) (getD ω j 0) (getD x (suc j) 0) (getD y (suc j) 0) (omega (arith, s .springs j (omega arith))), s .loaded j (omega arith), load-at i (suc j) m h (omega arith) (omega arith), add-one m)
+  load-most : (j m : ℕ) → j + m ≡ n → ys j ≤ m * mostLoaded
+  load-most j zero e = subst (λ (z : ℕ). ys z ≤ 0 * mostLoaded) {x = n} {y = j} (omega arith) (omega (arith, load-top n k κ ω))
+  load-most j (suc m) e =
+      let l : j < n = omega arith in
+      omega (
+        arith,
+        load-step n k κ ω j l,
+        load-le (getD k j 0) (getD κ j 0) (getD ω j 0) (xs (suc j)) (ys (suc j)) (stiff j l),
+        s .loaded j l,
+        load-most (suc j) m (omega arith),
+        add-one m,
+      )
 
-  -- a step at tier j + 1 is in range, once it is known what is handed down to the level over it
-  module _ (j : ℕ) (l : j < n) (h : HandedDown (suc j) n k κ ω x y) where
-    pub in-range : InRange (getD k j 0) (getD κ j 0) (getD x (suc j) 0)
-    in-range = record { low = s .springs j l .0; high = s .springs j l .1; held = s .held j l; above = stiffness-at (suc j) (suc j) h (omega arith) l }
+  -- a step at tier j + 1 is in range
+  module _ (j : ℕ) (l : j < n) where
+    pub in-range : InRange (getD k j 0) (getD κ j 0) (xs (suc j))
+    in-range = record { low = s .springs j l .0; high = s .springs j l .1; held = s .held j l; above = stiffness-most (suc j) l }
 
-    pub load-in-range : getD ω j 0 + getD y (suc j) 0 ≤ mostLoad
-    load-in-range = omega (arith, s .loaded j l, load-at (suc j) (suc j) (n - suc j) h (omega arith) (omega arith), s .few)
+    pub load-in-range : getD ω j 0 + ys (suc j) ≤ mostLoadTogether
+    load-in-range = omega (arith, s .loaded j l, load-most (suc j) (n - suc j) (omega arith), s .few)
 
-  module _ (h : HandedDown 1 n k κ ω x y) (c : ℕ) (d : List ℕ) (u : Climbed c k κ ω x y d) where
-    climb : (j m : ℕ) → j ≤ c → j + m ≡ n → softest * getD d j 0 + triangle m * mostLoaded ≤ triangle n * mostLoaded
-    climb zero m b e = subst (λ (z : ℕ). softest * getD d 0 0 + triangle z * mostLoaded ≤ triangle n * mostLoaded) {x = n} {y = m} (omega arith) (omega (arith, u .deck))
-    climb (suc j) m b e =
-        omega (arith, climb j (suc m) (omega arith) (omega arith), u .shifts j b, shift-le (getD k j 0) (getD κ j 0) (getD ω j 0) (getD x (suc j) 0) (getD y (suc j) 0) (getD d j 0) (s .springs j (omega arith) .0), s .loaded j (omega arith), load-at 1 (suc j) m h (omega arith) e, add-one m)
+  shift-most : (j m : ℕ) → j + m ≡ n → doorSpring * ds j + triangle m * mostLoaded ≤ triangle n * mostLoaded
+  shift-most zero m e =
+      subst (λ (z : ℕ). doorSpring * ds 0 + triangle z * mostLoaded ≤ triangle n * mostLoaded) {x = n} {y = m} (omega arith)
+      (omega (arith, shift-deck n k κ ω))
+  shift-most (suc j) m e =
+      let l : j < n = omega arith in
+      omega (
+        arith,
+        shift-most j (suc m) (omega arith),
+        shift-step n k κ ω j l,
+        shift-le (getD k j 0) (getD κ j 0) (getD ω j 0) (xs (suc j)) (ys (suc j)) (ds j) (s .springs j l .0),
+        s .loaded j l,
+        load-most (suc j) m e,
+        add-one m,
+      )
 
-    -- a shift is at most 2^12 mm
-    pub far-at : (j : ℕ) → j ≤ c → c ≤ n → getD d j 0 ≤ farthest
-    far-at j b l = omega (arith, climb j (n - j) b (omega arith), triangle-le n (s .few))
+  -- a shift is at most 2^12 mm
+  pub far-at : (j : ℕ) → ds j ≤ farthest
+  far-at j = go (decLe j n)
+    where
+      go : Dec (j ≤ n) → ds j ≤ farthest
+      go (yes b) = omega (arith, shift-most j (n - j) (omega arith), triangle-le n (s .few))
+      go (no b) = omega (arith, shift-behind n k κ ω j (omega arith))

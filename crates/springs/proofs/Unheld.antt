@@ -3,13 +3,15 @@ use mathlib.Core.Path.{_≡_, ap, _∙_}
 use Prim.Native.Nat.{ℕ, _+_, _*_, _/_, _<_}
 use native.Mathlib.Nat.{mul-div-mul-right, add-mul-div-left, mul-div-cancel-left, add-comm}
 use native.Mathlib.Omega.{arith}
-use Rattle.arith.specs.Rounding.{scaledDown}
-use Rattle.springs.specs.Promise.{stiffnessScale}
-use Rattle.springs.specs.Steps.{divisor, stiffnessDown, loadDown, shiftUp}
+use Rattle.arith.specs.inner.Rounding.{scaledDown}
+use Rattle.springs.specs.inner.Promise.{stiffnessScale}
+use Rattle.springs.specs.inner.Elimination.{divisor, stiffnessDown, loadDown, shiftUp}
 
 module _ (k κ x : ℕ) (stiff : 0 < k) (free : κ + x ≡ 0) where
   cancelled : (a : ℕ) → scaledDown a stiffnessScale (divisor k κ x) ≡ a / k
-  cancelled a = ap (λ (c : ℕ). a * stiffnessScale / c) {x = divisor k κ x} {y = k * stiffnessScale} (omega arith) ∙ mul-div-mul-right a k (omega arith)
+  cancelled a =
+      ap (λ (c : ℕ). a * stiffnessScale / c) {x = divisor k κ x} {y = k * stiffnessScale} (omega arith)
+      ∙ mul-div-mul-right a k (omega arith)
 
   pub stiffness-unheld : stiffnessDown k κ x ≡ 0
   unfolding stiffnessDown

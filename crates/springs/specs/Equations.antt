@@ -3,9 +3,16 @@ use mathlib.Core.Bool.{Bool, true, false}
 use mathlib.Core.List.{List}
 use mathlib.Core.Path.{_≡_}
 use Prim.Native.Nat.{ℕ, zero, suc, _<_}
-use lib.Dec.{leb}
+use lib.Dec.{leb, eqb}
 use lib.ListN.{length, getD}
 use Rattle.arith.specs.Fractions.{Frac, nat, _-q_, _*q_, _≈_, _⊏_, sumq}
+
+-- document 01's springs of a tier, in N/mm (class rule, Table 2-4): at the door end, and at the closed end
+abbrev pub doorSpring : ℕ
+doorSpring = 3730
+
+abbrev pub closedSpring : ℕ
+closedSpring = 15690
 
 -- a tier: its spring K, in N/mm, and its load Q, in N. Tiers stand bottom first: entry i is tier i + 1, between levels i and i + 1
 pub record Tier : Type 0 where
@@ -47,6 +54,14 @@ athwart Ds l = l .stiffness *q shift Ds (l .level)
 abbrev pub athwartFrom : List Lash → List Frac → ℕ → Frac
 athwartFrom ls Ds i = sumq (λ l. given (leb i (l .level)) (athwart Ds l)) ls
 
+-- the stiffness of all lashes at level i together
+abbrev pub stiffnessAt : List Lash → ℕ → Frac
+stiffnessAt ls i = sumq (λ l. given (eqb i (l .level)) (l .stiffness)) ls
+
+-- the load on level i + 1: Q of the tier under it less Q of the tier over it
+abbrev pub loadAt : List Tier → ℕ → Frac
+loadAt ts i = tierAt ts i .Q -q tierAt ts (suc i) .Q
+
 -- R of the tier between levels i and i + 1: K × (D of the level over it − D of the level under it)
 abbrev pub racking : List Tier → List Frac → ℕ → Frac
 racking ts Ds i = tierAt ts i .K *q (shift Ds (suc i) -q shift Ds i)
@@ -60,8 +75,3 @@ pub record Solves (ts : List Tier) (ls : List Lash) (Ds : List Frac) : Type 0 wh
 pub record Stiff (ts : List Tier) (ls : List Lash) : Type 0 where
   pub springs : (i : ℕ) → i < length ts → nat 0 ⊏ tierAt ts i .K
   pub lashes : (j : ℕ) → j < length ls → nat 0 ⊏ lashAt ls j .stiffness
-
--- two lists of shifts agree: at every level, by cross products
-pub record Agree (Ds Es : List Frac) : Type 0 where
-  pub levels : length Ds ≡ length Es
-  pub same : (i : ℕ) → shift Ds i ≈ shift Es i

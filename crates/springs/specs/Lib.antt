@@ -1,3 +1,3 @@
 pub mod Equations
-pub mod Promise
-pub mod Steps
+pub mod Theorems
+pub mod inner

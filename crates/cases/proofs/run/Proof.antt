@@ -3,6 +3,7 @@ use mathlib.Core.Path.{sym}
 use native.Mathlib.Omega.{arith}
 use borrow.Author.Needs.{needs}
 use lib.Seq.{length-take-le}
+use Rattle.cases.proofs.MarkLaws.{marked-length}
 use Rattle.cases.proofs.run.Statement.{statement}
 use Rattle.cases.proofs.run.Tie as tie
 
@@ -27,7 +28,9 @@ slice-aggregate-buffer c = search needs
 slice-aggregate-answer : tie.Need-slice-aggregate-answer
 slice-aggregate-answer c =
     let f = c .before .before in
-    sym (length-take-le (f .before .before .before .before .args .case .room) (f .filled .result) (omega arith))
+    sym
+    (length-take-le (f .before .before .before .before .args .case .room) (f .filled .result)
+    (omega (arith, marked-length (f .filled .ensures))))
 
 sub-check : tie.Need-sub-check
 sub-check c = search needs

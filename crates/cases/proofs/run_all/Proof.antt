@@ -28,15 +28,15 @@ returns : tie.Need-returns Inv-loop μ-loop
 returns c = search needs
 
 run-requires : tie.Need-run-requires Inv-loop μ-loop
-run-requires c κs = (rw (c .before .case .given .1) at (c .before .before .before .case-at .ensures)) .0
+run-requires c κs = (rw (c .before .case .given .1) at (c .before .before .before .case-at .ensures .1)) .0
 
 loop-less : tie.Need-loop-less Inv-loop μ-loop
 loop-less c =
-    let there = rw (c .before .before .case .given .1) at (c .before .before .before .before .case-at .ensures) in
+    let there = rw (c .before .before .case .given .1) at (c .before .before .before .before .case-at .ensures .1) in
     omega arith
 
 loop-again : tie.Need-loop-again Inv-loop μ-loop
-loop-again c = (rw (c .before .before .case .given .1) at (c .before .before .before .before .case-at .ensures)) .0 .end-input
+loop-again c = (rw (c .before .before .case .given .1) at (c .before .before .before .before .case-at .ensures .1)) .0 .end-input
 
 returns-2 : tie.Need-returns-2 Inv-loop μ-loop
 returns-2 c = search needs

@@ -1,4 +1,4 @@
--- `lash::lash_check` says what `answer::check` says, with its two numbers in one.
+-- `lash::lash_check` says what `stack_check::check` says, with its two numbers in one.
 use borrow.Author.Needs.{needs}
 use Rattle.lash.proofs.OneNumber.{fitting, called}
 use Rattle.lash.proofs.lash_check.Statement.{statement}
@@ -25,10 +25,7 @@ same-length c = search needs
 returns : tie.Need-returns
 returns c =
     let is = c .before .before .outcome .given .1 in
-    let checked = c .before .before .before .before .before .before .check .ensures in (
-      called is (checked .0) (c .joined .result) (c .joined .ensures),
-      called is (checked .1) (c .joined .result) (c .joined .ensures),
-    )
+    called is (c .before .before .before .before .before .before .check .ensures .0) (c .joined .result) (c .joined .ensures)
 
 same-length-2 : tie.Need-same-length-2
 same-length-2 c = search needs
@@ -36,10 +33,7 @@ same-length-2 c = search needs
 returns-2 : tie.Need-returns-2
 returns-2 c =
     let is = c .before .before .outcome2 .given .1 in
-    let checked = c .before .before .before .before .before .before .check .ensures in (
-      called is (checked .0) (c .joined2 .result) (c .joined2 .ensures),
-      called is (checked .1) (c .joined2 .result) (c .joined2 .ensures),
-    )
+    called is (c .before .before .before .before .before .before .check .ensures .0) (c .joined2 .result) (c .joined2 .ensures)
 
 pub lash-check-spec : {M : Type 1} → statement M
 lash-check-spec =

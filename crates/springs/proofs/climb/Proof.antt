@@ -1,24 +1,26 @@
 -- `springs::climb` meets its contract: at each turn levels 0 to i have their shifts (Loops).
-use mathlib.Core.Path.{subst}
-use Prim.Native.Nat.{ℕ, _+_, _-_}
+use Prim.Native.Nat.{_+_, _-_}
 use native.Mathlib.Omega.{arith}
 use native.Mathlib.Numerals.{add-one}
-use Rattle.springs.specs.Steps.{Climbed}
-use Rattle.springs.proofs.Loops.{Up, up-start, up-ready, up-next}
+use Rattle.springs.proofs.Loops.{Up, up-start, up-ready, up-next, up-done}
 use borrow.Author.Needs.{needs}
 use Rattle.springs.proofs.climb.Statement.{statement}
 use Rattle.springs.proofs.climb.Tie as tie
 
 abbrev Inv-loop : tie.InvT-loop
-Inv-loop n k kappa omega x y d₀ i₀ d i = Up n k kappa omega x y d i
+Inv-loop n k kappa omega x y d₀ i₀ d i = Up n k kappa omega d i
 
 abbrev μ-loop : tie.MeasureT-loop
 μ-loop n k kappa omega x y d₀ i₀ d i = n - i
 
+-- from the loop back to the call
+abbrev entered : tie.At-loop Inv-loop μ-loop → tie.Start Inv-loop μ-loop
+entered l = l .before .before .before .before .before .before
+
 loop-holds : tie.Need-loop-holds Inv-loop μ-loop
 loop-holds c =
     let g = c .before .before .before .before .before .args in
-    up-start (g .n) (g .k .now) (g .kappa .now) (g .omega .now) (g .x .now) (g .y .now)
+    up-start (g .n) (g .k .now) (g .kappa .now) (g .omega .now)
 
 add-j : tie.Need-add-j Inv-loop μ-loop
 add-j c = search needs
@@ -62,9 +64,14 @@ array-read-shift-up c = search needs
 shift-up-requires : tie.Need-shift-up-requires Inv-loop μ-loop
 shift-up-requires c κs =
     let l = c .before .before .before .before .before .before in
-    let b = l .before .before .before .before .before .before in
+    let b = entered l in
     let g = b .args in
-    up-ready (g .n) (g .k .now) (g .kappa .now) (g .omega .now) (g .x .now) (g .y .now) (l .loop .d) (l .loop .i) (l .loop .i + 1) (add-one (l .loop .i)) (omega arith) (b .pre .0 .0) (l .loop .inv) (b .pre .1 .0)
+    up-ready (g .n) (g .k .now) (g .kappa .now) (g .omega .now) (g .x .now) (g .y .now) (l .loop .d) (l .loop .i) (l .loop .i + 1)
+    (add-one (l .loop .i))
+    (omega arith)
+    (b .pre .0 .0)
+    (b .pre .1 .0)
+    (l .loop .inv)
 
 mul-d : tie.Need-mul-d Inv-loop μ-loop
 mul-d c = search needs
@@ -78,16 +85,25 @@ loop-less c = search needs
 loop-again : tie.Need-loop-again Inv-loop μ-loop
 loop-again c =
     let l = c .before .before .before .before .before .before .before in
-    let b = l .before .before .before .before .before .before in
+    let b = entered l in
     let g = b .args in
-    up-next (g .n) (g .k .now) (g .kappa .now) (g .omega .now) (g .x .now) (g .y .now) (l .loop .d) (l .loop .i) (l .loop .i + 1) (add-one (l .loop .i)) (omega arith) (b .pre .0 .0) (l .loop .inv) (c .shift-up .result) (c .shift-up .ensures)
+    up-next (g .n) (g .k .now) (g .kappa .now) (g .omega .now) (g .x .now) (g .y .now) (l .loop .d) (l .loop .i) (l .loop .i + 1)
+    (add-one (l .loop .i))
+    (omega arith)
+    (b .pre .0 .0)
+    (b .pre .1 .0)
+    (l .loop .inv)
+    (c .shift-up .result)
+    (c .shift-up .ensures)
 
 returns : tie.Need-returns Inv-loop μ-loop
 returns c =
     let l = c .before in
-    let b = l .before .before .before .before .before .before in
+    let b = entered l in
     let g = b .args in
-    subst (λ (z : ℕ). Climbed z (g .k .now) (g .kappa .now) (g .omega .now) (g .x .now) (g .y .now) (l .loop .d)) {x = l .loop .i} {y = g .n} (omega (arith, l .loop .inv .within)) (l .loop .inv .done)
+    up-done (g .n) (g .k .now) (g .kappa .now) (g .omega .now) (l .loop .d) (l .loop .i)
+    (omega (arith, l .loop .inv .within))
+    (l .loop .inv)
 
 pub climb-spec : {M : Type 1} → statement M
 climb-spec =

@@ -1,8 +1,7 @@
 -- `springs::hand_down` meets its contract: at each turn the levels from i up have what is handed down to them (Loops).
 use Prim.Native.Nat.{_-_}
 use native.Mathlib.Omega.{arith}
-use Rattle.springs.proofs.Ranges.{later}
-use Rattle.springs.proofs.Loops.{Down, down-start, down-ready, down-next}
+use Rattle.springs.proofs.Loops.{later, Down, down-start, down-ready, down-next}
 use borrow.Author.Needs.{needs}
 use Rattle.springs.proofs.hand_down.Statement.{statement}
 use Rattle.springs.proofs.hand_down.Tie as tie
@@ -12,6 +11,10 @@ Inv-loop n k kappa omega x₀ y₀ i₀ x y i = Down n k kappa omega x y i
 
 abbrev μ-loop : tie.MeasureT-loop
 μ-loop n k kappa omega x₀ y₀ i₀ x y i = i
+
+-- from the loop back to the call
+abbrev entered : tie.At-loop Inv-loop μ-loop → tie.Start Inv-loop μ-loop
+entered l = l .before .before .before .before .before .before
 
 loop-holds : tie.Need-loop-holds Inv-loop μ-loop
 loop-holds c =
@@ -44,9 +47,10 @@ slice-read-stiffness-down c = search needs
 stiffness-down-requires : tie.Need-stiffness-down-requires Inv-loop μ-loop
 stiffness-down-requires c κs =
     let l = c .before .before .before .before in
-    let b = l .before .before .before .before .before .before in
+    let b = entered l in
     let g = b .args in
-    down-ready (g .n) (g .k .now) (g .kappa .now) (g .omega .now) (l .loop .x) (l .loop .y) (l .loop .i) (l .loop .i - 1) (omega arith) (b .pre .0 .0) (l .loop .inv) .0
+    down-ready (g .n) (g .k .now) (g .kappa .now) (g .omega .now) (l .loop .x) (l .loop .y) (l .loop .i) (l .loop .i - 1) (omega arith)
+    (b .pre .0 .0) (l .loop .inv) .0
 
 mul-load-down : tie.Need-mul-load-down Inv-loop μ-loop
 mul-load-down c = search needs
@@ -81,9 +85,10 @@ slice-read-load-down-2 c = search needs
 load-down-requires : tie.Need-load-down-requires Inv-loop μ-loop
 load-down-requires c κs =
     let l = c .before .before .before .before .before .before .before .before .before .before in
-    let b = l .before .before .before .before .before .before in
+    let b = entered l in
     let g = b .args in
-    down-ready (g .n) (g .k .now) (g .kappa .now) (g .omega .now) (l .loop .x) (l .loop .y) (l .loop .i) (l .loop .i - 1) (omega arith) (b .pre .0 .0) (l .loop .inv)
+    down-ready (g .n) (g .k .now) (g .kappa .now) (g .omega .now) (l .loop .x) (l .loop .y) (l .loop .i) (l .loop .i - 1) (omega arith)
+    (b .pre .0 .0) (l .loop .inv)
 
 mul-x : tie.Need-mul-x Inv-loop μ-loop
 mul-x c = search needs
@@ -105,9 +110,11 @@ loop-again c =
     let s = c .before .before .before .before .before .before .stiffness-down in
     let t = c .before .before .before .before .before .before .before .before .before .before in
     let l = t .before in
-    let b = l .before .before .before .before .before .before in
+    let b = entered l in
     let g = b .args in
-    down-next (g .n) (g .k .now) (g .kappa .now) (g .omega .now) (l .loop .x) (l .loop .y) (l .loop .i) (l .loop .i - 1) (omega (arith, t .loop-test .taken)) (b .pre .0 .0) (l .loop .inv) (s .result) (c .load-down .result) (s .ensures) (c .load-down .ensures)
+    down-next (g .n) (g .k .now) (g .kappa .now) (g .omega .now) (l .loop .x) (l .loop .y) (l .loop .i) (l .loop .i - 1)
+    (omega (arith, t .loop-test .taken)) (b .pre .0 .0) (l .loop .inv) (s .result) (c .load-down .result) (s .ensures)
+    (c .load-down .ensures)
 
 same-length : tie.Need-same-length Inv-loop μ-loop
 same-length c = search needs
@@ -118,7 +125,7 @@ same-length-2 c = search needs
 returns : tie.Need-returns Inv-loop μ-loop
 returns c =
     let l = c .before in
-    let b = l .before .before .before .before .before .before in
+    let b = entered l in
     let g = b .args in
     later (l .loop .i) 1 (g .n) (g .k .now) (g .kappa .now) (g .omega .now) (l .loop .x) (l .loop .y) (omega arith) (l .loop .inv .done)
 

@@ -3,15 +3,15 @@ use mathlib.Core.Path.{sym}
 use Prim.Native.Nat.{_+_, _*_}
 use native.Mathlib.Nat.{mul-le-mul-right}
 use native.Mathlib.Omega.{arith}
-use Rattle.springs.specs.Steps.{loadDown}
+use Rattle.springs.specs.inner.Elimination.{loadDown}
 use Rattle.springs.proofs.Ranges.{scalable, load-fits}
 use Rattle.springs.proofs.Unheld.{load-unheld}
 use borrow.Author.Needs.{needs}
 use Rattle.springs.proofs.load_down.Statement.{statement}
 use Rattle.springs.proofs.load_down.Tie as tie
 
-add-held : tie.Need-add-held
-add-held c = search needs
+add-stiffness : tie.Need-add-stiffness
+add-stiffness c = search needs
 
 add-load : tie.Need-add-load
 add-load c = search needs
@@ -30,7 +30,10 @@ add-scaled c = search needs
 
 scaled-requires : tie.Need-scaled-requires
 scaled-requires c κs =
-    let b = c .before in let a = b .args in scalable (a .k) (a .kappa) (a .x) (b .pre .0) (a .k * (a .omega + a .y)) (load-fits (a .k) (a .kappa) (a .x) (b .pre .0) (a .omega + a .y) (b .pre .1))
+    let b = c .before in
+    let a = b .args in
+    scalable (a .k) (a .kappa) (a .x) (b .pre .0) (a .k * (a .omega + a .y))
+    (load-fits (a .k) (a .kappa) (a .x) (b .pre .0) (a .omega + a .y) (b .pre .1))
 
 returns-2 : tie.Need-returns-2
 unfolding loadDown
@@ -40,7 +43,7 @@ pub load-down-spec : {M : Type 1} → statement M
 load-down-spec =
     tie.close
     (tie.spec
-    add-held
+    add-stiffness
     add-load
     returns
     mul-scaled

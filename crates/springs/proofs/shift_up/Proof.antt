@@ -3,15 +3,15 @@ use mathlib.Core.Path.{sym}
 use Prim.Native.Nat.{_+_, _*_}
 use native.Mathlib.Nat.{mul-le-mul-right, div-le-self}
 use native.Mathlib.Omega.{arith}
-use Rattle.springs.specs.Steps.{shiftUp}
+use Rattle.springs.specs.inner.Elimination.{shiftUp}
 use Rattle.springs.proofs.Ranges.{scalable, shift-fits}
 use Rattle.springs.proofs.Unheld.{shift-unheld}
 use borrow.Author.Needs.{needs}
 use Rattle.springs.proofs.shift_up.Statement.{statement}
 use Rattle.springs.proofs.shift_up.Tie as tie
 
-add-held : tie.Need-add-held
-add-held c = search needs
+add-stiffness : tie.Need-add-stiffness
+add-stiffness c = search needs
 
 add-load : tie.Need-add-load
 add-load c = search needs
@@ -39,7 +39,10 @@ add-scaled-2 c = search needs
 
 scaled-requires : tie.Need-scaled-requires
 scaled-requires c κs =
-    let b = c .before in let a = b .args in scalable (a .k) (a .kappa) (a .x) (b .pre .0) (a .omega + a .y + a .k * a .p) (shift-fits (a .k) (a .kappa) (a .x) (b .pre .0) (a .omega + a .y) (a .p) (b .pre .1) (b .pre .2))
+    let b = c .before in
+    let a = b .args in
+    scalable (a .k) (a .kappa) (a .x) (b .pre .0) (a .omega + a .y + a .k * a .p)
+    (shift-fits (a .k) (a .kappa) (a .x) (b .pre .0) (a .omega + a .y) (a .p) (b .pre .1) (b .pre .2))
 
 returns-2 : tie.Need-returns-2
 unfolding shiftUp
@@ -49,7 +52,7 @@ pub shift-up-spec : {M : Type 1} → statement M
 shift-up-spec =
     tie.close
     (tie.spec
-    add-held
+    add-stiffness
     add-load
     div-result
     add-result

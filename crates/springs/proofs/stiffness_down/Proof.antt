@@ -3,15 +3,15 @@ use mathlib.Core.Path.{sym}
 use Prim.Native.Nat.{_+_, _*_}
 use native.Mathlib.Nat.{mul-le-mul-right}
 use native.Mathlib.Omega.{arith}
-use Rattle.springs.specs.Steps.{stiffnessDown}
+use Rattle.springs.specs.inner.Elimination.{stiffnessDown}
 use Rattle.springs.proofs.Ranges.{scalable, stiffness-fits}
 use Rattle.springs.proofs.Unheld.{stiffness-unheld}
 use borrow.Author.Needs.{needs}
 use Rattle.springs.proofs.stiffness_down.Statement.{statement}
 use Rattle.springs.proofs.stiffness_down.Tie as tie
 
-add-held : tie.Need-add-held
-add-held c = search needs
+add-stiffness : tie.Need-add-stiffness
+add-stiffness c = search needs
 
 returns : tie.Need-returns
 returns c = let a = c .before .args in sym (stiffness-unheld (a .k) (a .kappa) (a .x) (omega arith) (c .if1 .taken))
@@ -27,7 +27,9 @@ add-scaled c = search needs
 
 scaled-requires : tie.Need-scaled-requires
 scaled-requires c κs =
-    let b = c .before in let a = b .args in scalable (a .k) (a .kappa) (a .x) (b .pre) (a .k * (a .kappa + a .x)) (stiffness-fits (a .k) (a .kappa) (a .x) (b .pre))
+    let b = c .before in
+    let a = b .args in
+    scalable (a .k) (a .kappa) (a .x) (b .pre) (a .k * (a .kappa + a .x)) (stiffness-fits (a .k) (a .kappa) (a .x) (b .pre))
 
 returns-2 : tie.Need-returns-2
 unfolding stiffnessDown
@@ -36,4 +38,4 @@ returns-2 c = search needs
 pub stiffness-down-spec : {M : Type 1} → statement M
 stiffness-down-spec =
     tie.close
-    (tie.spec add-held returns mul-scaled mul-scaled-2 add-scaled scaled-requires returns-2)
+    (tie.spec add-stiffness returns mul-scaled mul-scaled-2 add-scaled scaled-requires returns-2)

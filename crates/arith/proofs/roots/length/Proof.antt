@@ -2,7 +2,7 @@
 use Prim.Native.Nat.{_*_, _+_, _≤_}
 use native.Mathlib.Nat.{mul-le-mul}
 use native.Mathlib.Omega.{arith}
-use Rattle.arith.specs.Roots.{Least}
+use Rattle.arith.specs.inner.Roots.{Least}
 use borrow.Author.Needs.{needs}
 use Rattle.arith.proofs.roots.length.Statement.{statement}
 use Rattle.arith.proofs.roots.length.Tie as tie

@@ -40,7 +40,8 @@ returns c =
     let f = c .before .fits .m in
     let e = simp (toZ-ofZ w64 m f, divisor d (c .before .pre .1), toZ-ofZ w64 (remZ m (pos d)) (rem64 m d f)) at (c .if1 .taken) in
     let g = step64 m d (c .before .pre .0) f e in
-    simp (toZ-ofZ w64 m f, divisor d (c .before .pre .1), toZ-ofZ w64 (quotZ m (pos d)) (quot64 m d f), toZ-ofZ w64 (quotZ m (pos d) +ℤ pos 1) g)
+    simp
+    (toZ-ofZ w64 m f, divisor d (c .before .pre .1), toZ-ofZ w64 (quotZ m (pos d)) (quot64 m d f), toZ-ofZ w64 (quotZ m (pos d) +ℤ pos 1) g)
     (step m d (c .before .pre .0) e, step-size m d e)
 
 returns-2 : tie.Need-returns-2
@@ -49,7 +50,8 @@ returns-2 c =
     let d = c .before .args .d in
     let f = c .before .fits .m in
     let e = simp (toZ-ofZ w64 m f, divisor d (c .before .pre .1), toZ-ofZ w64 (remZ m (pos d)) (rem64 m d f)) at (c .if1 .left) in
-    simp (toZ-ofZ w64 m f, divisor d (c .before .pre .1), toZ-ofZ w64 (quotZ m (pos d)) (quot64 m d f)) (level m d (c .before .pre .0) e, level-size m d)
+    simp (toZ-ofZ w64 m f, divisor d (c .before .pre .1), toZ-ofZ w64 (quotZ m (pos d)) (quot64 m d f))
+    (level m d (c .before .pre .0) e, level-size m d)
 
 pub ceil-signed-spec : {M : Type 1} → statement M
 ceil-signed-spec = tie.close (tie.spec cast-e div-t rem-if1 add-result returns returns-2)

@@ -21,19 +21,30 @@ scaled-requires c κs =
     (c .pre .0, c .pre .2, omega (arith, l))
 
 mul-result : tie.Need-mul-result
-mul-result c = rw (c .scaled .ensures) (omega (arith, twice-le (c .before .args .x) (c .before .args .m) (c .before .args .n) (c .before .args .c) (c .before .pre .0)))
+mul-result c =
+    rw (c .scaled .ensures)
+    (omega (arith, twice-le (c .before .args .x) (c .before .args .m) (c .before .args .n) (c .before .args .c) (c .before .pre .0)))
 
 mul-result-2 : tie.Need-mul-result-2
-mul-result-2 c = omega (arith, rest-le (c .before .args .x % c .before .args .c * c .before .args .m) (c .before .args .n) (c .before .args .c) (c .before .pre .0))
+mul-result-2 c =
+    omega (
+      arith,
+      rest-le (c .before .args .x % c .before .args .c * c .before .args .m) (c .before .args .n) (c .before .args .c)
+          (c .before .pre .0),
+    )
 
 div-result : tie.Need-div-result
 div-result c = search needs
 
 add-result : tie.Need-add-result
-add-result c = rw (c .scaled .ensures) (omega (arith, twice-le (c .before .args .x) (c .before .args .m) (c .before .args .n) (c .before .args .c) (c .before .pre .0)))
+add-result c =
+    rw (c .scaled .ensures)
+    (omega (arith, twice-le (c .before .args .x) (c .before .args .m) (c .before .args .n) (c .before .args .c) (c .before .pre .0)))
 
 returns : tie.Need-returns
-returns c = rw (c .scaled .ensures) (split-twice (c .before .args .x) (c .before .args .m) (c .before .args .n) (c .before .args .c) (c .before .pre .0))
+returns c =
+    rw (c .scaled .ensures)
+    (split-twice (c .before .args .x) (c .before .args .m) (c .before .args .n) (c .before .args .c) (c .before .pre .0))
 
 pub scaled-twice-spec : {M : Type 1} → statement M
 scaled-twice-spec =

@@ -4,7 +4,7 @@ use mathlib.Core.Path.{_≡_, ap}
 use native.Mathlib.Omega.{arith}
 use borrow.Author.Needs.{needs}
 use lib.ListN.{length}
-use Rattle.lashcheck.specs.Steps.{counted}
+use Rattle.lashcheck.specs.inner.Texts.{counted}
 use Rattle.lashcheck.proofs.Text.{counts-of}
 use Rattle.lashcheck.proofs.input.read.Statement.{statement}
 use Rattle.lashcheck.proofs.input.read.Tie as tie
@@ -53,7 +53,8 @@ same-length-3 c = search needs
 
 returns-3 : tie.Need-returns-3 Inv-loop μ-loop
 returns-3 c =
-    counts-of (c .before .before .before .before .before .before .before .before .before .loop .done) (c .before .before .before .before .before .before .read-more .last .0) (omega arith)
+    counts-of (c .before .before .before .before .before .before .before .before .before .loop .done)
+    (c .before .before .before .before .before .before .read-more .last .0) (omega arith)
 
 pub read-spec : {M : Type 1} → statement M
 read-spec =

@@ -46,7 +46,8 @@ returns c =
     let d = c .before .before .before .before .before in
     let a = d .before .before .before in
     let e = d .decimal .ensures in
-    put-of (a .args .n) (a .args .at) (d .decimal .result) (d .decimal .last .1 .0) (a .args .out .now) (c .before .before .copy .last .1 .0)
+    put-of (a .args .n) (a .args .at) (d .decimal .result) (d .decimal .last .1 .0) (a .args .out .now)
+    (c .before .before .copy .last .1 .0)
     (a .fits .n .fits) (e .0) (e .1 .0) (e .1 .1) (a .pre) (c .before .before .copy .ensures .1)
 
 pub put-number-spec : {M : Type 1} → statement M

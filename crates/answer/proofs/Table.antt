@@ -1,0 +1,174 @@
+-- Document 01's figures (a) to (j), computed from the definitions.
+use mathlib.Core.Path.{_≡_, refl, sym}
+use mathlib.Core.List.{List, [], _∷_}
+use Prim.Native.Nat.{ℕ, zero, suc, _*_, _≤_, _<_}
+use native.Mathlib.Nat.{mul-le-mul}
+use native.Mathlib.Omega.{arith}
+use lib.Dec.{lit≤}
+use Rattle.sheet.specs.Lashings.{levelOf}
+use Rattle.arith.specs.Fractions.{Frac, nat, _/q_, recip, sumq, _≈_, _⊏_}
+use Rattle.arith.specs.Lists.{from}
+use Rattle.arith.proofs.FractionLaws.{≈-trans, ≈⊑}
+use Rattle.arith.proofs.OrderedField.{⊑-⊏-trans}
+use Rattle.arith.specs.inner.Roots.{Least}
+use Rattle.sheet.specs.declared.Sheet.{Sheet}
+use Rattle.statics.specs.Loads.{weight, transverse, verticalForce, boxLength, wind, load, classRule}
+use Rattle.statics.specs.Lashes.{lashLength, pull, athwartPart}
+use Rattle.springs.specs.Equations as S
+use Rattle.springs.specs.Theorems.{Agree}
+use Rattle.springs.specs.Equations.{shift}
+use Rattle.springs.proofs.OneSolution.{handedStiffness, handedLoad, shiftOf, solution, exists, unique, same-racking}
+use Rattle.statics.specs.Ends.{chainTiers, chainLash, chainLashes, EndSolved, OneSolution}
+use Rattle.sheet.specs.Ends.{door, tiersOf, lashesOf}
+use Rattle.statics.specs.Posts.{levelHeight, turning, moment, atMost, tension}
+use Rattle.statics.proofs.LashLength.{length-is}
+use Rattle.answer.specs.Limits.{safeLoad}
+use Rattle.answer.specs.Table.{boxB, rodS, rodOf, exposedBox, sheetWith, alone, pair, lashed, lashedAbove, doorTiers, lowestLoad, Table}
+
+-- (a), (b)
+figure-a : lowestLoad alone ≈ nat 220725 /q nat 10
+unfolding chainTiers load transverse weight wind sumq recip
+figure-a = record { cross = refl }
+
+figure-b : lowestLoad pair ≈ nat 711225 /q nat 10
+unfolding chainTiers load transverse weight wind sumq recip
+figure-b = record { cross = refl }
+
+-- (f), (g)
+figure-f : safeLoad 1 490000 ≡ 293413
+unfolding safeLoad
+figure-f = refl
+
+figure-g : safeLoad 1 500000 ≡ 299401
+unfolding safeLoad
+figure-g = refl
+
+-- (h)
+least-root : (s r : ℕ) → s ≤ suc r * suc r → r * r < s → Least s (suc r)
+least-root s r enough below = record { enough = enough; least = λ k h. omega (arith, clash k h) }
+  where
+    clash : (k : ℕ) → s ≤ k * k → k ≤ r → ⊥
+    clash k h l = omega (arith, mul-le-mul l l)
+
+length-S : (tier : ℕ) → lashLength (rodS tier) ≡ 3250
+length-S tier = sym (length-is (rodS tier) 3250 (least-root 10562500 3249 (lit≤ tt) (lit≤ tt)))
+
+figure-h-wider : lashLength (rodOf 1 1) ≡ 3251
+figure-h-wider = sym (length-is (rodOf 1 1) 3251 (least-root 10562501 3250 (lit≤ tt) (lit≤ tt)))
+
+-- (i), (j)
+figure-i-forty : wind (exposedBox 40 2896) ≈ nat 1906633728 /q nat 100000
+unfolding wind boxLength recip
+figure-i-forty = record { cross = refl }
+
+figure-i-twenty : wind (exposedBox 20 2591) ≈ nat 847599012 /q nat 100000
+unfolding wind boxLength recip
+figure-i-twenty = record { cross = refl }
+
+figure-j : transverse (classRule (sheetWith 7 (boxB ∷ []) []) .factor) boxB ≈ nat 358065 /q nat 10
+unfolding transverse weight recip
+figure-j = record { cross = refl }
+
+-- (c): with no lash the shifts do not enter
+figure-c-moment : (Ds : List Frac) → moment (classRule alone) (tiersOf alone) (lashesOf door alone) Ds 0 ≈ nat 571898475 /q nat 10
+unfolding moment turning transverse weight wind sumq recip levelHeight
+figure-c-moment Ds = record { cross = refl }
+
+figure-c-tension : (Ds : List Frac) → tension (classRule alone) (tiersOf alone) (lashesOf door alone) Ds 0 ≈ nat 0
+unfolding tension atMost moment turning transverse verticalForce weight wind sumq recip levelHeight
+figure-c-tension Ds = record { cross = refl }
+
+-- rod S
+stiffness : (tier : ℕ) → athwartPart (rodS tier) (nat 1) ≈ nat 7200
+unfolding athwartPart pull recip
+stiffness tier = rw (length-S tier) (record { cross = refl })
+
+-- (d), (e): the solution by elimination, which every other agrees with
+abbrev doorLashes : Sheet → List S.Lash
+doorLashes t = chainLashes (lashesOf door t)
+
+abbrev solved : Sheet → List Frac
+solved t = solution (doorTiers t) (doorLashes t)
+
+module _ (t : Sheet) (stiff : S.Stiff (doorTiers t) (doorLashes t)) where
+  agree : (Ds Es : List Frac) → EndSolved (classRule t) door t Ds → EndSolved (classRule t) door t Es → Agree Ds Es
+  agree Ds Es s r = unique (doorTiers t) (doorLashes t) Ds Es stiff (s .solves) (r .solves)
+
+  there : EndSolved (classRule t) door t (solved t)
+  there = record { solves = exists (doorTiers t) (doorLashes t) stiff }
+
+  one : OneSolution (classRule t) door t
+  one = record { shifts = solved t; exists = there; unique = λ Ds Es s r. agree Ds Es s r .same }
+
+  every-shift : (i : ℕ) (x : Frac) → shift (solved t) i ≈ x → (Ds : List Frac) → EndSolved (classRule t) door t Ds → shift Ds i ≈ x
+  every-shift i x e Ds s = ≈-trans (shift Ds i) (shift (solved t) i) x (agree Ds (solved t) s there .same i) e
+
+  every-racking :
+      (i : ℕ) (x : Frac) →
+      S.racking (doorTiers t) (solved t) i ⊏ x →
+      (Ds : List Frac) →
+      EndSolved (classRule t) door t Ds →
+      S.racking (doorTiers t) Ds i ⊏ x
+  every-racking i x e Ds s =
+      ⊑-⊏-trans (S.racking (doorTiers t) Ds i) (S.racking (doorTiers t) (solved t) i) x
+      (≈⊑ (S.racking (doorTiers t) Ds i) (S.racking (doorTiers t) (solved t) i)
+      (same-racking (doorTiers t) Ds (solved t) (agree Ds (solved t) s there) i)) e
+
+stiff-rod : (tier j : ℕ) → j < 1 → nat 0 ⊏ S.lashAt (chainLashes (rodS tier ∷ [])) j .stiffness
+unfolding chainLash athwartPart pull recip
+stiff-rod tier zero h = rw (length-S tier) (record { cross = record { lt = tt } })
+stiff-rod tier (suc j) h = absurd (omega arith)
+
+stiff-d : S.Stiff (doorTiers lashed) (doorLashes lashed)
+unfolding chainTiers
+stiff-d = record { springs = springs; lashes = stiff-rod 1 }
+  where
+    springs : (i : ℕ) → i < 1 → nat 0 ⊏ S.tierAt (doorTiers lashed) i .K
+    springs zero h = record { cross = record { lt = tt } }
+    springs (suc i) h = absurd (omega arith)
+
+stiff-e : S.Stiff (doorTiers lashedAbove) (doorLashes lashedAbove)
+unfolding chainTiers
+stiff-e = record { springs = springs; lashes = stiff-rod 2 }
+  where
+    springs : (i : ℕ) → i < 2 → nat 0 ⊏ S.tierAt (doorTiers lashedAbove) i .K
+    springs zero h = record { cross = record { lt = tt } }
+    springs (suc zero) h = record { cross = record { lt = tt } }
+    springs (suc (suc i)) h = absurd (omega arith)
+
+solved-d : shift (solved lashed) 1 ≈ nat 220725 /q nat 10 /q nat 10930
+unfolding from solution shiftOf handedStiffness handedLoad shift sumq recip chainTiers load transverse weight wind
+    chainLash athwartPart pull levelOf
+solved-d = rw (length-S 1) (record { cross = refl })
+
+solved-e : shift (solved lashedAbove) 2 ≈ nat 2918475 /q nat 100 /q nat 18130
+unfolding from solution shiftOf handedStiffness handedLoad shift sumq recip chainTiers load transverse weight wind
+    chainLash athwartPart pull levelOf
+solved-e = rw (length-S 2) (record { cross = refl })
+
+racked-e : S.racking (doorTiers lashedAbove) (solved lashedAbove) 1 ⊏ nat 0
+unfolding from solution shiftOf handedStiffness handedLoad shift sumq recip chainTiers load transverse weight wind
+    chainLash athwartPart pull levelOf
+racked-e = rw (length-S 2) (record { cross = record { lt = tt } })
+
+pub table : Table
+table =
+    record {
+      stiffness-S = stiffness 1;
+      a = figure-a;
+      b = figure-b;
+      c-moment = figure-c-moment;
+      c-tension = figure-c-tension;
+      d-one = one lashed stiff-d;
+      d = every-shift lashed stiff-d 1 (nat 220725 /q nat 10 /q nat 10930) solved-d;
+      e-one = one lashedAbove stiff-e;
+      e-shift = every-shift lashedAbove stiff-e 2 (nat 2918475 /q nat 100 /q nat 18130) solved-e;
+      e-racking = every-racking lashedAbove stiff-e 1 (nat 0) racked-e;
+      f = figure-f;
+      g = figure-g;
+      h = length-S 1;
+      h-wider = figure-h-wider;
+      i-forty = figure-i-forty;
+      i-twenty = figure-i-twenty;
+      j = figure-j;
+    }

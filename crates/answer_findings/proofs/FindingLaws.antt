@@ -1,0 +1,160 @@
+-- The findings in bytes, kind by kind, against document 01's list of findings.
+use mathlib.Core.Path.{_≡_, refl, sym, ap, ap₂, _∙_}
+use mathlib.Core.Bool.{Bool, true, false, cond}
+use mathlib.Core.List.{List, [], _∷_, _++_, flatMap, append-assoc, append-nil}
+use Prim.Native.Nat.{ℕ, zero, suc, _+_, _-_, _/_, _<_, _≤_}
+use native.Mathlib.Nat.{add-zero}
+use native.Mathlib.Omega.{arith}
+use lib.Dec.{ltb}
+use lib.ListN.{length, getD, take, drop, replicate, length-replicate}
+use lib.Seq.{sets, sets-eq, getD-take}
+use Rattle.sheet.specs.Layout.{blankLash}
+use Rattle.sheet.specs.declared.Lash.{Lash}
+use Rattle.sheet.specs.declared.Sheet.{Sheet}
+use Rattle.statics.specs.declared.EndFigures.{EndFigures}
+use Rattle.statics.specs.declared.Figures.{Figures}
+use Rattle.sheet.specs.Ends.{End, door, closed, lashesOf}
+use Rattle.answer.specs.Limits.{safeLoad}
+use Rattle.answer.specs.Findings.{Finding, Kind, racking, compression, cornerTension, lockTension, lashTension, lashVertical, lashAthwart}
+use Rattle.answer.specs.Findings.{endCode, kindCode, figuresOf, firstIndex, indexCount, sizeAt, limitAt, findingsFrom, endFindings}
+use Rattle.answer.specs.Findings.{findings}
+use Rattle.answer.specs.Answers.{findingBytes}
+use Rattle.arith.specs.Lists.{from, padded}
+use Rattle.answer_findings.specs.declared.Found.{Found}
+use Rattle.answer_findings.specs.inner.Findings.{Put, Sized, lashLimit, findingWhere, findingsOver, tierFindings, lashFindings, found}
+use Rattle.answer.proofs.ReadBack.{bytes-length}
+
+-- entries that agree from i on, and entries counted from another place
+entries-same : (f g : ℕ → List ℕ) (i n : ℕ) → ((k : ℕ) → i ≤ k → k < i + n → f k ≡ g k) → flatMap f (from i n) ≡ flatMap g (from i n)
+unfolding flatMap from
+entries-same f g i zero h = refl
+entries-same f g i (suc n) h =
+    ap₂ (λ (a b : List ℕ). a ++ b) (h i (omega arith) (omega arith)) (entries-same f g (suc i) n (λ k l u. h k (omega arith) (omega arith)))
+
+entries-from : (g : ℕ → List ℕ) (a i n : ℕ) → flatMap g (from (a + i) n) ≡ flatMap (λ k. g (a + k)) (from i n)
+unfolding flatMap from
+entries-from g a i zero = refl
+entries-from g a i (suc n) =
+    let e : suc (a + i) ≡ a + suc i = omega arith in
+    rw e (ap (λ (l : List ℕ). g (a + i) ++ l) (entries-from g a (suc i) n))
+
+over-same :
+    (end kind first n : ℕ) (size a b : ℕ → ℕ) →
+    ((i : ℕ) → i < first + n → a i ≡ b i) →
+    findingsOver end kind first size a n ≡ findingsOver end kind first size b n
+unfolding findingsOver
+over-same end kind first n size a b h =
+    entries-same _ _ 0 n (λ k _ u. ap (λ (x : ℕ). findingWhere end kind (first + k) (size (first + k)) x) (h (first + k) (omega arith)))
+
+-- findings in bytes: of a list and a list
+bytes-append : (xs ys : List Finding) → flatMap findingBytes (xs ++ ys) ≡ flatMap findingBytes xs ++ flatMap findingBytes ys
+unfolding flatMap
+bytes-append [] ys = refl
+bytes-append (x ∷ xs) ys = ap (λ (l : List ℕ). findingBytes x ++ l) (bytes-append xs ys)
+
+where-found :
+    (b : Bool) (x : Finding) (xs : List Finding) →
+    flatMap findingBytes (cond b (x ∷ xs) xs) ≡ cond b (findingBytes x) [] ++ flatMap findingBytes xs
+unfolding flatMap
+where-found true x xs = refl
+where-found false x xs = refl
+
+drop-replicate : (k n z : ℕ) → drop k (replicate n z) ≡ replicate (n - k) z
+drop-replicate zero n z =
+    let e : n - 0 ≡ n = omega arith in
+    rw e refl
+drop-replicate (suc k) zero z =
+    let e : 0 - suc k ≡ 0 = omega arith in
+    rw e refl
+drop-replicate (suc k) (suc n) z =
+    let e : suc n - suc k ≡ n - k = omega arith in
+    rw e (drop-replicate k n z)
+
+-- one kind
+module _ (e : End) (t : Sheet) (f : EndFigures) (k : Kind) where
+  abbrev entry : ℕ → List ℕ
+  entry i = findingWhere (endCode e) (kindCode k) i (sizeAt f k i) (limitAt e t k i)
+
+  from-bytes : (i n : ℕ) → flatMap findingBytes (findingsFrom e t f k i n) ≡ flatMap entry (from i n)
+  unfolding findingsFrom flatMap from findingWhere
+  from-bytes i zero = refl
+  from-bytes i (suc n) =
+      where-found (ltb (limitAt e t k i) (sizeAt f k i)) (record { end = endCode e; kind = kindCode k; index = i })
+      (findingsFrom e t f k (suc i) n)
+      ∙ ap (λ (l : List ℕ). entry i ++ l) (from-bytes (suc i) n)
+
+  kind-bytes :
+      (n : ℕ) (limit : ℕ → ℕ) →
+      indexCount e t k ≡ n →
+      ((i : ℕ) → i < firstIndex k + n → limitAt e t k i ≡ limit i) →
+      flatMap findingBytes (findingsFrom e t f k (firstIndex k) (indexCount e t k)) ≡
+      findingsOver (endCode e) (kindCode k) (firstIndex k) (sizeAt f k) limit n
+  unfolding findingsOver
+  kind-bytes n limit c h =
+      let z : firstIndex k + 0 ≡ firstIndex k = add-zero (firstIndex k) in
+      rw c
+      (from-bytes (firstIndex k) n
+      ∙ (rw z at (entries-from entry (firstIndex k) 0 n))
+      ∙ over-same (endCode e) (kindCode k) (firstIndex k) n (sizeAt f k) (limitAt e t k) limit h)
+
+-- an end: kinds 1 to 7
+module _ (t : Sheet) (f : Figures) (e : End) (ls : List Lash) (m : ℕ) (few : length (lashesOf e t) ≡ m)
+    (each : (j : ℕ) → j < m → getD (lashesOf e t) j blankLash ≡ getD ls j blankLash) where
+  pub end-bytes :
+      tierFindings (endCode e) (t .ntiers) (safeLoad (t .head .lockMaterial) (t .head .lockBreakingLoad)) (figuresOf e f)
+      ++ lashFindings (endCode e) ls m (figuresOf e f)
+      ≡ flatMap findingBytes (endFindings t f e)
+  unfolding tierFindings lashFindings flatMap
+  end-bytes =
+      let g = figuresOf e f in
+      let n = t .ntiers in
+      let r = kind-bytes e t g racking n _ refl (λ i h. refl) in
+      let c = kind-bytes e t g compression n _ refl (λ i h. refl) in
+      let s = kind-bytes e t g cornerTension n _ refl (λ i h. refl) in
+      let u = kind-bytes e t g lockTension n _ refl (λ i h. refl) in
+      let p =
+      kind-bytes e t g lashTension m (lashLimit ls) few
+      (λ i h. ap (λ (l : Lash). safeLoad (l .material) (l .breakingLoad)) (each i (omega arith))) in
+      let v = kind-bytes e t g lashVertical m _ few (λ i h. refl) in
+      let a = kind-bytes e t g lashAthwart m _ few (λ i h. refl) in
+      simp (bytes-append, append-nil, append-assoc, tierFindings, lashFindings, r, c, s, u, p, v, a)
+
+-- both ends
+module _ (t : Sheet) (f : Figures) (s : Sized t) (lock : ℕ)
+    (safe : lock ≡ safeLoad (t .head .lockMaterial) (t .head .lockBreakingLoad)) where
+  abbrev both : List ℕ
+  both =
+      (tierFindings 0 (t .ntiers) lock (f .door) ++ lashFindings 0 (t .door) (t .ndoor) (f .door))
+      ++ (tierFindings 1 (t .ntiers) lock (f .closed) ++ lashFindings 1 (t .closed) (t .nclosed) (f .closed))
+
+  both-bytes : both ≡ flatMap findingBytes (findings t f)
+  unfolding findings
+  both-bytes =
+      rw (safe, bytes-append)
+      (ap₂
+      (λ (a b : List ℕ). a ++ b)
+      (end-bytes t f door (t .door) (t .ndoor) (s .door-lashes) (λ j h. getD-take (t .ndoor) (t .door) j blankLash h))
+      (end-bytes t f closed (t .closed) (t .nclosed) (s .closed-lashes) (λ j h. getD-take (t .nclosed) (t .closed) j blankLash h)))
+
+  -- put into an array of zeros, with zeros stored again behind the last
+  module _ {held : List ℕ} {q : ℕ} (p : Put (replicate 387 0) 0 both held q) (room : q ≤ 384) where
+    count-is : q / 3 ≡ length (findings t f)
+    count-is = omega (arith, p .place, ap length both-bytes, bytes-length (findings t f))
+
+    zeros : 0 ∷ 0 ∷ 0 ∷ drop (q + 3) held ≡ replicate (387 - q) 0
+    zeros =
+        let e : 387 - q ≡ suc (suc (suc (387 - (q + 3)))) = omega arith in
+        rw (p .behind, drop-replicate (q + 3) 387 0) (ap (λ (n : ℕ). replicate n 0) (sym e))
+
+    bytes-are : {after : List ℕ} → after ≡ sets held q (0 ∷ 0 ∷ 0 ∷ []) → after ≡ padded 387 0 (flatMap findingBytes (findings t f))
+    bytes-are e =
+        let h : q + 3 ≤ length held = omega (arith, p .room, length-replicate {A = ℕ} 387 0) in
+        let l : q ≡ length both = omega (arith, p .place) in
+        e
+        ∙ sets-eq (0 ∷ 0 ∷ 0 ∷ []) held q h
+        ∙ append-assoc (take q held) (0 ∷ 0 ∷ 0 ∷ []) (drop (q + 3) held)
+        ∙ ap₂ (λ (a b : List ℕ). a ++ b) (p .stored) (zeros ∙ ap (λ (n : ℕ). replicate (387 - n) 0) l)
+        ∙ ap (λ (b : List ℕ). padded 387 0 b) both-bytes
+
+    pub found-is : {r : Found} {after : List ℕ} → r .bytes ≡ after → r .count ≡ q / 3 → after ≡ sets held q (0 ∷ 0 ∷ 0 ∷ []) → r ≡ found t f
+    found-is b c e = λ i. record { bytes = (b ∙ bytes-are e) i; count = (c ∙ count-is) i }

@@ -1,0 +1,219 @@
+-- The figures of an end, put together from the steps that compute them.
+use Prim.Native.Nat.{ℕ, zero, suc, _+_, _*_, _-_, _<_, _≤_}
+use mathlib.Core.Bool.{cond}
+use mathlib.Core.List.{List, [], _∷_, map}
+use mathlib.Core.Path.{_≡_, refl, sym, _∙_}
+use native.Mathlib.Decide.{decLt, ℕ-discrete}
+use native.Mathlib.Omega.{arith}
+use borrow.Author.Tests.{le-leb, lt-leb, eq-eqb, ne-eqb}
+use lib.Dec.{leb, eqb}
+use lib.IntN.{ℤ, pos}
+use lib.ListN.{length, getD, take, drop, replicate}
+use lib.Seq.{ext-getD}
+use Rattle.sheet.specs.Layout.{blankLash, blankTier}
+use Rattle.sheet.proofs.Limits.{lash-wider}
+use Rattle.springs.specs.inner.Promise.{Solvable, Promised}
+use Rattle.springs.specs.inner.Elimination.{solved}
+use Rattle.sheet.specs.declared.Tier.{Tier}
+use Rattle.sheet.specs.declared.Lash.{Lash}
+use Rattle.sheet.specs.declared.Lashing.{Lashing}
+use Rattle.sheet.specs.declared.Sheet.{Sheet}
+use Rattle.sheet.specs.Lashings.{lashingOf, levelOf}
+use Rattle.statics.specs.declared.EndFigures.{EndFigures}
+use Rattle.sheet.specs.inner.Limits.{LashLimits, SheetLimits}
+use Rattle.statics.specs.declared.LoadRule.{LoadRule}
+use Rattle.statics.specs.Ends.{springOf}
+use Rattle.sheet.specs.Ends.{End, door, closed, tiersOf, lashesOf}
+use Rattle.statics.specs.inner.WholeNumbers.{Filled, levelStiffness, upward, upwards, leePart, windwardPart, rackingPart, rackingFigure}
+use Rattle.statics.specs.inner.WholeNumbers.{momentPart, compressionFigure, tensionFigure, pullFigure, athwartFigure, verticalFigure}
+use Rattle.statics.specs.inner.Computed.{springsOf, stiffnessesOf, figuresAt}
+use Rattle.figures.specs.inner.Ends.{Loaded, Weighed, Workable}
+use Rattle.figures_levels.specs.inner.Levels.{total, LevelInputs, LevelsFigured}
+use Rattle.figures_lashes.specs.inner.Lashes.{LevelStiffnesses, LashesFigured, VerticalsOn}
+use Rattle.arith.specs.Lists.{from, below}
+use Rattle.arith.proofs.Arrays.{length-entries}
+use Rattle.statics.proofs.Arrays.{entry-at, filled-padded}
+use Rattle.statics.proofs.Inputs.{spring-least, spring-most}
+use Rattle.statics.proofs.LevelStiffness.{level-most}
+use Rattle.figures_lashes.proofs.Tallies.{tally, tally-upwards}
+use Rattle.figures_levels.proofs.Descent.{total-peel, total-off}
+
+-- the lashes at a level or above: those at it, and those above it
+level-split : (i h x : ℕ) → cond (leb i h) x 0 ≡ cond (eqb i h) x 0 + cond (leb (suc i) h) x 0
+level-split i h x =
+    elim (ℕ-discrete i h) [
+      | yes e ↦ rw (le-leb i h (omega arith), eq-eqb i h e, lt-leb (suc i) h (omega arith)) (omega arith)
+      | no ne ↦
+          elim (decLt i h) [
+            | yes l ↦ rw (le-leb i h (omega arith), ne-eqb i h ne, le-leb (suc i) h l) (omega arith)
+            | no nl ↦ rw (lt-leb i h (omega arith), ne-eqb i h ne, lt-leb (suc i) h (omega arith)) (omega arith)
+          ]
+    ]
+
+module _ (v : Lash → ℕ) where
+  tally-split :
+      (i : ℕ) (ls : List Lash) →
+      tally (λ l. leb i (levelOf l)) v ls ≡ tally (λ l. eqb i (levelOf l)) v ls + tally (λ l. leb (suc i) (levelOf l)) v ls
+  unfolding tally
+  tally-split i [] = refl
+  tally-split i (l ∷ ls) = omega (arith, level-split i (levelOf l) (v l), tally-split i ls)
+
+  tally-over :
+      (n : ℕ) (ls : List Lash) →
+      ((j : ℕ) → j < length ls → levelOf (getD ls j blankLash) ≤ n) →
+      tally (λ l. leb (suc n) (levelOf l)) v ls ≡ 0
+  unfolding tally
+  tally-over n [] h = refl
+  tally-over n (l ∷ ls) h =
+      rw (lt-leb (suc n) (levelOf l) (omega (arith, h 0 (omega arith)))) (omega (arith, tally-over n ls (λ j q. h (suc j) (omega arith))))
+
+-- the sum over the levels from i on is the sum over the lashes at level i or above
+module _ (post : Lashing → ℕ → ℕ) (n : ℕ) (d : List ℕ) (ls : List Lash) (r : List ℕ) (room : suc n ≤ length r)
+    (under : (j : ℕ) → j < length ls → levelOf (getD ls j blankLash) ≤ n)
+    (each : (i : ℕ) → getD r i 0 ≡ upwards post (λ l. eqb i (levelOf l)) d ls) where
+  abbrev on : Lash → ℕ
+  on l = post (lashingOf l) (upward d l)
+
+  levels-from : (g i : ℕ) → i + g ≡ suc n → total (drop i (take (suc n) r)) ≡ tally (λ l. leb i (levelOf l)) on ls
+  levels-from zero i e =
+      let q : i ≡ suc n = omega arith in
+      rw q (total-off r (suc n) room ∙ sym (tally-over on n ls under))
+  levels-from (suc g) i e =
+      omega (
+        arith,
+        total-peel r (suc n) i (omega arith) room,
+        levels-from g (suc i) (omega arith),
+        each i ∙ tally-upwards post (λ l. eqb i (levelOf l)) d ls,
+        tally-split on i ls,
+      )
+
+  pub sum-from : (i : ℕ) → i ≤ suc n → total (drop i (take (suc n) r)) ≡ upwards post (λ l. leb i (levelOf l)) d ls
+  sum-from i h = levels-from (suc n - i) i (omega arith) ∙ sym (tally-upwards post (λ l. leb i (levelOf l)) d ls)
+
+refilled :
+    {A : Type 0} {size : ℕ} {blank : A} {n : ℕ} {P Q : ℕ → A} {r : List A} →
+    ((i : ℕ) → i < n → P i ≡ Q i) → Filled size blank n P r → Filled size blank n Q r
+refilled e f = record { long = f .long; each = λ i h. f .each i h ∙ e i h; rest = f .rest }
+
+module _ {n : ℕ} {k : List ℕ} {ts : List Tier} {m : ℕ} {ls : List Lash} {ω vmax vmin : List ℕ}
+    (h : Workable n k ts m ls ω vmax vmin) (counted : length ls ≡ m) where
+  pub each-ten : (j : ℕ) → j < m → LashLimits 10 (getD ls j blankLash)
+  each-ten j q = lash-wider (h .few) (h .each j (omega arith))
+
+  pub end-solvable : {κ : List ℕ} → LevelStiffnesses ls κ → Solvable n k κ ω
+  end-solvable s =
+      record {
+        few = h .few;
+        springs = h .springs;
+        held = λ i q. rw (s i) (omega (arith, level-most n ls (record { at = h .each }) (suc i), h .at-level (suc i)));
+        loaded = h .loaded;
+      }
+
+  pub end-measured :
+      {κ d lee windward : List ℕ} →
+      Promised n k κ ω d →
+      VerticalsOn leePart ls d lee →
+      VerticalsOn windwardPart ls d windward →
+      LevelInputs n k ts d vmax vmin lee windward
+  end-measured o u v =
+      record {
+        few = h .few;
+        springs = λ i q. h .springs i q .1;
+        heights = h .heights;
+        shifts = o .far;
+        vmax-light = h .weighed .most-light;
+        vmin-light = h .weighed .least-light;
+        lee-small = u .small;
+        windward-small = v .small;
+        lee-long = u .long;
+        windward-long = v .long;
+      }
+
+  -- the figures put together are those of the definition
+  pub end-named :
+      {d lash-tension athwart vertical lee windward : List ℕ} {racking : List ℤ} {compression tension : List ℕ} →
+      LashesFigured m ls d lash-tension athwart vertical →
+      VerticalsOn leePart ls d lee →
+      VerticalsOn windwardPart ls d windward →
+      LevelsFigured n k ts d vmax vmin lee windward racking compression tension →
+      record {
+        racking = racking;
+        compression = compression;
+        tension = tension;
+        pull = lash-tension;
+        athwart = athwart;
+        vertical = vertical;
+      }
+      ≡ figuresAt n k ts ls d
+  unfolding figuresAt compressionFigure tensionFigure momentPart
+  end-named {d} {lash-tension} {athwart} {vertical} {lee} {windward} {racking} {compression} {tension} u x y l =
+      rw (
+        filled-padded (λ i. rackingFigure (rackingPart (getD k i 0) d i)) (pos 0) 10 n racking (h .few) (l .racking-is),
+        filled-padded (compressionFigure k ts ls d) 0 11 (suc n) compression (omega (arith, h .few))
+            (refilled (λ i q. rw (h .weighed .vmax-is i, lees i (omega arith), windwards i (omega arith)) refl) (l .compression-is)),
+        filled-padded (tensionFigure k ts ls d) 0 10 n tension (h .few)
+            (refilled (λ i q. rw (h .weighed .vmin-is i, lees (suc i) (omega arith), windwards (suc i) (omega arith)) refl)
+            (l .tension-is)),
+        filled-padded (λ j. pullFigure d (getD ls j blankLash)) 0 8 (length ls) lash-tension (omega (arith, h .few-lashes))
+            (rw counted (u .lash-tension-is)),
+        filled-padded (λ j. athwartFigure d (getD ls j blankLash)) 0 8 (length ls) athwart (omega (arith, h .few-lashes))
+            (rw counted (u .athwart-is)),
+        filled-padded (λ j. verticalFigure d (getD ls j blankLash)) 0 8 (length ls) vertical (omega (arith, h .few-lashes))
+            (rw counted (u .vertical-is)),
+      ) refl
+    where
+      under : (j : ℕ) → j < length ls → levelOf (getD ls j blankLash) ≤ n
+      under j q = h .each j q .inside
+
+      lees : (i : ℕ) → i ≤ suc n → total (drop i (take (suc n) lee)) ≡ upwards leePart (λ l. leb i (levelOf l)) d ls
+      lees = sum-from leePart n d ls lee (omega (arith, h .few, x .long)) under (x .each)
+
+      windwards : (i : ℕ) → i ≤ suc n → total (drop i (take (suc n) windward)) ≡ upwards windwardPart (λ l. leb i (levelOf l)) d ls
+      windwards = sum-from windwardPart n d ls windward (omega (arith, h .few, y .long)) under (y .each)
+
+-- the stiffnesses by level, as an array of ten
+pub stiffnesses-named : (ls : List Lash) {κ : List ℕ} → length κ ≡ 10 → LevelStiffnesses ls κ → κ ≡ stiffnessesOf ls
+unfolding stiffnessesOf
+stiffnesses-named ls {κ} long s =
+    ext-getD 0 κ (map (λ i. levelStiffness ls (suc i)) (below 10)) (long ∙ sym (length-entries (λ i. levelStiffness ls (suc i)) 0 10))
+    (λ i q. s i ∙ sym (entry-at (λ i. levelStiffness ls (suc i)) 0 10 i (omega (arith, q, long))))
+
+-- an end's figures may be computed
+module _ {t : Sheet} (f : SheetLimits t) (e : End) where
+  pub workable :
+      (rule : LoadRule) (m : ℕ) (ω vmax vmin : List ℕ) →
+      m ≤ 8 →
+      Loaded rule (t .ntiers) (tiersOf t) ω →
+      Weighed (tiersOf t) vmax vmin →
+      Workable (t .ntiers) (springsOf e (tiersOf t)) (tiersOf t) m (lashesOf e t) ω vmax vmin
+  workable rule m ω vmax vmin few l v =
+      record {
+        few = f .few;
+        springs = λ i h. rw (spring-at i h) (spring-least e (tier i), spring-most e (tier i));
+        heights = λ i h. f .each i h .height;
+        few-lashes = few;
+        each = f .ends e .each;
+        at-level = f .ends e .at-level;
+        loaded = l .small;
+        weighed = v;
+      }
+    where
+      tier : ℕ → Tier
+      tier i = getD (tiersOf t) i blankTier
+
+      spring-at : (i : ℕ) → i < t .ntiers → getD (springsOf e (tiersOf t)) i 0 ≡ springOf e (tier i)
+      spring-at i h = entry-at (λ i. springOf e (tier i)) 0 10 i (omega (arith, f .few))
+
+-- today's springs do not depend on the tier
+pub door-springs : (ts : List Tier) → replicate 10 3730 ≡ springsOf door ts
+unfolding from
+door-springs ts = refl
+
+pub closed-springs : (ts : List Tier) → replicate 10 15690 ≡ springsOf closed ts
+unfolding from
+closed-springs ts = refl
+
+-- the figures of an end of a sheet, from its springs and loads
+abbrev pub endFigures : End → Sheet → List ℕ → List ℕ → EndFigures
+endFigures e t k ω =
+    figuresAt (t .ntiers) k (tiersOf t) (lashesOf e t) (solved (t .ntiers) k (stiffnessesOf (lashesOf e t)) ω)

@@ -1,0 +1,75 @@
+-- The whole numbers of a lash: the steps to its stiffness and its forces stay in range.
+use Prim.Native.Nat.{ℕ, suc, _+_, _*_, _-_, _/_, _^_, _<_, _≤_}
+use mathlib.Core.Path.{_≡_}
+use native.Mathlib.Nat.{mul-le-mul, mul-le-mul-left, div-le-of-le-mul}
+use native.Mathlib.Omega.{arith}
+use Rattle.sheet.specs.declared.Lash.{Lash}
+use Rattle.sheet.specs.inner.Limits.{LashLimits}
+use Rattle.statics.specs.Lashes.{lashLength}
+use Rattle.statics.proofs.LashLength.{squares, length-least}
+
+module _ {n : ℕ} {l : Lash} (f : LashLimits n l) where
+  pub length-most : lashLength l ≤ 22913
+  length-most =
+      let x = mul-le-mul (f .lx) (f .lx) in
+      let y = mul-le-mul (f .ly-most) (f .ly-most) in
+      let z = mul-le-mul (f .lz-most) (f .lz-most) in
+      length-least l .least 22913 (omega (arith, x, y, z))
+
+  short : (k : ℕ) → squares l ≤ k * k → suc k ≤ l .ly → ⊥
+  short k h q = omega (arith, mul-le-mul q q)
+
+  pub length-ly : l .ly ≤ lashLength l
+  length-ly = omega (arith, short (lashLength l) (length-least l .enough))
+
+  -- the steps to the stiffness
+  module _ {L : ℕ} (e : L ≡ lashLength l) where
+    pub force-le : l .modulus * l .area ≤ 200000 * 1000
+    force-le = mul-le-mul (f .modulus-most) (f .area-most)
+
+    pub side-le : l .ly * l .ly ≤ 10000 * 10000
+    side-le = mul-le-mul (f .ly-most) (f .ly-most)
+
+    pub top-le : l .modulus * l .area * (l .ly * l .ly) ≤ 200000 * 1000 * (10000 * 10000)
+    top-le = mul-le-mul force-le side-le
+
+    L-most : L ≤ 22913
+    L-most = omega (arith, length-most)
+
+    L-least : l .ly ≤ L
+    L-least = omega (arith, length-ly)
+
+    pub square-le : L * L ≤ 22913 * 22913
+    square-le = mul-le-mul L-most L-most
+
+    pub cube-le : L * L * L ≤ 22913 * 22913 * 22913
+    cube-le = mul-le-mul square-le L-most
+
+    -- c is at least 500 L², and 500 L² at least 1
+    cube-least : L * L * 500 ≤ L * L * L
+    cube-least = mul-le-mul-left (L * L) (omega (arith, f .ly, L-least))
+
+    pub cube-above : 0 < L * L * L
+    cube-above = omega (arith, cube-least, mul-le-mul L-least L-least, mul-le-mul (f .ly) (f .ly))
+
+    pub quotient-le : l .modulus * l .area * (l .ly * l .ly) / (L * L * L) ≤ 400000
+    quotient-le =
+        let h : l .modulus * l .area * (l .ly * l .ly) ≤ 200000 * 1000 * (L * L) = mul-le-mul force-le (mul-le-mul L-least L-least) in
+        div-le-of-le-mul (L * L * L) (omega (arith, h, cube-least))
+
+-- the athwart part
+module _ {k s : ℕ} (hk : k ≤ 155000 * 2 ^ 22) (hs : s ≤ 2 ^ 40) where
+  pub by-quotient : k * (s / 4194304 + 1) ≤ 155000 * 2 ^ 22 * (2 ^ 18 + 1)
+  by-quotient =
+      let h : s / 4194304 + 1 ≤ 2 ^ 18 + 1 = omega arith in
+      mul-le-mul hk h
+
+  pub part-le : k * s / 2 ^ 32 ≤ 2 ^ 48
+  part-le = omega (arith, mul-le-mul hk hs)
+
+-- the vertical part
+pub upward-le : {part ly lz : ℕ} → part ≤ 2 ^ 48 → 500 ≤ ly → lz ≤ 20000 → part * lz / ly ≤ 2 ^ 54
+upward-le {part} {ly} {lz} hp hy hz =
+    let h : lz ≤ 40 * ly = omega arith in
+    let q : part * lz / ly ≤ 40 * part = div-le-of-le-mul ly (omega (arith, mul-le-mul-left part h)) in
+    omega arith

@@ -1,0 +1,270 @@
+-- The two loops over an end's lashes: what they have found before lash j, and one turn of each.
+use Prim.Native.Nat.{ℕ, suc, _+_, _*_, _-_, _/_, _^_, _<_, _≤_}
+use mathlib.Core.Bool.{Bool, true, false, cond}
+use mathlib.Core.List.{List, _∷_}
+use mathlib.Core.Path.{_≡_, refl, sym, _∙_}
+use native.Mathlib.Omega.{arith}
+use borrow.Author.Tests.{eq-eqb, ne-eqb}
+use lib.Dec.{eqb}
+use lib.ListN.{length, getD, set, take, drop, replicate}
+use lib.Seq.{drop-cons, length-take-le}
+use Rattle.arith.specs.inner.Rounding.{roundedUp}
+use Rattle.sheet.specs.Layout.{_is_, blankLash}
+use Rattle.sheet.specs.declared.Lash.{Lash}
+use Rattle.sheet.specs.declared.Lashing.{Lashing}
+use Rattle.sheet.specs.declared.Lashing.the-variants.{Cross, Side}
+use Rattle.sheet.specs.Lashings.{lashingOf, levelOf}
+use Rattle.sheet.specs.inner.Limits.{LashLimits}
+use Rattle.statics.specs.Lashes.{lashLength}
+use Rattle.statics.specs.inner.WholeNumbers.{lashPad, stiffnessOf, part, upward}
+use Rattle.statics.specs.inner.WholeNumbers.{pullFigure, athwartFigure, verticalFigure, leePart, windwardPart}
+use Rattle.figures_lashes.specs.inner.Lashes.{carriedLash, verticalFrom, LashesMeasured, LevelStiffnesses, LashesFigured, VerticalsOn}
+use Rattle.statics.proofs.Arrays.{Between, between-none, fill-above, filled}
+use Rattle.statics.proofs.LashStiffness.{stiffness-most}
+use Rattle.figures_lashes.proofs.LashLaws.{part-le, upward-le}
+use Rattle.figures_lashes.proofs.Tallies.{tally, tally-stiffness, tally-upwards, tally-le}
+use Rattle.figures_lashes.proofs.Tallies.{Tallied, Only, tallied-none, tallied-all, tallied-le, tallied-more}
+
+-- the lashes of an end
+pub record Listed (m : ℕ) (ls : List Lash) : Type 0 where
+  pub counted : length ls ≡ m
+  pub few : m ≤ 8
+  pub each : (j : ℕ) → j < m → LashLimits 10 (getD ls j blankLash)
+
+pub listed :
+    {m : ℕ} (lashes : List Lash) →
+    length lashes ≡ 8 →
+    (m ≤ 8) × ((j : ℕ) → j < m → LashLimits 10 (getD (take m lashes) j blankLash)) →
+    Listed m (take m lashes)
+listed {m} lashes e p = record { counted = length-take-le m lashes (omega (arith, p .0)); few = p .0; each = p .1 }
+
+-- a lash is hooked at level suc i; at level i
+abbrev over : ℕ → Lash → Bool
+over i l = eqb (suc i) (levelOf l)
+
+abbrev at-level : ℕ → Lash → Bool
+at-level i l = eqb i (levelOf l)
+
+only-over : {l : Lash} {at : ℕ} → suc at ≡ levelOf l → Only over at l
+only-over {l} {at} e =
+    record {
+      here = eq-eqb (suc at) (levelOf l) e;
+      others = λ i ne. ne-eqb (suc i) (levelOf l) (λ q. ne (omega arith));
+    }
+
+only-at : {l : Lash} {at : ℕ} → at ≡ levelOf l → Only at-level at l
+only-at {l} {at} e =
+    record { here = eq-eqb at (levelOf l) e; others = λ i ne. ne-eqb i (levelOf l) (λ q. ne (omega arith)) }
+
+-- the first loop
+pub record MeasuredTo (m : ℕ) (ls : List Lash) (lengths stiffnesses levels : List ℕ) (j : ℕ) : Type 0 where
+  pub within : j ≤ m
+  pub long : Between 0 (λ k x. x ≡ lashLength (getD ls k blankLash)) 8 0 j lengths
+  pub stiff : Between 0 (λ k x. x ≡ stiffnessOf (getD ls k blankLash)) 8 0 j stiffnesses
+  pub levels-are : Tallied over stiffnessOf ls 10 j levels
+
+pub measured-none : {m : ℕ} {ls : List Lash} → MeasuredTo m ls (replicate 8 0) (replicate 8 0) (replicate 10 0) 0
+measured-none =
+    record {
+      within = omega arith;
+      long = between-none 0 _ 8 0;
+      stiff = between-none 0 _ 8 0;
+      levels-are = tallied-none 10;
+    }
+
+module _ {m : ℕ} {ls : List Lash} (g : Listed m ls) where
+  first : {j : ℕ} {l : Lash} → j < m → getD ls j blankLash ≡ l → drop j ls ≡ l ∷ drop (suc j) ls
+  first {j} h e = rw e at (drop-cons ls j blankLash (omega (arith, g .counted)))
+
+  each-stiff : (k : ℕ) → k < length ls → stiffnessOf (getD ls k blankLash) ≤ 155000 * 2 ^ 22
+  each-stiff k q = stiffness-most (getD ls k blankLash) (g .each k (omega (arith, g .counted)))
+
+  module _ {lengths stiffnesses levels : List ℕ} {j : ℕ} (s : MeasuredTo m ls lengths stiffnesses levels j) (h : j < m)
+      {l : Lash} (own : getD ls j blankLash ≡ l) {stiff at : ℕ} (es : stiff ≡ stiffnessOf l) (ea : suc at ≡ levelOf l) where
+    pub level-fits : getD levels at 0 + stiff < 2 ^ 64
+    level-fits =
+        omega (
+          arith,
+          tallied-le (s .levels-are) (first h own) (only-over ea),
+          tally-le (155000 * 2 ^ 22) (over at) stiffnessOf ls each-stiff,
+          g .counted,
+          g .few,
+        )
+
+    pub measured-more :
+        {long : ℕ} →
+        long ≡ lashLength l →
+        at < 10 →
+        MeasuredTo m ls (set lengths j long) (set stiffnesses j stiff) (set levels at (getD levels at 0 + stiff)) (suc j)
+    measured-more {long} el low =
+        record {
+          within = h;
+          long = fill-above 0 _ 8 0 j lengths long (omega (arith, g .few)) (rw own el) (s .long);
+          stiff = fill-above 0 _ 8 0 j stiffnesses stiff (omega (arith, g .few)) (rw own es) (s .stiff);
+          levels-are = rw es (tallied-more (s .levels-are) (first h own) (only-over ea) low);
+        }
+
+  pub measured-all :
+      {lengths stiffnesses levels : List ℕ} {j : ℕ} →
+      m ≤ j →
+      MeasuredTo m ls lengths stiffnesses levels j →
+      LashesMeasured m ls lengths stiffnesses × LevelStiffnesses ls levels
+  measured-all {j = j} h s =
+      let e : j ≡ m = omega (arith, s .within) in (
+        record { long = filled (rw e at (s .long)); stiff = filled (rw e at (s .stiff)) },
+        λ i. tallied-all (s .levels-are) (omega (arith, g .counted)) i ∙ sym (tally-stiffness (suc i) ls),
+      )
+
+-- a post takes no more than the whole vertical part
+pub lee-kept : (g : Lashing) (x : ℕ) → leePart g x ≤ x
+lee-kept (Cross l) x = omega arith
+lee-kept (Side l) x = omega arith
+
+pub windward-kept : (g : Lashing) (x : ℕ) → windwardPart g x ≤ x
+windward-kept (Cross l) x = omega arith
+windward-kept (Side l) x = omega arith
+
+-- the vertical part of a lash on a post, at the shifts d
+abbrev on : (Lashing → ℕ → ℕ) → List ℕ → Lash → ℕ
+on post d l = post (lashingOf l) (upward d l)
+
+-- the second loop
+pub record FiguredTo (m : ℕ) (ls : List Lash) (d tension athwart vertical lee windward : List ℕ) (j : ℕ) : Type 0 where
+  pub within : j ≤ m
+  pub tensions : Between 0 (λ k x. x ≡ pullFigure d (getD ls k blankLash)) 8 0 j tension
+  pub athwarts : Between 0 (λ k x. x ≡ athwartFigure d (getD ls k blankLash)) 8 0 j athwart
+  pub verticals : Between 0 (λ k x. x ≡ verticalFigure d (getD ls k blankLash)) 8 0 j vertical
+  pub lees : Tallied at-level (on leePart d) ls 11 j lee
+  pub windwards : Tallied at-level (on windwardPart d) ls 11 j windward
+
+pub figured-none :
+    {m : ℕ} {ls : List Lash} {d : List ℕ} →
+    FiguredTo m ls d (replicate 8 0) (replicate 8 0) (replicate 8 0) (replicate 11 0) (replicate 11 0) 0
+figured-none =
+    record {
+      within = omega arith;
+      tensions = between-none 0 _ 8 0;
+      athwarts = between-none 0 _ 8 0;
+      verticals = between-none 0 _ 8 0;
+      lees = tallied-none 11;
+      windwards = tallied-none 11;
+    }
+
+upward-small : (d : List ℕ) (l : Lash) → getD d (levelOf l) 0 ≤ 2 ^ 40 → LashLimits 10 l → upward d l ≤ 2 ^ 54
+unfolding upward part
+upward-small d l h f = upward-le (part-le (stiffness-most l f) h) (f .ly) (f .lz-most)
+
+carried-by : (cross : Bool) (l : Lash) → carriedLash (cond cross (Cross l) (Side l)) ≡ l
+carried-by true l = refl
+carried-by false l = refl
+
+pub carried : (l : Lash) → carriedLash (lashingOf l) ≡ l
+carried l = carried-by (l .kind is 0) l
+
+-- the vertical part that the code puts on a post
+is-upward :
+    (d : List ℕ) (l : Lash) {at x : ℕ} →
+    at ≡ levelOf l →
+    x ≡ stiffnessOf l * getD d at 0 / 2 ^ 32 →
+    verticalFrom x (carriedLash (lashingOf l)) ≡ upward d l
+unfolding upward part
+is-upward d l ea ex = rw (carried l, ex, ea) refl
+
+-- the sum of a post at a level
+post-le :
+    {m : ℕ} {ls : List Lash} (d : List ℕ) →
+    Listed m ls →
+    ((i : ℕ) → getD d i 0 ≤ 2 ^ 40) →
+    (post : Lashing → ℕ → ℕ) →
+    ((g : Lashing) (x : ℕ) → post g x ≤ x) →
+    (i : ℕ) →
+    tally (at-level i) (on post d) ls ≤ 8 * 2 ^ 54
+post-le {ls = ls} d g small post kept i =
+    omega (arith, tally-le (2 ^ 54) (at-level i) (on post d) ls each, g .counted, g .few)
+  where
+    each : (k : ℕ) → k < length ls → on post d (getD ls k blankLash) ≤ 2 ^ 54
+    each k q =
+        let l = getD ls k blankLash in
+        omega (arith, kept (lashingOf l) (upward d l), upward-small d l (small (levelOf l)) (g .each k (omega (arith, g .counted))))
+
+module _ {m : ℕ} {ls : List Lash} {d : List ℕ} (g : Listed m ls) (small : (i : ℕ) → getD d i 0 ≤ 2 ^ 40) where
+  module _ {tension athwart vertical lee windward : List ℕ} {j : ℕ}
+      (s : FiguredTo m ls d tension athwart vertical lee windward j) (h : j < m) {l : Lash} (own : getD ls j blankLash ≡ l) {at x : ℕ}
+      (ea : at ≡ levelOf l)
+      (ex : x ≡ stiffnessOf l * getD d at 0 / 2 ^ 32) where
+    abbrev up : ℕ
+    up = verticalFrom x (carriedLash (lashingOf l))
+
+    pub post-fits :
+        (post : Lashing → ℕ → ℕ) →
+        ((g : Lashing) (x : ℕ) → post g x ≤ x) →
+        {r : List ℕ} →
+        Tallied at-level (on post d) ls 11 j r →
+        getD r at 0 + post (lashingOf l) up < 2 ^ 64
+    post-fits post kept t =
+        rw (is-upward d l ea ex) (omega (arith, tallied-le t (first g h own) (only-at ea), post-le d g small post kept at))
+
+    post-more :
+        (post : Lashing → ℕ → ℕ) {r : List ℕ} →
+        at < 11 →
+        Tallied at-level (on post d) ls 11 j r →
+        Tallied at-level (on post d) ls 11 (suc j) (set r at (getD r at 0 + post (lashingOf l) up))
+    post-more post low t = rw (is-upward d l ea ex) (tallied-more t (first g h own) (only-at ea) low)
+
+    pub figured-more :
+        {p a v : ℕ} →
+        at < 11 →
+        p ≡ roundedUp (roundedUp ((x + lashPad) * lashLength l) (l .ly)) (2 ^ 18) →
+        a ≡ roundedUp (x + lashPad) (2 ^ 18) →
+        v ≡ roundedUp (roundedUp ((x + lashPad) * l .lz) (l .ly)) (2 ^ 18) →
+        FiguredTo
+        m
+        ls
+        d
+        (set tension j p)
+        (set athwart j a)
+        (set vertical j v)
+        (set lee at (getD lee at 0 + leePart (lashingOf l) up))
+        (set windward at (getD windward at 0 + windwardPart (lashingOf l) up))
+        (suc j)
+    unfolding pullFigure athwartFigure verticalFigure part
+    figured-more {p} {a} {v} low ep eq ev =
+        record {
+          within = h;
+          tensions = fill-above 0 _ 8 0 j tension p (omega (arith, g .few)) (rw (own, ← ea, ← ex) ep) (s .tensions);
+          athwarts = fill-above 0 _ 8 0 j athwart a (omega (arith, g .few)) (rw (own, ← ea, ← ex) eq) (s .athwarts);
+          verticals = fill-above 0 _ 8 0 j vertical v (omega (arith, g .few)) (rw (own, ← ea, ← ex) ev) (s .verticals);
+          lees = post-more leePart low (s .lees);
+          windwards = post-more windwardPart low (s .windwards);
+        }
+
+  verticals-on :
+      (post : Lashing → ℕ → ℕ) →
+      ((g : Lashing) (x : ℕ) → post g x ≤ x) →
+      {r : List ℕ} {j : ℕ} →
+      m ≤ j →
+      Tallied at-level (on post d) ls 11 j r →
+      VerticalsOn post ls d r
+  verticals-on post kept h t =
+      let x = tallied-all t (omega (arith, g .counted)) in
+      record {
+        each = λ i. x i ∙ sym (tally-upwards post (at-level i) d ls);
+        small = λ i. omega (arith, x i, post-le d g small post kept i);
+        long = t .long;
+      }
+
+  pub figured-all :
+      {tension athwart vertical lee windward : List ℕ} {j : ℕ} →
+      m ≤ j →
+      FiguredTo m ls d tension athwart vertical lee windward j →
+      LashesFigured m ls d tension athwart vertical × VerticalsOn leePart ls d lee × VerticalsOn windwardPart ls d windward
+  figured-all {j = j} h s =
+      let e : j ≡ m = omega (arith, s .within) in (
+        record {
+          lash-tension-is = filled (rw e at (s .tensions));
+          athwart-is = filled (rw e at (s .athwarts));
+          vertical-is = filled (rw e at (s .verticals));
+        },
+        verticals-on leePart lee-kept h (s .lees),
+        verticals-on windwardPart windward-kept h (s .windwards),
+      )

@@ -1,0 +1,42 @@
+-- Contracts of inner functions: what is found of an end's lashes before and after the springs are solved. Nothing here need be believed.
+use mathlib.Core.Path.{_≡_}
+use mathlib.Core.List.{List}
+use Prim.Native.Nat.{ℕ, suc, _*_, _/_, _^_, _≤_}
+use lib.Dec.{eqb}
+use lib.ListN.{getD, length}
+use Rattle.sheet.specs.declared.Lash.{Lash}
+use Rattle.sheet.specs.declared.Lashing.{Lashing}
+use Rattle.sheet.specs.declared.Lashing.the-variants.{Cross, Side}
+use Rattle.sheet.specs.Layout.{blankLash}
+use Rattle.sheet.specs.Lashings.{levelOf}
+use Rattle.statics.specs.Lashes.{lashLength}
+use Rattle.statics.specs.inner.WholeNumbers.{Filled, stiffnessOf, levelStiffness, pullFigure, athwartFigure, verticalFigure, upwards}
+
+-- the lash that a cross or a side lash carries, and the vertical part of a lash from its athwart part
+abbrev pub carriedLash : Lashing → Lash
+carriedLash (Cross l) = l
+carriedLash (Side l) = l
+
+abbrev pub verticalFrom : ℕ → Lash → ℕ
+verticalFrom part l = part * l .lz / l .ly
+
+-- lengths and stiffnesses of m lashes
+pub record LashesMeasured (m : ℕ) (ls : List Lash) (lengths stiffnesses : List ℕ) : Type 0 where
+  pub long : Filled 8 0 m (λ j. lashLength (getD ls j blankLash)) lengths
+  pub stiff : Filled 8 0 m (λ j. stiffnessOf (getD ls j blankLash)) stiffnesses
+
+-- the stiffness of all lashes at each level over the deck
+abbrev pub LevelStiffnesses : List Lash → List ℕ → Type 0
+LevelStiffnesses ls levels = (i : ℕ) → getD levels i 0 ≡ levelStiffness ls (suc i)
+
+-- the figures of m lashes at the shifts d
+pub record LashesFigured (m : ℕ) (ls : List Lash) (d tension athwart vertical : List ℕ) : Type 0 where
+  pub lash-tension-is : Filled 8 0 m (λ j. pullFigure d (getD ls j blankLash)) tension
+  pub athwart-is : Filled 8 0 m (λ j. athwartFigure d (getD ls j blankLash)) athwart
+  pub vertical-is : Filled 8 0 m (λ j. verticalFigure d (getD ls j blankLash)) vertical
+
+-- the vertical parts of the lashes on a post at each level
+pub record VerticalsOn (post : Lashing → ℕ → ℕ) (ls : List Lash) (d r : List ℕ) : Type 0 where
+  pub each : (i : ℕ) → getD r i 0 ≡ upwards post (λ l. eqb i (levelOf l)) d ls
+  pub small : (i : ℕ) → getD r i 0 ≤ 2 ^ 58
+  pub long : length r ≡ 11

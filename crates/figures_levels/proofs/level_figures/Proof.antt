@@ -1,0 +1,288 @@
+-- `figures_levels::level_figures`: one turn goes from a level to the level under it, with the sums of what stands above (Descent).
+use borrow.Author.Needs.{needs}
+use Prim.Native.Nat.{_<_, _-_}
+use mathlib.Core.Path.{_≡_, sym, ap, _∙_}
+use native.Mathlib.Omega.{arith}
+use lib.Dec.{lit<, lit≤}
+use lib.ListN.{length, take}
+use lib.Seq.{getD-take, length-take-le}
+use mir.Syntax.{w32}
+use mir.ValLaws.{toZ-ofZ}
+use Rattle.arith.proofs.Sizes.{small-pos, small-weaken}
+use Rattle.sheet.specs.declared.Tier.{Tier}
+use Rattle.sheet.specs.Layout.{blankTier}
+use Rattle.statics.specs.inner.WholeNumbers.{leeFound, windwardFound}
+use Rattle.figures_levels.proofs.Descent.{FiguredFrom, at-top, turned-once, at-foot}
+use Rattle.figures_levels.proofs.Words.{held}
+use Rattle.figures_levels.proofs.level_figures.Statement.{statement}
+use Rattle.figures_levels.proofs.level_figures.Tie as tie
+
+abbrev Inv-loop : tie.InvT-loop
+Inv-loop n k d vmax vmin lee windward tiers racking₀ compression₀ tension₀ above₀ i₀ racking compression tension above i =
+    let parts = above .parts in
+    FiguredFrom n k (take n tiers) d vmax vmin lee windward racking compression tension (above .moment) (parts .lee) (parts .windward) i
+
+abbrev μ-loop : tie.MeasureT-loop
+μ-loop n k d vmax vmin lee windward tiers racking₀ compression₀ tension₀ above₀ i₀ racking compression tension above i =
+    i
+
+-- from the top level's parts, and from the loop, to the function's entry
+abbrev entry : tie.After-parts-of Inv-loop μ-loop → tie.Start Inv-loop μ-loop
+entry c = c .before .before .before .before .before .before .before .before .before
+
+abbrev start : tie.At-loop Inv-loop μ-loop → tie.Start Inv-loop μ-loop
+start c = entry (c .before .before .before)
+
+-- from each step of a turn to the one before it
+abbrev turn : tie.After-racking-part Inv-loop μ-loop → tie.In-loop Inv-loop μ-loop
+turn c = c .before .before .before .before .before
+
+abbrev racked : tie.After-parts-of2 Inv-loop μ-loop → tie.After-racking-part Inv-loop μ-loop
+racked c = c .before .before .before
+
+abbrev parted : tie.After-level-under Inv-loop μ-loop → tie.After-parts-of2 Inv-loop μ-loop
+parted c = c .before .before .before
+
+-- the level under a tier of the stack
+under : (c : tie.In-loop Inv-loop μ-loop) → c .before .loop .i - 1 < start (c .before) .args .n
+under c = omega (arith, c .loop-test .taken, c .before .loop .inv .within)
+
+-- .. where its figures are stored
+room : (c : tie.After-racking-figure Inv-loop μ-loop) → turn (racked (parted (c .before))) .before .loop .i - 1 < 10
+room c =
+    let t = turn (racked (parted (c .before))) in
+    omega (arith, under t, start (t .before) .pre .0 .few)
+
+stacked : (c : tie.Start Inv-loop μ-loop) → length (take (c .args .n) (c .args .t3)) ≡ c .args .n
+stacked c = length-take-le (c .args .n) (c .args .t3) (omega (arith, c .pre .0 .few, c .good .1 .1 .0 .1 .0 .1))
+
+mul-parts-of : tie.Need-mul-parts-of Inv-loop μ-loop
+mul-parts-of c = search needs
+
+shared-slice-read-parts-of : tie.Need-shared-slice-read-parts-of Inv-loop μ-loop
+shared-slice-read-parts-of c = search needs
+
+mul-parts-of-2 : tie.Need-mul-parts-of-2 Inv-loop μ-loop
+mul-parts-of-2 c = search needs
+
+shared-slice-read-parts-of-2 : tie.Need-shared-slice-read-parts-of-2 Inv-loop μ-loop
+shared-slice-read-parts-of-2 c = search needs
+
+parts-of-requires : tie.Need-parts-of-requires Inv-loop μ-loop
+parts-of-requires c κs = search needs
+
+mul-compression-of : tie.Need-mul-compression-of Inv-loop μ-loop
+mul-compression-of c = search needs
+
+shared-slice-read-compression-of : tie.Need-shared-slice-read-compression-of Inv-loop μ-loop
+shared-slice-read-compression-of c = search needs
+
+compression-of-requires : tie.Need-compression-of-requires Inv-loop μ-loop
+compression-of-requires c κs =
+    let b = entry (c .before) in
+    let n = b .args .n in
+    let e = c .before .parts-of .ensures in
+    let m = b .pre .0 in
+    (m .vmax-light n, small-pos (lit≤ tt), omega (arith, e .0, m .lee-small n), omega (arith, e .1, m .windward-small n))
+
+mul-compression : tie.Need-mul-compression Inv-loop μ-loop
+mul-compression c = search needs
+
+array-write-compression : tie.Need-array-write-compression Inv-loop μ-loop
+array-write-compression c = search needs
+
+loop-holds : tie.Need-loop-holds Inv-loop μ-loop
+unfolding leeFound windwardFound
+loop-holds c =
+    let p = c .before .before in
+    let b = entry p in
+    let e = p .parts-of .ensures in
+    rw (e .0, e .1) (at-top (b .pre .0) (stacked b) (simp (e .0, e .1) at (c .compression-of .ensures)))
+
+mul-upper : tie.Need-mul-upper Inv-loop μ-loop
+mul-upper c = search needs
+
+shared-slice-read-upper : tie.Need-shared-slice-read-upper Inv-loop μ-loop
+shared-slice-read-upper c = search needs
+
+sub-i : tie.Need-sub-i Inv-loop μ-loop
+sub-i c = search needs
+
+mul-t : tie.Need-mul-t Inv-loop μ-loop
+mul-t c = search needs
+
+array-copy-out-t : tie.Need-array-copy-out-t Inv-loop μ-loop
+array-copy-out-t c = search needs
+
+mul-racking-part : tie.Need-mul-racking-part Inv-loop μ-loop
+mul-racking-part c = search needs
+
+shared-slice-read-racking-part : tie.Need-shared-slice-read-racking-part Inv-loop μ-loop
+shared-slice-read-racking-part c = search needs
+
+mul-racking-part-2 : tie.Need-mul-racking-part-2 Inv-loop μ-loop
+mul-racking-part-2 c = search needs
+
+shared-slice-read-racking-part-2 : tie.Need-shared-slice-read-racking-part-2 Inv-loop μ-loop
+shared-slice-read-racking-part-2 c = search needs
+
+racking-part-requires : tie.Need-racking-part-requires Inv-loop μ-loop
+racking-part-requires c κs =
+    let a = c .before .before .before .before .before in
+    let m = start a .pre .0 in
+    let l = a .loop in
+    (m .springs (l .i - 1) (omega (arith, l .inv .within)), m .shifts (l .i), m .shifts (l .i - 1))
+
+mul-parts-of-3 : tie.Need-mul-parts-of-3 Inv-loop μ-loop
+mul-parts-of-3 c = search needs
+
+shared-slice-read-parts-of-3 : tie.Need-shared-slice-read-parts-of-3 Inv-loop μ-loop
+shared-slice-read-parts-of-3 c = search needs
+
+mul-parts-of-4 : tie.Need-mul-parts-of-4 Inv-loop μ-loop
+mul-parts-of-4 c = search needs
+
+shared-slice-read-parts-of-4 : tie.Need-shared-slice-read-parts-of-4 Inv-loop μ-loop
+shared-slice-read-parts-of-4 c = search needs
+
+parts-of-requires-2 : tie.Need-parts-of-requires-2 Inv-loop μ-loop
+parts-of-requires-2 c κs = search needs
+
+mul-level-under : tie.Need-mul-level-under Inv-loop μ-loop
+mul-level-under c = search needs
+
+shared-slice-read-level-under : tie.Need-shared-slice-read-level-under Inv-loop μ-loop
+shared-slice-read-level-under c = search needs
+
+mul-level-under-2 : tie.Need-mul-level-under-2 Inv-loop μ-loop
+mul-level-under-2 c = search needs
+
+shared-slice-read-level-under-2 : tie.Need-shared-slice-read-level-under-2 Inv-loop μ-loop
+shared-slice-read-level-under-2 c = search needs
+
+level-under-requires : tie.Need-level-under-requires Inv-loop μ-loop
+level-under-requires c κs =
+    let o = c .before .before in
+    let r = racked o in
+    let t = turn r in
+    let l = t .before .loop in
+    let b = start (t .before) in
+    let m = b .pre .0 in
+    let j = l .i - 1 in
+    let w = under t in
+    let p = r .racking-part .ensures .1 in
+    let height = rw (getD-take (b .args .n) (b .args .t3) j blankTier w) at (m .heights j w) in
+    let e = o .parts-of2 .ensures in (
+      (small-weaken (l .inv .moment-small) (omega (arith, m .few)), rw (held p (lit< tt)) p, height),
+      (
+        (omega (arith, l .inv .lees-small, m .few), omega (arith, l .inv .windwards-small, m .few)),
+        (omega (arith, e .0, m .lee-small j), omega (arith, e .1, m .windward-small j), m .vmax-light j, m .vmin-light j),
+      ),
+    )
+
+racking-figure-requires : tie.Need-racking-figure-requires Inv-loop μ-loop
+racking-figure-requires c κs =
+    let p = racked (parted c) .racking-part .ensures .1 in
+    rw (held p (lit< tt)) p
+
+mul-racking : tie.Need-mul-racking Inv-loop μ-loop
+mul-racking c = search (needs, room c)
+
+array-set-from-racking : tie.Need-array-set-from-racking Inv-loop μ-loop
+array-set-from-racking c = search (needs, room c)
+
+mul-compression-2 : tie.Need-mul-compression-2 Inv-loop μ-loop
+mul-compression-2 c = search (needs, room c)
+
+array-write-compression-2 : tie.Need-array-write-compression-2 Inv-loop μ-loop
+array-write-compression-2 c = search (needs, room c)
+
+mul-tension : tie.Need-mul-tension Inv-loop μ-loop
+mul-tension c = search (needs, room c)
+
+array-write-tension : tie.Need-array-write-tension Inv-loop μ-loop
+array-write-tension c = search (needs, room c)
+
+loop-less : tie.Need-loop-less Inv-loop μ-loop
+loop-less c = search needs
+
+loop-again : tie.Need-loop-again Inv-loop μ-loop
+loop-again c =
+    let u = c .before .before in
+    let o = parted u in
+    let r = racked o in
+    let t = turn r in
+    let l = t .before .loop in
+    let b = start (t .before) in
+    let p = r .racking-part .ensures in
+    let h = held (p .1) (lit< tt) in
+    let g = c .before .racking-figure in
+    let q = o .parts-of2 .ensures in
+    let e = simp (h, q .0, q .1) at (u .level-under .ensures) in
+    let w = under t in
+    turned-once
+    (b .pre .0)
+    (stacked b)
+    (t .loop-test .taken)
+    (l .inv)
+    (p .0)
+    (ap (λ (x : Tier). x .height) (sym (getD-take (b .args .n) (b .args .t3) (l .i - 1) blankTier w)))
+    (toZ-ofZ w32 (g .result) (record { sfits = g .ok }) ∙ simp h at (g .ensures))
+    (e .0)
+    (e .1 .0)
+    (e .1 .1 .0)
+    (e .1 .1 .1 .0)
+    (e .1 .1 .1 .1)
+
+returns : tie.Need-returns Inv-loop μ-loop
+returns c =
+    let b = start (c .before) in
+    at-foot (b .pre .0) (stacked b) (c .loop-test .left) (c .before .loop .inv)
+
+pub level-figures-spec : {M : Type 1} → statement M
+level-figures-spec =
+    tie.close
+    (tie.spec
+    Inv-loop
+    μ-loop
+    mul-parts-of
+    shared-slice-read-parts-of
+    mul-parts-of-2
+    shared-slice-read-parts-of-2
+    parts-of-requires
+    mul-compression-of
+    shared-slice-read-compression-of
+    compression-of-requires
+    mul-compression
+    array-write-compression
+    loop-holds
+    mul-upper
+    shared-slice-read-upper
+    sub-i
+    mul-t
+    array-copy-out-t
+    mul-racking-part
+    shared-slice-read-racking-part
+    mul-racking-part-2
+    shared-slice-read-racking-part-2
+    racking-part-requires
+    mul-parts-of-3
+    shared-slice-read-parts-of-3
+    mul-parts-of-4
+    shared-slice-read-parts-of-4
+    parts-of-requires-2
+    mul-level-under
+    shared-slice-read-level-under
+    mul-level-under-2
+    shared-slice-read-level-under-2
+    level-under-requires
+    racking-figure-requires
+    mul-racking
+    array-set-from-racking
+    mul-compression-2
+    array-write-compression-2
+    mul-tension
+    array-write-tension
+    loop-less
+    loop-again
+    returns)

@@ -1,0 +1,46 @@
+-- `figures_levels::post_figure`: rounding up and cutting off at 0 go in either order (LevelLaws).
+use mathlib.Core.Path.{_≡_, ap, _∙_}
+use lib.Dec.{lit<}
+use mir.Syntax.{w64}
+use mir.ValLaws.{toZ-ofZ}
+use Rattle.arith.proofs.Sizes.{fits64}
+use Rattle.statics.specs.inner.WholeNumbers.{notBelow}
+use Rattle.figures_levels.specs.inner.Levels.{greaterOf}
+use Rattle.figures_levels.proofs.LevelLaws.{greater-small, padded, post-rounded}
+use Rattle.figures_levels.proofs.Words.{held}
+use borrow.Author.Needs.{needs}
+use Rattle.figures_levels.proofs.post_figure.Statement.{statement}
+use Rattle.figures_levels.proofs.post_figure.Tie as tie
+
+-- the greater sum
+sum : (c : tie.After-greater) → c .greater .result ≡ greaterOf (c .before .args .x) (c .before .args .y)
+sum c = simp (held (c .before .pre .0) (lit< tt), held (c .before .pre .1) (lit< tt)) at (c .greater .ensures)
+
+greater-requires : tie.Need-greater-requires
+greater-requires c κs = search needs
+
+add-ceil-signed : tie.Need-add-ceil-signed
+add-ceil-signed c =
+    let g = greater-small (c .before .pre .0) (c .before .pre .1) in
+    rw (sum c, held g (lit< tt)) (fits64 (padded g) (lit< tt))
+
+ceil-signed-requires : tie.Need-ceil-signed-requires
+ceil-signed-requires c κs = search needs
+
+not-below-requires : tie.Need-not-below-requires
+not-below-requires c κs = search needs
+
+returns : tie.Need-returns
+returns c =
+    let k = c .before .ceil-signed in
+    let b = c .before .before .before in
+    let g = greater-small (b .pre .0) (b .pre .1) in
+    let r = simp (sum (c .before .before), held g (lit< tt), held (padded g) (lit< tt)) at (k .ensures .0) in
+    c .not-below .ensures
+    ∙ ap notBelow (toZ-ofZ w64 (k .result) (record { sfits = k .ok }) ∙ r)
+    ∙ post-rounded (b .args .x) (b .args .y)
+
+pub post-figure-spec : {M : Type 1} → statement M
+post-figure-spec =
+    tie.close
+    (tie.spec greater-requires add-ceil-signed ceil-signed-requires not-below-requires returns)

@@ -1,0 +1,55 @@
+-- `figures_levels::racking_part`: both products, their difference and its quotient stay within 64 bits.
+use Rattle.figures_levels.proofs.Words.{held}
+use Prim.Native.Nat.{_*_}
+use mathlib.Core.Path.{refl}
+use native.Mathlib.Omega.{arith}
+use lib.Dec.{lit<}
+use Rattle.arith.proofs.Sizes.{fits64}
+use Rattle.arith.proofs.Ceilings.{divisor}
+use Rattle.figures_levels.proofs.LevelLaws.{spring-le, difference, racking-small}
+use Rattle.figures_levels.proofs.racking_part.Statement.{statement}
+use Rattle.figures_levels.proofs.racking_part.Tie as tie
+
+mul-result : tie.Need-mul-result
+mul-result c = omega (arith, spring-le (c .pre .0) (c .pre .1) (c .pre .2))
+
+cast-result : tie.Need-cast-result
+cast-result c = omega (arith, spring-le (c .pre .0) (c .pre .1) (c .pre .2))
+
+mul-result-2 : tie.Need-mul-result-2
+mul-result-2 c = omega (arith, spring-le (c .pre .0) (c .pre .1) (c .pre .2))
+
+cast-result-2 : tie.Need-cast-result-2
+cast-result-2 c = omega (arith, spring-le (c .pre .0) (c .pre .1) (c .pre .2))
+
+sub-result : tie.Need-sub-result
+sub-result c =
+    let b = spring-le (c .pre .0) (c .pre .1) (c .pre .2) in
+    rw (divisor (c .args .k * c .args .upper) (omega arith), divisor (c .args .k * c .args .lower) (omega arith))
+    (fits64 (difference (c .pre .0) (c .pre .1) (c .pre .2)) (lit< tt))
+
+div-result : tie.Need-div-result
+div-result c =
+    let a = c .args in
+    let b = spring-le (c .pre .0) (c .pre .1) (c .pre .2) in
+    let h = held (difference (c .pre .0) (c .pre .1) (c .pre .2)) (lit< tt) in
+    simp (divisor (a .k * a .upper) (omega arith), divisor (a .k * a .lower) (omega arith), h)
+    (lit< tt, fits64 (racking-small (c .pre .0) (c .pre .1) (c .pre .2)) (lit< tt))
+
+returns : tie.Need-returns
+returns c =
+    let a = c .args in
+    let b = spring-le (c .pre .0) (c .pre .1) (c .pre .2) in
+    let s = racking-small (c .pre .0) (c .pre .1) (c .pre .2) in
+    simp (
+      divisor (a .k * a .upper) (omega arith),
+      divisor (a .k * a .lower) (omega arith),
+      held (difference (c .pre .0) (c .pre .1) (c .pre .2)) (lit< tt),
+      held s (lit< tt),
+    )
+    (refl, s)
+
+pub racking-part-spec : {M : Type 1} → statement M
+racking-part-spec =
+    tie.close
+    (tie.spec mul-result cast-result mul-result-2 cast-result-2 sub-result div-result returns)

@@ -1,0 +1,63 @@
+-- Contracts of inner functions: the figures of tiers and levels, from shifts, weights and vertical parts. Nothing here need be believed.
+use mathlib.Core.Path.{_≡_}
+use mathlib.Core.Bool.{cond}
+use mathlib.Core.List.{List, [], _∷_}
+use Prim.Native.Nat.{ℕ, suc, _+_, _^_, _<_, _≤_}
+use lib.ListN.{drop, take, getD, length}
+use lib.IntN.{ℤ, pos, _+ℤ_, _-ℤ_}
+use lib.Signed.{ltZ}
+use Rattle.sheet.specs.declared.Tier.{Tier}
+use Rattle.sheet.specs.Layout.{blankTier}
+use Rattle.springs.specs.Equations.{closedSpring}
+use Rattle.statics.specs.declared.PostParts.{PostParts}
+use Rattle.statics.specs.inner.WholeNumbers.{Filled, rackingPart, rackingFigure, momentPart, compressionFrom, tensionFrom}
+
+unfoldable pub total : List ℕ → ℕ
+total [] = 0
+total (x ∷ xs) = x + total xs
+
+-- the greater of two signed numbers
+abbrev pub greaterOf : ℤ → ℤ → ℤ
+greaterOf x y = cond (ltZ x y) y x
+
+-- the sums of the two posts, from half the weight above, the moment over the post spacing, and the vertical parts
+abbrev pub leeOf : ℕ → ℤ → PostParts → ℤ
+leeOf weight couple parts = pos weight +ℤ couple +ℤ pos (parts .lee)
+
+abbrev pub windwardOf : ℕ → ℤ → PostParts → ℤ
+windwardOf weight couple parts = pos weight -ℤ couple +ℤ pos (parts .windward)
+
+-- what the figures of the levels are computed from: vmax and vmin are half of V, with A_Vmax and A_Vmin
+pub record LevelInputs (n : ℕ) (k : List ℕ) (ts : List Tier) (d vmax vmin lee windward : List ℕ) : Type 0 where
+  pub few : n ≤ 10
+  pub springs : (i : ℕ) → i < n → getD k i 0 ≤ closedSpring
+  pub heights : (i : ℕ) → i < n → getD ts i blankTier .height ≤ 2896
+  pub shifts : (i : ℕ) → getD d i 0 ≤ 2 ^ 40
+  pub vmax-light : (i : ℕ) → getD vmax i 0 ≤ 2 ^ 40
+  pub vmin-light : (i : ℕ) → getD vmin i 0 ≤ 2 ^ 40
+  pub lee-small : (i : ℕ) → getD lee i 0 ≤ 2 ^ 58
+  pub windward-small : (i : ℕ) → getD windward i 0 ≤ 2 ^ 58
+  pub lee-long : length lee ≡ 11
+  pub windward-long : length windward ≡ 11
+
+module _ (n : ℕ) (k : List ℕ) (ts : List Tier) (d vmax vmin lee windward : List ℕ) where
+  abbrev pub compressionAt : ℕ → ℕ
+  compressionAt i =
+      compressionFrom
+      (getD vmax i 0)
+      (momentPart k d (drop i ts) i)
+      (total (drop i (take (suc n) lee)))
+      (total (drop i (take (suc n) windward)))
+
+  abbrev pub tensionAt : ℕ → ℕ
+  tensionAt i =
+      tensionFrom
+      (getD vmin i 0)
+      (momentPart k d (drop i ts) i)
+      (total (drop (suc i) (take (suc n) lee)))
+      (total (drop (suc i) (take (suc n) windward)))
+
+  pub record LevelsFigured (racking : List ℤ) (compression tension : List ℕ) : Type 0 where
+    pub racking-is : Filled 10 (pos 0) n (λ i. rackingFigure (rackingPart (getD k i 0) d i)) racking
+    pub compression-is : Filled 11 0 (suc n) compressionAt compression
+    pub tension-is : Filled 10 0 n tensionAt tension

@@ -1,3 +1,0 @@
--- Loads and weights, and the figures of an end put together.
-pub mod LoadLaws
-pub mod EndLaws

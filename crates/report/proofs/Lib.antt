@@ -1,7 +1,0 @@
--- Theorems for the reader and for the crates above.
-pub mod Table
-pub mod Accepted
-pub mod ReadBack
-pub mod Longest
-pub mod Numbers
-pub mod Consequences

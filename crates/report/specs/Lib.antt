@@ -1,7 +1,0 @@
-pub mod Limits
-pub mod Findings
-pub mod Answers
-pub mod Checked
-pub mod Places
-pub mod Consequences
-pub mod Table

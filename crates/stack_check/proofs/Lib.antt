@@ -1,0 +1,4 @@
+-- What the functions' proofs rest on.
+mod Stores
+mod AnswerLaws
+mod CheckLaws

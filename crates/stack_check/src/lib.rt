@@ -1,0 +1,46 @@
+// The check: bytes of a stack sheet in, bytes of an answer out; and the answer to a decoded sheet, for calls whose sheet no bytes hold.
+
+mod encode; // encode.rt: the answer's bytes
+
+ghost use mathlib.Core.Path.{_≡_};
+ghost use Prim.Native.Nat.{_≤_};
+ghost use lib.ListN.{length};
+ghost use Rattle.sheet.specs.Fits.{Fits};
+ghost use Rattle.answer.specs.Checked.{Checked, AnsweredBy, roomFor, kept};
+ghost use Rattle.answer.specs.inner.Named.{answerBy, returnedAs, writtenAs, returned, written};
+use answer::Outcome;
+use sheet::Reading;
+use sheet::Sheet;
+use statics::LoadRule;
+
+// The answer to a sheet within the limits, by what its loads go by, written from the buffer's start; a short buffer is left as it was.
+pub fn answer_to(t: Sheet, rule: LoadRule, answer: &mut [u8]) -> Outcome
+    requires { ⌜ Fits t × (rule .share ≤ 20) × (rule .factor ≤ 1000) ⌝ }
+    ensures answered { λ r. ⌜ AnsweredBy kept rule t (now (answer .entry)) (now (answer .exit)) r ⌝ }
+    ensures named { λ r. ⌜ (r ≡ returnedAs (roomFor (length (now (answer .entry)))) (answerBy rule t))
+        × (now (answer .exit) ≡ writtenAs (roomFor (length (now (answer .entry)))) (answerBy rule t) (now (answer .entry))) ⌝ }
+{
+    if answer.len() < encode::LONGEST {
+        return Outcome::Refused(13, encode::LONGEST);
+    }
+    let f = figures::figures_by(t, rule);
+    let n = encode::write_answer(answer, t, f);
+    Outcome::Taken(n)
+}
+
+// The check of a stack sheet. A taken sheet's answer is written from the buffer's start; a refusal leaves the buffer as it was.
+pub fn check(sheet: &[u8], answer: &mut [u8]) -> Outcome
+    ensures checked { λ r. ⌜ Checked kept (now (sheet .entry)) (now (answer .entry)) (now (answer .exit)) r ⌝ }
+    ensures named { λ r. ⌜ (r ≡ returned (now (sheet .entry)) (length (now (answer .entry))))
+        × (now (answer .exit) ≡ written (now (sheet .entry)) (now (answer .entry))) ⌝ }
+{
+    let decoded = sheet_decode::decode(sheet);
+    let reading = decoded.reading;
+    match reading {
+        Reading::Refused(number, second) => Outcome::Refused(number, second),
+        Reading::Taken => {
+            let t = decoded.sheet;
+            answer_to(t, figures::class_rule(t), answer)
+        }
+    }
+}

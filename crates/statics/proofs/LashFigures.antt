@@ -1,0 +1,143 @@
+-- The three figures of a lash, and its vertical part as it stands in the post sums, from the error of its level's shift.
+use mathlib.Core.Path.{_≡_}
+use mathlib.Core.List.{List}
+use Prim.Native.Nat.{ℕ, _*_, _-_, _^_, _≤_, _<_}
+use native.Mathlib.Omega.{arith}
+use lib.Dec.{lit≤}
+use lib.IntN.{pos}
+use lib.ListN.{getD}
+use Rattle.sheet.specs.Lashings.{levelOf}
+use Rattle.arith.specs.Fractions.{Frac}
+use Rattle.arith.proofs.Polynomials.{v, kp, _⊗_, ⊖_}
+use Rattle.arith.proofs.Rings.{∀₃, ∀₉, by-cert, to, times, num, part, _⊞_, _⊠_}
+use Rattle.arith.proofs.Rationals.{ℚR, ℚ, mk, _+ℚ_, _-ℚ_, _*ℚ_, negℚ, absℚ, _≤ℚ_, int-times, nn-int, nn-times}
+use Rattle.arith.proofs.RationalTerms.{qq}
+use Rattle.arith.proofs.Signs.{ge-q, ge-neg-q, nn-q}
+use Rattle.arith.proofs.RationalOrder.{nat-q}
+use Rattle.arith.proofs.RationalRounding.{div-down, down-low, down-high}
+use Rattle.springs.specs.inner.Promise.{found}
+use Rattle.springs.proofs.Chain.{natℚ}
+use Rattle.sheet.specs.declared.Lash.{Lash}
+use Rattle.statics.specs.Lashes.{lashLength, pull, athwartPart, verticalPart}
+use Rattle.statics.specs.inner.WholeNumbers as F
+use Rattle.statics.specs.inner.WholeNumbers.{stiffnessOf, upward, lashPad, athwartFigure, pullFigure, verticalFigure}
+use Rattle.statics.specs.Reported.{Reported}
+use Rattle.sheet.specs.inner.Limits.{LashLimits}
+use Rattle.statics.proofs.LashLength.{length-above, length-ratio, vertical-ratio}
+use Rattle.statics.proofs.Errors.{Off, off-more, off-share}
+use Rattle.statics.proofs.Scales.{found-times, newtons, newtons-times, newtons-nn, share-nn, share-most, share-off}
+use Rattle.statics.proofs.Pads.{shiftErrorBound, partError, verticalError, lash-pad, lash-over, turned-over}
+use Rattle.statics.proofs.Covers.{covers-reported, padded-covers, turned-covers}
+use Rattle.statics.proofs.LashForces.{stiffness, stiffness-low, stiffness-high, stiffness-nn, athwart-is, pull-is, vertical-is}
+
+-- the shift error of a lash, in N: its stiffness × the error of its level's shift, D being the exact shift
+abbrev pub shiftError : List ℕ → Lash → Frac → ℚ
+shiftError d l D = stiffness l *ℚ absℚ (mk (found d (levelOf l)) -ℚ mk D)
+
+module _ (d : List ℕ) (l : Lash) (D : Frac) (long : 0 < lashLength l) where
+  pub shift-error-nn : natℚ 0 ≤ℚ shiftError d l D
+  shift-error-nn =
+      nn-times (stiffness l) (absℚ (mk (found d (levelOf l)) -ℚ mk D)) (stiffness-nn l long) (nn-q (mk (found d (levelOf l)) -ℚ mk D))
+
+  -- the athwart part found: rounding costs a unit, and a unit of stiffness times the shift, at most 2^40
+  part-off : getD d (levelOf l) 0 ≤ 2 ^ 40 → Off (partError (shiftError d l D)) (newtons (pos (F.part d l))) (stiffness l *ℚ mk D)
+  unfolding F.part
+  part-off far =
+      let k = stiffness l in
+      let x = mk (found d (levelOf l)) in
+      let m = absℚ (x -ℚ mk D) in
+      let s = stiffnessOf l in
+      let n = getD d (levelOf l) 0 in
+      let q = F.part d l in
+      let down = div-down (s * n) (2 ^ 32) (lit≤ tt) in
+      record {
+        above =
+            high k (mk D) x (natℚ n) (natℚ s) (natℚ q) (newtons (pos q)) m (newtons (pos 257))
+            (stiffness-nn l long) (stiffness-low l long) (nn-int n) (found-times d (levelOf l)) (ge-q (x -ℚ mk D))
+            (rw (int-times (pos s) (pos n)) at (down-low down)) (newtons-times (pos q)) (newtons-nn 257);
+        below =
+            low k (mk D) x (natℚ n) (natℚ s) (natℚ q) (newtons (pos q)) m (newtons (pos 257))
+            (stiffness-nn l long) (stiffness-high l long) (nn-int n) (nat-q n (2 ^ 40) far) (found-times d (levelOf l))
+            (ge-neg-q (x -ℚ mk D))
+            (rw (int-times (pos s) (pos n)) at (down-high down)) (newtons-times (pos q)) (newtons-times (pos 257));
+      }
+    where
+      -- k, D, x exact stiffness, exact shift and shift found; n, s, q whole shift, stiffness and product; w the product in N
+      high :
+          (k D x n s q w m c : ℚ) →
+          natℚ 0 ≤ℚ k →
+          s ≤ℚ natℚ (2 ^ 22) *ℚ k →
+          natℚ 0 ≤ℚ n →
+          natℚ (2 ^ 28) *ℚ x ≡ n →
+          x -ℚ D ≤ℚ m →
+          natℚ (2 ^ 32) *ℚ q ≤ℚ s *ℚ n →
+          natℚ (2 ^ 18) *ℚ w ≡ q →
+          natℚ 0 ≤ℚ c →
+          w ≤ℚ k *ℚ D +ℚ (k *ℚ m +ℚ c)
+      high =
+          ∀₉ ℚR _ λ ρ. simp qq λ k0 h n0 e l f i c0.
+          part (2 ^ 50 - 1)
+          (to f ⊞ to h ⊠ to n0 ⊞ num (2 ^ 50) ⊠ (to k0 ⊠ to l ⊞ to c0) ⊞ times (kp (2 ^ 22) ⊗ v 0) e ⊞ times (⊖ kp (2 ^ 32)) i)
+          tt
+
+      low :
+          (k D x n s q w m c : ℚ) →
+          natℚ 0 ≤ℚ k →
+          natℚ (2 ^ 22) *ℚ k ≤ℚ s +ℚ natℚ 1 →
+          natℚ 0 ≤ℚ n →
+          n ≤ℚ natℚ (2 ^ 40) →
+          natℚ (2 ^ 28) *ℚ x ≡ n →
+          negℚ (x -ℚ D) ≤ℚ m →
+          s *ℚ n +ℚ natℚ 1 ≤ℚ natℚ (2 ^ 32) *ℚ q +ℚ natℚ (2 ^ 32) →
+          natℚ (2 ^ 18) *ℚ w ≡ q →
+          natℚ (2 ^ 18) *ℚ c ≡ natℚ 257 →
+          k *ℚ D ≤ℚ w +ℚ (k *ℚ m +ℚ c)
+      low =
+          ∀₉ ℚR _ λ ρ. simp qq λ k0 h n0 n1 e l f i j.
+          part (2 ^ 50 - 1)
+          (to f ⊞ to h ⊠ to n0 ⊞ to n1 ⊞ num (2 ^ 50) ⊠ (to k0 ⊠ to l) ⊞ times (⊖ (kp (2 ^ 22) ⊗ v 0)) e ⊞ times (kp (2 ^ 32)) i ⊞ times
+          (kp (2 ^ 32)) j)
+          tt
+
+module _ {n : ℕ} (d : List ℕ) (l : Lash) (D : Frac) (f : LashLimits n l) (far : getD d (levelOf l) 0 ≤ 2 ^ 40) where
+  wide : 0 < l .ly
+  wide = omega (arith, f .ly)
+
+  steep : l .lz ≤ 42 * l .ly
+  steep = omega (arith, vertical-ratio f)
+
+  -- in the post sums
+  pub upward-off : Off (verticalError (shiftError d l D)) (newtons (pos (upward d l))) (mk (verticalPart l D))
+  unfolding upward
+  upward-off =
+      rw (vertical-is l (length-above f) wide D)
+      (off-share (share-nn (l .lz) (l .ly) wide) (share-most (l .lz) (l .ly) wide 40 (vertical-ratio f))
+      (part-off d l D (length-above f) far) (share-off (l .lz) (l .ly) wide (F.part d l)))
+
+  -- the figures
+  module _ (small : shiftError d l D ≤ℚ shiftErrorBound) (m : ℕ) (margin : 6 < m) where
+    off : Off (partError shiftErrorBound) (newtons (pos (F.part d l))) (stiffness l *ℚ mk D)
+    off = off-more (go (shiftError d l D) shiftErrorBound (newtons (pos 257)) small) (part-off d l D (length-above f) far)
+      where
+        go : (x y c : ℚ) → x ≤ℚ y → x +ℚ c ≤ℚ y +ℚ c
+        go = ∀₃ ℚR _ λ ρ. simp qq λ h. by-cert (to h) tt
+
+    pub athwart-reported : Reported m (athwartPart l D) (athwartFigure d l)
+    unfolding athwartFigure
+    athwart-reported =
+        covers-reported {b = 2} m (athwartPart l D) (omega arith)
+        (rw athwart-is (padded-covers (F.part d l) lashPad off lash-pad lash-over))
+
+    pub pull-reported : Reported m (pull l D) (pullFigure d l)
+    unfolding pullFigure
+    pull-reported =
+        covers-reported m (pull l D) margin
+        (rw (pull-is l (length-above f) wide D)
+        (turned-covers (F.part d l) lashPad off lash-pad (lashLength l) (l .ly) wide (length-ratio f) turned-over))
+
+    pub vertical-reported : Reported m (verticalPart l D) (verticalFigure d l)
+    unfolding verticalFigure
+    vertical-reported =
+        covers-reported m (verticalPart l D) margin
+        (rw (vertical-is l (length-above f) wide D)
+        (turned-covers (F.part d l) lashPad off lash-pad (l .lz) (l .ly) wide steep turned-over))

@@ -1,0 +1,38 @@
+-- Lashes: length, stiffness, forces.
+pub mod EachLash
+pub mod LashLength
+pub mod LashForces
+pub mod LashStiffness
+-- The solver's inputs and what they stand for.
+pub mod WholeNumbers
+pub mod LevelStiffness
+pub mod LevelLoads
+pub mod LoadsGrow
+pub mod EndChain
+pub mod Inputs
+pub mod OneSolution
+-- Bounds of the exact forces.
+pub mod Within
+pub mod LoadBounds
+pub mod LashBounds
+pub mod Bounds
+-- The figures report the exact forces.
+pub mod Errors
+pub mod Scales
+pub mod Pads
+pub mod Covers
+pub mod LashFigures
+pub mod ShiftErrors
+pub mod Verticals
+pub mod Weights
+pub mod Arms
+pub mod Moment
+pub mod Racking
+pub mod PostSums
+pub mod PostFigures
+pub mod EndReported
+pub mod Margins
+-- From the promise to the figures.
+pub mod Figured
+-- Arrays that loops fill.
+pub mod Arrays

@@ -1,0 +1,50 @@
+-- What holds of the loads and of the equations of an end, for any share from 0 to 1 and any factor not below zero. Proved in proofs/.
+use mathlib.Core.Path.{_≡_}
+use mathlib.Core.List.{List, [], _∷_}
+use Prim.Native.Nat.{ℕ, suc, _≤_}
+use lib.ListN.{getD, drop}
+use Rattle.arith.specs.Fractions.{Frac, nat, _+q_, _*q_, _≈_, _⊑_}
+use Rattle.springs.specs.Equations.{shift, racking, loadAt}
+use Rattle.sheet.specs.declared.Tier.{Tier}
+use Rattle.sheet.specs.declared.Lash.{Lash}
+use Rattle.sheet.specs.declared.Sheet.{Sheet}
+use Rattle.sheet.specs.Layout.{blankTier}
+use Rattle.statics.specs.Loads.{Rule}
+use Rattle.statics.specs.Ends.{chainTiers, EndSolved}
+use Rattle.statics.specs.Posts.{moment}
+use Rattle.sheet.specs.Ends.{End}
+
+pub record Proper (rule : Rule) : Type 0 where
+  pub share-least : nat 0 ⊑ rule .share
+  pub share-most : rule .share ⊑ nat 1
+  pub factor-least : nat 0 ⊑ rule .factor
+
+-- no level shifts to windward
+abbrev pub NoWindwardShift : Rule → End → Sheet → Type 0
+NoWindwardShift rule e t = (Ds : List Frac) → EndSolved rule e t Ds → (i : ℕ) → nat 0 ⊑ shift Ds i
+
+-- no level's load, Q of the tier under it less Q of the tier over it, is below zero
+abbrev pub NoWindwardLoad : Rule → End → List Tier → Type 0
+NoWindwardLoad rule e ts = (i : ℕ) → nat 0 ⊑ loadAt (chainTiers rule e ts) i
+
+-- height × racking, summed over the tiers from number i + 1 on
+unfoldable pub rackingMoment : (ℕ → Frac) → List Tier → ℕ → Frac
+rackingMoment R [] i = nat 0
+rackingMoment R (t ∷ ts) i = nat (t .height) *q R i +q rackingMoment R ts (suc i)
+
+-- M of a level is that sum over the tiers above, at every solution and for any share: the shares of Q are the arms of M
+abbrev pub MomentByRackings : Rule → End → List Tier → List Lash → List Frac → ℕ → Type 0
+MomentByRackings rule e ts ls Ds i = moment rule ts ls Ds i ≈ rackingMoment (racking (chainTiers rule e ts) Ds) (drop i ts) i
+
+-- the same tier but for its mass, which is no lower
+pub record HeavierTier (t u : Tier) : Type 0 where
+  pub same :
+      u ≡ record { size = t .size; wind = t .wind; height = t .height; mass = u .mass; aT = t .aT; aVmax = t .aVmax; aVmin = t .aVmin }
+  pub mass : t .mass ≤ u .mass
+
+abbrev pub HeavierTiers : List Tier → List Tier → Type 0
+HeavierTiers ts us = (i : ℕ) → HeavierTier (getD ts i blankTier) (getD us i blankTier)
+
+-- under heavier boxes no level's load is less
+abbrev pub LoadsGrow : Rule → End → List Tier → List Tier → Type 0
+LoadsGrow rule e ts us = (i : ℕ) → loadAt (chainTiers rule e ts) i ⊑ loadAt (chainTiers rule e us) i
