@@ -10,7 +10,7 @@ from lashtool.description import BadDescription, describe
 from lashtool.refusals import explain
 from lashtool.report import as_data, result, table
 from reference.script import forget_output
-from reference.sheet import Refused, pack
+from sheets.sheet import Refused, pack
 
 ACCEPTED, NOT_ACCEPTED, BAD_INPUT, FAILED = range(4)
 LARGEST_FILE = 1_000_000

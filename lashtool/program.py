@@ -6,9 +6,9 @@ import subprocess
 import sys
 from pathlib import Path
 
-from reference.answer import BadAnswer, counts, counts_due, read_answer
-from reference.sheet import Refused, parse
-from reference.stack import findings
+from sheets.answer import BadAnswer, counts, counts_due, read_answer
+from sheets.limits import findings
+from sheets.sheet import Refused, parse
 
 ROOT = Path(__file__).resolve().parent.parent
 PROGRAM = ROOT / "target" / "bin" / "lashcheck"

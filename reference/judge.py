@@ -3,9 +3,10 @@
 from dataclasses import dataclass, field
 from re import fullmatch
 
-from reference.answer import BadAnswer, counts, counts_due, read_answer
-from reference.sheet import Refused, parse
-from reference.stack import exact, findings
+from reference.stack import exact
+from sheets.answer import BadAnswer, counts, counts_due, read_answer
+from sheets.limits import findings
+from sheets.sheet import Refused, parse
 
 # A reported force is at least the exact one in size and less than this above it, N.
 # From this size on a racking's sign is the exact one's.

@@ -4,13 +4,14 @@ from dataclasses import replace
 from fractions import Fraction
 from math import ceil
 
-from reference.sheet import (
+from reference.stack import exact, exact_end
+from sheets.limits import (
+    COMPRESSION_LIMIT, CORNER_LIMIT, HIGHER_STRENGTH, LASH_ATHWART_LIMIT, LASH_VERTICAL_LIMIT,
+    RACKING_LIMIT,
+)
+from sheets.sheet import (
     BOTTOM, CLOSED, CROSS, DOOR, HEAD_LIMITS, HEIGHTS, LASH_LIMITS, MOST_LASHES, MOST_TIERS, SIDE,
     TIER_LIMITS, TOP, Head, Lash, Sheet, Tier,
-)
-from reference.stack import (
-    COMPRESSION_LIMIT, CORNER_LIMIT, HIGHER_STRENGTH, LASH_ATHWART_LIMIT, LASH_VERTICAL_LIMIT,
-    RACKING_LIMIT, exact, exact_end,
 )
 
 

@@ -1,49 +1,19 @@
-"""One stack in fractions: loads, springs, forces and limits as document 01 writes them."""
+"""One stack in fractions: loads, springs and forces as document 01 writes them."""
 
-from dataclasses import dataclass
 from fractions import Fraction
 from functools import lru_cache
 from math import isqrt
 
-from reference.sheet import CLOSED, CROSS, DOOR, SIDE
+from sheets.answer import End, LashForces
+from sheets.sheet import CLOSED, CROSS, DOOR, ROUTE_PERCENT, SIDE
 
 GRAVITY = Fraction(981, 100)  # m/s²
-ROUTE_PERCENT = (100, 87, 96, 95, 94, 100, 95, 73, 86, 90, 90, 73, 87)
 WIND_PRESSURE = Fraction(1080, 1_000_000)  # N/mm²
 BOX_LENGTH = {20: 6058, 40: 12192}  # mm, by feet
 SHARE_TO_TOP = Fraction(45, 100)  # of F to the box's own top; the centre's height in the box
 HALF = Fraction(1, 2)
 RACKING_STIFFNESS = {DOOR: 3730, CLOSED: 15690}  # K, N/mm
 POST_SPACING = 2259  # mm
-
-# Kinds of finding.
-RACKING, COMPRESSION, CORNER, LOCK, LASH_TENSION, LASH_VERTICAL, LASH_ATHWART = range(1, 8)
-
-# CR Table 2-3, N.
-RACKING_LIMIT = 150_000
-COMPRESSION_LIMIT = 848_000
-CORNER_LIMIT = 250_000
-LASH_VERTICAL_LIMIT = 300_000
-LASH_ATHWART_LIMIT = 150_000
-
-HIGHER_STRENGTH = 1  # the material code, of locks and of lashes
-
-
-@dataclass(frozen=True)
-class LashForces:
-    tension: Fraction
-    athwart: Fraction
-    vertical: Fraction
-
-
-@dataclass(frozen=True)
-class End:
-    """The forces of one end in N, exact or reported."""
-
-    racking: tuple  # tiers 1 to n
-    compression: tuple  # levels 0 to n
-    tension: tuple  # levels 0 to n-1
-    lashes: tuple  # LashForces, in sheet order
 
 
 # Loads on one end
@@ -219,54 +189,3 @@ def exact_end(sheet, end):
 def exact(sheet):
     """Both ends, door first."""
     return exact_end(sheet, DOOR), exact_end(sheet, CLOSED)
-
-
-# Permissible loads
-
-
-def safe_working_load(breaking, material):
-    """Breaking load / factor, rounded down; 1.67 for higher strength steel, 2 for all else."""
-    return breaking * 100 // 167 if material == HIGHER_STRENGTH else breaking // 2
-
-
-@dataclass(frozen=True)
-class Check:
-    """One checked limit: a force in size beside what it may be."""
-
-    end: int
-    kind: int
-    index: int
-    size: Fraction
-    limit: int
-
-
-def checks(sheet, ends):
-    """Every checked limit in the answer's order: end, kind, index."""
-    head = sheet.head
-    lock = safe_working_load(head.lock_breaking, head.lock_material)
-    for end, forces in zip((DOOR, CLOSED), ends):
-        for tier, force in enumerate(forces.racking, 1):
-            yield Check(end, RACKING, tier, abs(force), RACKING_LIMIT)
-        for level, force in enumerate(forces.compression):
-            if level > 0:
-                yield Check(end, COMPRESSION, level, force, COMPRESSION_LIMIT)
-        for level, force in enumerate(forces.tension):
-            yield Check(end, CORNER, level, force, CORNER_LIMIT)
-        for level, force in enumerate(forces.tension):
-            yield Check(end, LOCK, level, force, lock)
-        yield from lash_checks(sheet.lashes(end), end, forces.lashes)
-
-
-def lash_checks(lashes, end, results):
-    for index, (lash, forces) in enumerate(zip(lashes, results)):
-        limit = safe_working_load(lash.breaking, lash.material)
-        yield Check(end, LASH_TENSION, index, forces.tension, limit)
-    for index, forces in enumerate(results):
-        yield Check(end, LASH_VERTICAL, index, forces.vertical, LASH_VERTICAL_LIMIT)
-    for index, forces in enumerate(results):
-        yield Check(end, LASH_ATHWART, index, forces.athwart, LASH_ATHWART_LIMIT)
-
-
-def findings(sheet, ends):
-    """(end, kind, index) exactly where the reported size exceeds the limit."""
-    return [(c.end, c.kind, c.index) for c in checks(sheet, ends) if c.size > c.limit]

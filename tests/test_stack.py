@@ -5,15 +5,15 @@ from dataclasses import replace
 from fractions import Fraction
 from struct import pack as packed
 
-from reference.answer import BadAnswer, read_answer
 from reference.cases import BOX_B as B
 from reference.cases import HEAD
 from reference.cases import ROD_S as S
-from reference.sheet import BOTTOM, CLOSED, CROSS, DOOR, SIDE, Refused, Sheet, pack, parse
 from reference.stack import (
-    End, LashForces, equations, exact, findings, lash_forces, lash_length, moment, racking_load,
-    safe_working_load, shifts, transverse, wind,
+    equations, exact, lash_forces, lash_length, moment, racking_load, shifts, transverse, wind,
 )
+from sheets.answer import BadAnswer, End, LashForces, read_answer
+from sheets.limits import findings, safe_working_load
+from sheets.sheet import BOTTOM, CLOSED, CROSS, DOOR, SIDE, Refused, Sheet, pack, parse
 
 
 def stack(*tiers, door=(), closed=(), head=HEAD):

@@ -17,7 +17,7 @@ from reference.cases import CASES, SLIPS
 from reference.faults import EDGES
 from reference.judge import expected, figure_fault, judge
 from reference.making import KINDS, make
-from reference.sheet import ANSWER_ROOM
+from sheets.sheet import ANSWER_ROOM
 
 ROOT = Path(__file__).resolve().parent.parent
 
