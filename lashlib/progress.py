@@ -1,0 +1,109 @@
+"""Runs rt and shows a line a crate; all that it and the prover say goes to a log."""
+
+import re
+import subprocess
+import sys
+import time
+
+PROVED = re.compile(r"rt: (\w+) proved \((\d+) s\)")
+UNCHANGED = re.compile(r"rt: (\w+) proved \(unchanged")
+FUNCTIONS = re.compile(r"logic=proved functions=(\d+)")
+FAULT = re.compile(r"rt: .*(NOT PROVED|FAILED)|rt: crates.txt")
+
+
+def log(root):
+    return root / "target" / "build.log"
+
+
+def dependencies(root, crate):
+    """The crates that a crate names in crates.txt."""
+    for line in (root / "crates.txt").read_text().splitlines():
+        name, _, words = line.partition("#")[0].partition(":")
+        if name.strip() == crate:
+            return words.split()
+    return []
+
+
+def reached(root, crate):
+    """A crate and the crates of the repository under it."""
+    seen, due = set(), [crate]
+    while due:
+        name = due.pop()
+        if name not in seen and (root / "crates" / name).is_dir():
+            seen.add(name)
+            due += dependencies(root, name)
+    return seen
+
+
+def run(root, crate, command, why):
+    """Runs a command that makes something of a crate, and gives its status."""
+    lines = Lines(reached(root, crate), crate)
+    say(f"{why}: proving and building it (notes of the prover: {log(root)})")
+    below = [name for name in dependencies(root, crate) if (root / "crates" / name).is_dir()]
+    status = 0
+    with open(log(root), "w") as notes:
+        if below:
+            # This proves crates side by side, `rt staticlib` one after the other.
+            status = follow(root, ("rt", "check", *below), notes, lines)
+        if status == 0:
+            status = follow(root, command, notes, lines)
+    if status == 0:
+        lines.last()
+    return status
+
+
+def follow(root, command, notes, lines):
+    """Runs a command, with its output in the log, and gives its status."""
+    notes.write(f"$ {' '.join(command)}\n")
+    streams = {"stdin": subprocess.DEVNULL, "stdout": subprocess.PIPE, "stderr": subprocess.STDOUT}
+    with subprocess.Popen(command, cwd=root, text=True, errors="replace", **streams) as running:
+        for line in running.stdout:
+            notes.write(line)
+            lines.take(line)
+    return running.returncode
+
+
+def say(text):
+    """A line for whoever waits; if nobody can read it, the build goes on."""
+    try:
+        if sys.stderr is not None:
+            print(text, file=sys.stderr, flush=True)
+    except OSError:
+        pass
+
+
+class Lines:
+    """What is shown of rt's output: each crate once, with its place in the count, its functions and its time."""
+
+    def __init__(self, crates, last):
+        self.due = set(crates)
+        self.total = len(self.due)
+        self.final = last
+        self.functions = 0
+        self.began = time.monotonic()
+
+    def take(self, line):
+        counted = FUNCTIONS.match(line)
+        done, unchanged = PROVED.match(line), UNCHANGED.match(line)
+        if counted:
+            self.functions = int(counted[1])
+        elif done:
+            self.crate(done[1], self.proved(done[2]))
+        elif unchanged:
+            self.crate(unchanged[1], "proved before")
+        elif FAULT.match(line):
+            say(line.rstrip())
+
+    def proved(self, seconds):
+        what = f"{self.functions} function{'' if self.functions == 1 else 's'}" if self.functions else "theorems"
+        return f"{what} proved, {seconds} s"
+
+    def crate(self, name, words):
+        self.began = time.monotonic()
+        if name in self.due:
+            self.due.remove(name)
+            say(f"  {self.total - len(self.due):>2} of {self.total}  {name}: {words}")
+
+    def last(self):
+        """rt says nothing of its own on the crate that a static library is made of."""
+        self.crate(self.final, self.proved(round(time.monotonic() - self.began)))
