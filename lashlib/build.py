@@ -88,9 +88,9 @@ class Checkout:
         found(command, f"to prove and build {made.name}")
         self.forget_lost()
         began = time.time()
-        status = progress.run(self.root, crate, command, why)
+        last, status = progress.run(self.root, crate, command, why)
         if status != 0 or not made.is_file():
-            words = f"`{' '.join(command)}` ended with status {status} and left no current {made}"
+            words = f"`{' '.join(last)}` ended with status {status} and left no current {made}"
             raise BuildFailed(f"{words}; {progress.log(self.root)} has what it said")
         # Dated by the build's begin, so that a source changed meanwhile is newer; and dated at all, since rt leaves a program
         # as it was if only the times of its sources changed.

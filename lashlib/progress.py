@@ -36,20 +36,19 @@ def reached(root, crate):
 
 
 def run(root, crate, command, why):
-    """Runs a command that makes something of a crate, and gives its status."""
+    """Runs a command that makes something of a crate; the last command run and its status."""
     lines = Lines(reached(root, crate), crate)
     say(f"{why}: proving and building it (notes of the prover: {log(root)})")
     below = [name for name in dependencies(root, crate) if (root / "crates" / name).is_dir()]
-    status = 0
+    # `rt check` proves crates side by side, `rt staticlib` one after the other.
+    commands = [("rt", "check", *below), command] if below else [command]
     with open(log(root), "w") as notes:
-        if below:
-            # This proves crates side by side, `rt staticlib` one after the other.
-            status = follow(root, ("rt", "check", *below), notes, lines)
-        if status == 0:
-            status = follow(root, command, notes, lines)
-    if status == 0:
-        lines.last()
-    return status
+        for words in commands:
+            status = follow(root, words, notes, lines)
+            if status != 0:
+                return words, status
+    lines.last()
+    return words, status
 
 
 def follow(root, command, notes, lines):
