@@ -53,11 +53,7 @@ class Checkout:
         made = self.target / "c" / "liblash.so"
         with self.locked():
             if not made.is_file() or made.stat().st_mtime < archive.stat().st_mtime:
-                # A library in use is never written over, only replaced.
-                fresh = made.with_name(f"{made.name}.{os.getpid()}")
-                whole = ("-Wl,--whole-archive", archive, "-Wl,--no-whole-archive")
-                run(("cc", "-shared", *whole, "-o", fresh), "to make a shared library")
-                fresh.replace(made)
+                share(archive, made)
         return made
 
     def newest_source(self):
@@ -114,6 +110,15 @@ class Checkout:
                 yield
         except OSError as error:
             raise BuildFailed(f"{error.filename}: {error.strerror}") from None
+
+
+def share(archive, made):
+    """Makes a shared library of a static one. One that is in use is never written over, only replaced."""
+    fresh = made.with_name(f"{made.name}.{os.getpid()}")
+    whole = ("-Wl,--whole-archive", archive, "-Wl,--no-whole-archive")
+    run(("cc", "-shared", *whole, "-o", fresh), "to make a shared library")
+    fresh.replace(made)
+    return made
 
 
 def found(command, purpose):

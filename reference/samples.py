@@ -166,7 +166,8 @@ def near_force(random, name):
     sheet = heavy(random)
     end = random.choice((DOOR, CLOSED))
     target = LIMITED[name] + Fraction(aim(random))
-    over = [index for index, size in enumerate(sizes(exact_end(sheet, end), name)) if size > target]
+    found = sizes(exact_end(sheet, end), name)
+    over = [index for index, size in enumerate(found) if size > target]
     if not over:
         return None
     index = random.choice(over)
@@ -174,9 +175,8 @@ def near_force(random, name):
     def force(masses):
         return sizes(exact_end(with_masses(sheet, masses), end), name)[index]
 
-    masses = [tier.mass for tier in sheet.tiers]
-    factor = target / force(masses)
-    masses = [max(1, int(mass * factor)) for mass in masses]
+    factor = target / found[index]
+    masses = [max(1, int(tier.mass * factor)) for tier in sheet.tiers]
     masses[0] = 15_000
     heavier = [25_000] + masses[1:]
     before, after = force(masses), force(heavier)
