@@ -37,7 +37,7 @@ enum lash_number {
     LASH_ROUTE = 4,       /* 1: route above 12 */
     LASH_LOCK = 5,        /* 2: lock material above 2, or its breaking load outside the limits */
     LASH_TIER_COUNT = 6,  /* 8: tier count 0 or above 10 */
-    LASH_TIER = 7,        /* offset of the tier: a field outside its codes or limits */
+    LASH_TIER = 7,        /* offset of the tier: a tier field outside its codes or limits */
     LASH_SIZE = 8,        /* offset of the tier: size differs from tier 1 */
     LASH_LASH_COUNT = 9,  /* offset of the count: lash count above 8 */
     LASH_LASH = 10,       /* offset of the lash: hook, kind, material or a measure outside codes or limits */
