@@ -104,6 +104,7 @@ class Building(unittest.TestCase):
                     made, said = self.run_with(make)
                     self.assertNotEqual(self.calls(), [])
                     self.assertIn(f"{name} is older than its sources", said)
+                    self.assertRegex(said, r"1 of 2  base: proved before\n")
                     self.set_time(self.root / path, -100)
 
     def test_a_source_that_went(self):

@@ -314,6 +314,14 @@ class Process(unittest.TestCase):
         self.assertTrue((self.folder / "picture").read_bytes().endswith(b"</svg>\n"))
         self.assertEqual(self.lash("none.toml", shell="2>&-")[1], "")
 
+    def test_files_do_not_get_the_numbers_of_closed_streams(self):
+        """What a command run later writes to its standard error must not end in a file of ours."""
+        lines = ("import os, sys", f"sys.path.insert(0, {str(ROOT)!r})", "from lashtool.ending import guarded")
+        opened = "sys.exit(guarded(lambda: os.open(os.devnull, os.O_RDONLY)))"
+        for shell in ("<&-", ">&-", "2>&-", "<&- >&- 2>&-"):
+            command = ["sh", "-c", f'exec "$0" "$@" {shell}', sys.executable, "-c", "\n".join((*lines, opened))]
+            self.assertGreater(subprocess.run(command, env=BUFFERED).returncode, 2, shell)
+
     def python(self, *lines):
         """./lash run after these lines of Python."""
         script = ["import runpy, sys", *lines, f"sys.argv = ['lash', {str(EXAMPLES / 'box-b.toml')!r}, '--library', {str(self.library)!r}]"]
