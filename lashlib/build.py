@@ -51,9 +51,10 @@ class Checkout:
     def shared_library(self):
         archive = self.library()
         made = self.target / "c" / "liblash.so"
-        with self.locked():
-            if not made.is_file() or made.stat().st_mtime < archive.stat().st_mtime:
-                share(archive, made)
+        if not as_new(made, archive):
+            with self.locked():
+                if not as_new(made, archive):
+                    share(archive, made)
         return made
 
     def newest_source(self):
@@ -83,13 +84,13 @@ class Checkout:
         why = f"{made.name} is older than its sources" if made.is_file() else f"there is no {made.name} yet"
         found(command, f"to prove and build {made.name}")
         self.forget_lost()
-        began = time.time()
+        # Dated by the build's begin, so that a source changed meanwhile is newer; but never before a source, whose clock may be
+        # fast. And dated at all, since rt leaves a program as it was if only the times of its sources changed.
+        began = max(time.time(), self.newest_source())
         last, status = progress.run(self.root, crate, command, why)
         if status != 0 or not made.is_file():
             words = f"`{' '.join(last)}` ended with status {status} and left no current {made}"
             raise BuildFailed(f"{words}; {progress.log(self.root)} has what it said")
-        # Dated by the build's begin, so that a source changed meanwhile is newer; and dated at all, since rt leaves a program
-        # as it was if only the times of its sources changed.
         os.utime(made, (began, began))
 
     def forget_lost(self):
@@ -112,11 +113,16 @@ class Checkout:
             raise BuildFailed(f"{error.filename}: {error.strerror}") from None
 
 
+def as_new(made, source):
+    return made.is_file() and made.stat().st_mtime >= source.stat().st_mtime
+
+
 def share(archive, made):
-    """Makes a shared library of a static one. One that is in use is never written over, only replaced."""
+    """Makes a shared library of a static one, with its date. One that is in use is never written over, only replaced."""
     fresh = made.with_name(f"{made.name}.{os.getpid()}")
     whole = ("-Wl,--whole-archive", archive, "-Wl,--no-whole-archive")
     run(("cc", "-shared", *whole, "-o", fresh), "to make a shared library")
+    os.utime(fresh, (archive.stat().st_mtime,) * 2)
     fresh.replace(made)
     return made
 

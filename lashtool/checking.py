@@ -17,7 +17,7 @@ def library_check(path=None):
         return loaded(path).check
     except BuildFailed as reason:
         raise CheckFailed(str(reason)) from None
-    except OSError as error:
+    except (OSError, AttributeError) as error:
         raise CheckFailed(f"the library cannot be loaded: {error}") from None
 
 

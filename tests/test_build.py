@@ -12,6 +12,13 @@ from unittest import mock
 from lashlib import progress
 from lashlib.build import BuildFailed, Checkout
 
+# Stands in for cc, which is not run in the checkout's folder.
+CC = """\
+echo "$@" >> "$(dirname "$0")/../calls"
+while [ $# -gt 1 ]; do shift; done
+echo shared > "$1"
+"""
+
 # Stands in for rt: it makes nothing of a crate that it has a mark for, as rt does not.
 RT = """\
 echo "$@" >> calls
@@ -68,9 +75,10 @@ class Building(unittest.TestCase):
         """What a build gives and says, with this in place of rt."""
         tools = self.root / "tools"
         tools.mkdir(exist_ok=True)
-        if rt is not None:
-            (tools / "rt").write_text(f"#!/bin/sh\n{rt}\n")
-            (tools / "rt").chmod(0o755)
+        for name, script in (("rt", rt), ("cc", CC)):
+            if script is not None:
+                (tools / name).write_text(f"#!/bin/sh\n{script}\n")
+                (tools / name).chmod(0o755)
         path = f"{tools}{os.pathsep}/bin{os.pathsep}/usr/bin" if rt is not None else str(tools)
         said = io.StringIO()
         with mock.patch.dict(os.environ, PATH=path), contextlib.redirect_stderr(said):
@@ -170,6 +178,40 @@ class Building(unittest.TestCase):
         self.assertNotEqual(self.calls(), [])
         self.run_with(self.checkout.program)
         self.assertEqual(self.calls(), [])
+
+    def test_a_clock_that_was_fast(self):
+        """A source from the future is not a reason to build for ever."""
+        self.set_time(self.root / "crates.txt", 10_000)
+        self.run_with(self.checkout.shared_library)
+        self.calls()
+        self.run_with(self.checkout.shared_library)
+        self.assertEqual(self.calls(), [])
+
+    def test_a_shared_library(self):
+        made, _ = self.run_with(self.checkout.shared_library)
+        self.assertEqual(made.read_text(), "shared\n")
+        first = made.stat().st_ino
+        self.assertEqual([words.split()[0] for words in self.calls()], ["check", "staticlib", "-shared"])
+        self.run_with(self.checkout.shared_library)
+        self.assertEqual(self.calls(), [])
+        with open(made) as in_use:
+            self.set_time(self.root / "crates.txt", 5)
+            self.run_with(self.checkout.shared_library)
+            self.assertEqual([words.split()[0] for words in self.calls()], ["check", "staticlib", "-shared"])
+            self.assertEqual(os.fstat(in_use.fileno()).st_ino, first)
+        self.assertNotEqual(made.stat().st_ino, first)
+        self.assertEqual([path.name for path in made.parent.glob("*.so*")], ["liblash.so"])
+
+    def test_what_is_built_is_used_where_nothing_can_be_written(self):
+        self.run_with(self.checkout.shared_library)
+        lock = self.root / "target" / "c" / "lock"
+        lock.unlink()
+        lock.mkdir()
+        made, _ = self.run_with(self.checkout.shared_library)
+        self.assertTrue(made.is_file())
+        self.set_time(self.root / "crates.txt", 5)
+        with self.assertRaisesRegex(BuildFailed, "lock: Is a directory"):
+            self.run_with(self.checkout.shared_library)
 
     def test_a_line_a_crate(self):
         _, said = self.run_with(self.checkout.library)

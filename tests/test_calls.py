@@ -77,7 +77,7 @@ class Version(unittest.TestCase):
         with tempfile.TemporaryDirectory() as folder:
             source, made = Path(folder, "version.c"), Path(folder, "version")
             source.write_text(f'#include "{HEADER}"\n#include <stdio.h>\nint main(void) {{ puts(LASH_VERSION); return 0; }}\n')
-            subprocess.run(["cc", source, "-o", made], check=True)
+            subprocess.run(["cc", "-std=c99", "-pedantic", "-Wall", "-Wextra", "-Werror", source, "-o", made], check=True)
             text = subprocess.run([made], capture_output=True, text=True, check=True).stdout
         self.assertEqual(text, f"{version()}\n")
 

@@ -361,6 +361,7 @@ class Process(unittest.TestCase):
         for name, message in (("none", "cannot open"), ("text", "invalid ELF header"), ("other.so", "lash_check")):
             status, text, errors = self.lash(EXAMPLES / "box-b.toml", library=self.folder / name)
             self.assertEqual((status, text), (3, ""))
+            self.assertTrue(errors.startswith("lash: the library cannot be loaded: "), errors)
             self.assertIn(message, errors)
             self.assertEqual(errors.count("\n"), 1)
 
