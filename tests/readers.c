@@ -1,5 +1,5 @@
 /* The readers of lash_check.h on one sheet: prints all that they give for its answer, tries places that the answer does not have,
-   and reads it cut short at every length, with an unreadable page right behind.
+   and reads it cut short at every length, with an unreadable page right behind, and with bytes behind it counted in.
 
    usage: readers SHEET
    Exit status 0: done; 1: a reader gave something for a place that is not there; 2: no sheet to read, or no memory to run in. */
@@ -74,6 +74,31 @@ static void print_all(uint64_t r, const uint8_t *a)
     printf("\n");
 }
 
+static int same(int64_t cut, int64_t whole) { return cut == LASH_NONE || cut == whole; }
+
+/* Whether what is read from the first bytes of an answer is what the whole one has there, or nothing. */
+static int part_of(uint64_t r, const uint8_t *a, uint64_t whole, const uint8_t *answer)
+{
+    int kept = 1;
+    for (unsigned end = LASH_DOOR; end <= LASH_CLOSED; end++) {
+        for (unsigned i = 0; i <= lash_tiers(whole, answer); i++) {
+            kept &= same(lash_racking(r, a, end, i), lash_racking(whole, answer, end, i));
+            kept &= same(lash_compression(r, a, end, i), lash_compression(whole, answer, end, i));
+            kept &= same(lash_tension(r, a, end, i), lash_tension(whole, answer, end, i));
+        }
+        for (unsigned i = 0; i <= lash_lashes(whole, answer, end); i++) {
+            struct lash_forces f = lash_forces_of(r, a, end, i), g = lash_forces_of(whole, answer, end, i);
+            kept &= same(f.tension, g.tension) && same(f.athwart, g.athwart) && same(f.vertical, g.vertical);
+        }
+    }
+    for (unsigned i = 0; i <= lash_findings(whole, answer); i++) {
+        struct lash_found f = lash_finding_of(r, a, i), g = lash_finding_of(whole, answer, i);
+        kept &= f.kind == 0 || (f.end == g.end && f.kind == g.kind && f.index == g.index);
+        kept &= same(lash_found_force(r, a, f), lash_found_force(whole, answer, g));
+    }
+    return kept;
+}
+
 /* Whether the readers keep within the first bytes of an answer, for every number of them: an unreadable page follows. */
 static int within_cut_answers(const uint8_t *answer, size_t length)
 {
@@ -86,11 +111,7 @@ static int within_cut_answers(const uint8_t *answer, size_t length)
         uint8_t *a = area + page - cut;
         uint64_t r = (uint64_t)cut << 8;
         memcpy(a, answer, cut);
-        kept &= bounded(r, a);
-        for (unsigned i = 0; i < lash_findings(r, a); i++)
-            lash_found_force(r, a, lash_finding_of(r, a, i));
-        for (unsigned lash = 0; lash < lash_lashes(r, a, LASH_CLOSED); lash++)
-            lash_forces_of(r, a, LASH_CLOSED, lash);
+        kept &= part_of(r, a, (uint64_t)length << 8, answer);
         if (cut == 0)
             kept &= !lash_accepted(r, a);
     }
@@ -100,7 +121,7 @@ static int within_cut_answers(const uint8_t *answer, size_t length)
 
 int main(int argc, char **argv)
 {
-    uint8_t sheet[LASH_SHEET_SIZE + 1], answer[LASH_ANSWER_SIZE] = {0};
+    uint8_t sheet[LASH_SHEET_SIZE + 1], answer[LASH_ANSWER_SIZE];
     FILE *file = argc == 2 ? fopen(argv[1], "rb") : NULL;
     if (!file) {
         fprintf(stderr, "usage: readers SHEET, a file with the bytes of a stack sheet\n");
@@ -108,12 +129,15 @@ int main(int argc, char **argv)
     }
     size_t length = fread(sheet, 1, sizeof sheet, file);
     fclose(file);
+    memset(answer, 0, sizeof answer); /* an old verdict: accepted */
     uint64_t result = lash_check(sheet, length, answer, sizeof answer);
     if (lash_number_of(result) != LASH_TAKEN) {
         printf("refused %u %" PRIu64 "\n", lash_number_of(result), lash_second_of(result));
         return lash_accepted(result, answer) ? 1 : 0;
     }
+    memset(answer + lash_second_of(result), 1, sizeof answer - (size_t)lash_second_of(result));
     print_all(result, answer);
     int kept = within_cut_answers(answer, (size_t)lash_second_of(result));
-    return kept < 0 ? 2 : kept && bounded(result, answer) && silent_when_refused(answer) ? 0 : 1;
+    int whole = bounded(result, answer) && bounded((uint64_t)sizeof answer << 8, answer);
+    return kept < 0 ? 2 : kept && whole && silent_when_refused(answer) ? 0 : 1;
 }

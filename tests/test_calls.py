@@ -24,7 +24,10 @@ uint64_t mixed(const uint8_t *a, size_t a_len, uint32_t x, uint16_t y, uint8_t *
     memcpy(out + a_len + 4, &y, 2);
     return (uint64_t)(a_len + 6) << 8;
 }
-uint64_t two(const uint8_t *a, size_t a_len, const uint8_t *b, size_t b_len) { return a_len ? a[0] : 255 | (uint64_t)(b_len ? b[b_len - 1] : 0) << 56; }
+uint64_t two(const uint8_t *a, size_t a_len, const uint8_t *b, size_t b_len)
+{
+    return a_len ? a[0] : 255 | (uint64_t)(b_len ? b[b_len - 1] : 0) << 56;
+}
 uint64_t numbers(uint32_t x, int32_t y) { return x | (uint64_t)(uint32_t)y << 32; }
 """
 SHAPES = {
