@@ -38,7 +38,7 @@ def reached(root, crate):
 def run(root, crate, command, why):
     """Runs a command that makes something of a crate; the last command run and its status."""
     lines = Lines(reached(root, crate), crate)
-    say(f"{why}: proving and building it (notes of the prover: {log(root)})")
+    say(f"{why}: proving and building it, which takes some minutes the first time (all that the prover says: {log(root)})")
     below = [name for name in dependencies(root, crate) if (root / "crates" / name).is_dir()]
     # `rt check` proves crates side by side, `rt staticlib` one after the other.
     commands = [("rt", "check", *below), command] if below else [command]
@@ -72,13 +72,14 @@ def say(text):
 
 
 class Lines:
-    """What is shown of rt's output: each crate once, with its place in the count, its functions and its time."""
+    """What is shown of rt's output: each crate proved now, with its place in the count, its functions and its time."""
 
     def __init__(self, crates, last):
         self.due = set(crates)
         self.total = len(self.due)
         self.final = last
         self.functions = 0
+        self.before = 0  # crates proved before that nothing was said of yet
         self.began = time.monotonic()
 
     def take(self, line):
@@ -87,22 +88,28 @@ class Lines:
         if counted:
             self.functions = int(counted[1])
         elif done:
-            self.crate(done[1], self.proved(done[2]))
-        elif unchanged:
-            self.crate(unchanged[1], "proved before")
+            self.proved(done[1], done[2])
+        elif unchanged and unchanged[1] in self.due:
+            self.due.remove(unchanged[1])
+            self.before += 1
+            self.began = time.monotonic()
         elif FAULT.match(line):
             say(line.rstrip())
 
-    def proved(self, seconds):
-        what = f"{self.functions} function{'' if self.functions == 1 else 's'}" if self.functions else "theorems"
-        return f"{what} proved, {seconds} s"
-
-    def crate(self, name, words):
+    def proved(self, name, seconds):
         self.began = time.monotonic()
-        if name in self.due:
-            self.due.remove(name)
-            say(f"  {self.total - len(self.due):>2} of {self.total}  {name}: {words}")
+        if name not in self.due:
+            return
+        if self.before:
+            say(f"{self.count()}  proved before")
+            self.before = 0
+        self.due.remove(name)
+        what = f"{self.functions} function{'' if self.functions == 1 else 's'}" if self.functions else "theorems"
+        say(f"{self.count()}  {name}: {what} proved, {seconds} s")
+
+    def count(self):
+        return f"  {self.total - len(self.due):>2} of {self.total}"
 
     def last(self):
         """rt says nothing of its own on the crate that a static library is made of."""
-        self.crate(self.final, self.proved(round(time.monotonic() - self.began)))
+        self.proved(self.final, round(time.monotonic() - self.began))
