@@ -5,7 +5,7 @@ from dataclasses import dataclass
 from difflib import get_close_matches
 
 from lashtool.fields import ENDS, HEAD_FIELDS, LASH_FIELDS, LOCK_FIELDS, TIER_FIELDS
-from reference.sheet import (
+from sheets.sheet import (
     HEIGHTS, MOST_LASHES, MOST_TIERS, Head, Lash, Sheet, Tier, sheet_order,
 )
 

@@ -2,7 +2,7 @@
 
 from dataclasses import dataclass
 
-from reference.sheet import HEAD_LIMITS, HEIGHTS, LASH_LIMITS, MOST_TIERS, TIER_LIMITS
+from sheets.sheet import HEAD_LIMITS, HEIGHTS, LASH_LIMITS, MOST_TIERS, TIER_LIMITS
 
 
 @dataclass(frozen=True)

@@ -3,7 +3,7 @@
 from lashtool.fields import (
     ENDS, HEAD_FIELDS, LASH_FIELDS, LOCK_FIELDS, TIER_FIELDS, field, lash_place,
 )
-from reference.sheet import (
+from sheets.sheet import (
     HEAD, HEAD_LIMITS, HEIGHTS, LASH, MOST_LASHES, MOST_TIERS, TIER, Head, Lash, Refused, Tier,
     lash_faults, outside, parse, tier_faults,
 )

@@ -4,10 +4,11 @@ from dataclasses import dataclass
 from math import ceil
 
 from lashtool.fields import ENDS, LOCK_FIELDS, field, lash_place
-from reference.stack import (
-    COMPRESSION, CORNER, LASH_ATHWART, LASH_TENSION, LASH_VERTICAL, LOCK, RACKING, ROUTE_PERCENT,
-    checks, safe_working_load,
+from sheets.limits import (
+    COMPRESSION, CORNER, LASH_ATHWART, LASH_TENSION, LASH_VERTICAL, LOCK, RACKING, checks,
+    safe_working_load,
 )
+from sheets.sheet import ROUTE_PERCENT
 
 KIND_WORDS = {
     RACKING: "racking",

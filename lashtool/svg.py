@@ -5,10 +5,8 @@ from dataclasses import dataclass
 from lashtool.drawing import INK, PAPER, Drawing
 from lashtool.fields import ENDS
 from lashtool.report import stack_words, verdict_words
-from reference.sheet import CROSS, TOP
-from reference.stack import (
-    COMPRESSION, CORNER, LASH_ATHWART, LASH_TENSION, LASH_VERTICAL, LOCK, RACKING,
-)
+from sheets.limits import COMPRESSION, CORNER, LASH_ATHWART, LASH_TENSION, LASH_VERTICAL, LOCK, RACKING
+from sheets.sheet import CROSS, TOP
 
 # What exceeds its limit is dark, bold and thick, so that it stands out in grey as well.
 FAINT = "#8a94a0"

@@ -5,8 +5,9 @@ from random import Random
 
 from lashtool.description import BadDescription, describe
 from reference.cases import CASES
-from reference.sheet import Lash, Tier, pack, parse, sheet_order
-from reference.stack import checks, exact, findings
+from reference.stack import exact
+from sheets.limits import checks, findings
+from sheets.sheet import Lash, Tier, pack, parse, sheet_order
 from tests.support import EXAMPLES
 
 LEAST = """

@@ -6,7 +6,7 @@ from random import Random
 
 from lashtool.refusals import explain
 from reference.cases import BOX_B, HEAD, ROD_S
-from reference.sheet import Refused, Sheet, pack, parse
+from sheets.sheet import Refused, Sheet, pack, parse
 
 
 def stack(tiers=(BOX_B, BOX_B), door=(), closed=(), **head):

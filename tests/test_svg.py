@@ -10,7 +10,7 @@ from xml.etree import ElementTree
 from lashtool.drawing import PAPER
 from lashtool.svg import OVER
 from reference.cases import BOX_B, HEAD, ROD_S
-from reference.sheet import Sheet, pack
+from sheets.sheet import Sheet, pack
 from tests.support import (
     B_ANSWER, CLOSED, DOOR, EXAMPLES, PULLED_BACK_ANSWER, answer_bytes, lash,
 )
