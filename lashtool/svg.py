@@ -4,7 +4,7 @@ from dataclasses import dataclass
 
 from lashtool.drawing import INK, PAPER, Drawing
 from lashtool.fields import ENDS
-from lashtool.report import stack_words, verdict_words
+from lashtool.words import stack_words, verdict_words
 from sheets.limits import COMPRESSION, CORNER, LASH_ATHWART, LASH_TENSION, LASH_VERTICAL, LOCK, RACKING
 from sheets.sheet import CROSS, TOP
 
