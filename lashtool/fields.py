@@ -65,7 +65,7 @@ END_FIELD = Field("end", "end", "end of the stack that the lash is at", BOTH_END
 LASH_FIELDS = (
     Field("tier", "tier", "tier that the lash is hooked to", None, (1, MOST_TIERS)),
     Field("hook", "hook", "which corner of that tier; not the bottom of tier 1", 0, words=("top", "bottom")),
-    Field("kind", "kind", "cross: from the lee corner across the end; side: from the windward corner outward", 0,
+    Field("kind", "kind", "cross: from the lee corner across the end; side: from the windward one outward", 0,
           words=("cross", "side")),
     Field("material", "material", "factor of safety 1.67 for higher strength rods, else 2", 1,
           words=("ordinary rod", "higher strength rod", "wire", "chain")),
