@@ -8,7 +8,7 @@ FAINT = "#727c88"
 TRACK = "#f3f4f6"
 BARS = {CALM: "#cfdfee", NEAR: "#efb04a", OVER: "#9d1420"}
 BOXES = {CALM: "#f1efe9", NEAR: "#f4cf8f", OVER: "#9d1420"}
-LASHES = {CALM: ("#2f74b5", 2.5), NEAR: ("#a86400", 3.5), OVER: ("#9d1420", 4.5)}
+LASHES = {CALM: ("#2f74b5", 2.5), NEAR: ("#8a5200", 3.5), OVER: ("#9d1420", 4.5)}
 BOLD = {"font-weight": "bold"}
 LINE = 17
 

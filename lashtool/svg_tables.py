@@ -34,8 +34,10 @@ def draw_tables(drawing, outcome, left, top, width):
 
 def draw_table(drawing, left, top, columns, rows):
     for row in rows:
+        ink = INK if row[0].isdigit() else FAINT
         for (x, anchor), words in zip(columns, row):
-            drawing.text(left + x, top, words, FAINT if not row[0].isdigit() else INK, anchor, "checked")
+            if words:
+                drawing.text(left + x, top, words, ink, anchor, "checked")
         top += ROW
     return top
 

@@ -24,7 +24,7 @@ PLACE_WORDS = {
 }
 NOT_CHECKED = (
     "Not covered: the ship's motion (accelerations are given), longitudinal forces and side walls, cell guides, "
-    "buttresses, blocks of joined stacks, vertical lashings, mixed lengths."
+    "buttresses, blocks of joined stacks, vertical lashings, mixed lengths. No class society has certified this program."
 )
 PAD_WORDS = (
     f"< {KEPT}: every figure is proved to be at least the exact force in size and less than {KEPT} N above it; "
