@@ -16,7 +16,7 @@ def as_data(outcome):
     return {
         "title": outcome.title,
         "accepted": outcome.accepted,
-        "worst": {**placed_data(outcome, outcome.worst()), "text": worst_words(outcome)},
+        "worst_use": {**placed_data(outcome, outcome.worst()), "text": worst_words(outcome)},
         "findings": [
             {**placed_data(outcome, figure), "text": finding_words(outcome, figure)} for figure in outcome.findings()
         ],

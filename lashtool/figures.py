@@ -2,8 +2,8 @@
 
 from dataclasses import dataclass
 from fractions import Fraction
-from math import ceil, inf
 
+from lashtool.summary import Use, percent_words, worst_use
 from sheets.limits import (
     COMPRESSION, CORNER, LASH_ATHWART, LASH_TENSION, LASH_VERTICAL, LOCK, RACKING, checks,
 )
@@ -26,22 +26,22 @@ class Figure:
     over: bool  # the check found it so
 
     @property
+    def use(self):
+        return None if self.limit is None else Use(self.end, self.kind, self.index, abs(self.force), self.limit)
+
+    @property
     def share(self):
-        """The part of the limit used; without a limit nothing is used, and of a limit of 0 no force is a part."""
-        if not self.limit:
-            return inf if self.limit == 0 and self.force else Fraction(0)
-        return Fraction(abs(self.force), self.limit)
+        """The part of the limit used; nothing without a limit."""
+        return self.use.share if self.use else Fraction(0)
 
     @property
     def used(self):
-        """The share in percent, rounded up to a tenth; none without a limit."""
-        return ceil(self.share * 1000) / 10 if self.limit else None
+        """The share in percent, rounded up to a tenth; none without a limit, or if it is 0 and exceeded."""
+        return self.use.percent if self.use else None
 
     @property
     def used_text(self):
-        if self.used is None:
-            return "over" if self.over else "-"
-        return f"{self.used:,.1f}%" if self.used < 1000 else f"{ceil(self.used):,}%"
+        return percent_words(self.use) if self.use else "-"
 
     @property
     def force_text(self):
@@ -97,7 +97,8 @@ class Result:
 
     def worst(self):
         """The figure that uses the most of its limit."""
-        return greatest(figure for figure in self.figures.values() if figure.limit is not None)
+        use = worst_use(self.sheet, self.answer)
+        return self.figures[use.end, use.kind, use.index]
 
     def lash(self, end, index):
         return self.sheet.lashes(end)[index]

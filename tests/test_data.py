@@ -40,7 +40,7 @@ class Data(unittest.TestCase):
 
     def test_worst_and_warnings(self):
         _, data = data_of("pulled-back", PULLED_BACK_ANSWER)
-        worst = data["worst"]
+        worst = data["worst_use"]
         self.assertEqual((worst["end"], worst["level"], worst["name"]), ("door", 3, "corner tension"))
         self.assertEqual((worst["force"], worst["limit"], worst["used_percent"]), (299_402, 250_000, 119.8))
         self.assertEqual(len(data["warnings"]), 1)

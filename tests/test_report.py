@@ -151,13 +151,13 @@ class Figures(unittest.TestCase):
             (150_000, 150_000, 100.0, "100.0%"),
             (150_001, 150_000, 100.1, "100.1%"),
             (74_999, 150_000, 50.0, "50.0%"),
-            (1_500_001, 150_000, 1000.1, "1,001%"),
+            (1_500_001, 150_000, 1000.1, "1,000.1%"),
             (5, None, None, "-"),
-            (0, 0, None, "-"),
+            (0, 0, 0.0, "0.0%"),
         ):
             shown = figure(force, limit)
             self.assertEqual((shown.used, shown.used_text), (used, share))
-        self.assertEqual(figure(5, 0, True).used_text, "over")
+        self.assertEqual(figure(5, 0, True).used_text, "no limit left")
 
     def test_a_figure_that_may_stand_for_no_force(self):
         """The pad is less than 9 N; what exceeds its limit is shown as it is."""
@@ -178,7 +178,7 @@ class Figures(unittest.TestCase):
             outcome = result("", Sheet(HEAD, (BOX_B,), lashes, lashes), read_answer(answer), [])
             worst = outcome.worst()
             self.assertEqual((worst.end, worst.kind, worst.index), due)
-        self.assertIn("worst use of a limit: |!!!!!!!!!!| over at the door end, lash 1", table(outcome))
+        self.assertIn("worst use of a limit: |!!!!!!!!!!| no limit left at the door end, lash 1", table(outcome))
         self.assertIn("    door end, lash 1 (tier 1 top cross): 1 N, nothing is allowed", table(outcome))
 
     def test_bars(self):

@@ -63,7 +63,7 @@ def drawn(*words, output):
     with tempfile.TemporaryDirectory() as folder:
         path = Path(folder, "stack.svg")
         status, text, errors = lash(*words, "--svg", path, output=output)
-        assert "lash: " not in errors.replace("lash: warning", ""), errors
+        assert status in (0, 1) and all(": warning: " in line for line in errors.splitlines()), errors
         return Picture(path.read_bytes())
 
 
