@@ -17,6 +17,7 @@ from lashtool.ending import ACCEPTED, BAD_INPUT, FAILED, NOT_ACCEPTED, complain,
 from lashtool.figures import result
 from lashtool.refusals import explain
 from lashtool.sources import STREAM, Source, misuse, read, several, sources
+from lashtool.template import template
 from lashtool.words import KIND_WORDS, warnings, where
 from sheets.sheet import Refused, pack
 
@@ -37,6 +38,7 @@ def arguments(words):
     parser.add_argument("--write", metavar="FILE", help="store the sheet's bytes; - for standard output in place of the report")
     parser.add_argument("--svg", metavar="FILE", help="draw the stack with its forces; - as above")
     parser.add_argument("--json", action="store_true", help="print the figures as JSON; of several stacks one line each")
+    parser.add_argument("--template", action="store_true", help="print a commented description to start from")
     parser.add_argument("--version", action="version", version=f"lash {version()}")
     parser.add_argument("--library", type=Path, help=argparse.SUPPRESS)
     options = parser.parse_args(words)
@@ -160,6 +162,8 @@ def many(options, check):
 def main(words=None, check=None):
     """The exit status. `check` gives a sheet's reply in place of the library."""
     options = arguments(words)
+    if options.template:
+        return say(template().rstrip(), ACCEPTED)
     try:
         check = check or library_check(options.library)
         return many(options, check) if several(options) else one(options, check)

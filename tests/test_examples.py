@@ -18,6 +18,7 @@ SHOWN = {
     "box-b": ("accepted", []),
     "rod-s": ("accepted", []),
     "eight-high": ("accepted", []),
+    "three-high": ("accepted", []),
     "route": ("accepted", []),
     "racking": ("unacceptable racking", [(end, RACKING, 1) for end in BOTH]),
     "pulled-back": ("unacceptable racking, to windward", [(0, RACKING, 6)]),

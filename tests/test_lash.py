@@ -68,6 +68,14 @@ class InPlace(unittest.TestCase):
             status, _, errors = lash(path, output=b"11 34\n")
             self.assertEqual((status, errors), (2, f"lash: {path}: {message}\n"))
 
+    def test_the_template_is_a_description(self):
+        status, text, errors = lash("--template")
+        self.assertEqual((status, errors), (0, ""))
+        end = ((1_000,) * 3, (1_000,) * 4, (1_000,) * 3, ((1_000,) * 3,) * 2)
+        status, report, errors = lash("-", stdin=text.encode(), output=answer_bytes(end, end))
+        self.assertEqual((status, errors), (0, ""))
+        self.assertNotIn("not given", report)
+
     def test_warnings(self):
         """On standard error beside the report; the status is the verdict's."""
         path = EXAMPLES / "pulled-back.toml"
@@ -146,6 +154,8 @@ class InPlace(unittest.TestCase):
             ((path, "--write", ""), "need a file's name"),
             ((path, "--write", "-", "--svg", "-"), "standard output can be written only once"),
             ((path, "--svg", "-", "--json"), "standard output can be written only once"),
+            ((path, "--template"), "--template goes alone"),
+            (("--template", "--json"), "--template goes alone"),
         ):
             status, text, errors = lash(*words, output=B_ANSWER)
             self.assertEqual((status, text), (2, ""), words)
