@@ -28,6 +28,7 @@ POSTS = 264  # width of the post forces, right in a panel
 POSTS_GAP = 26
 STACK = BOX_WIDTH * SCALE
 GAP = 30
+WORDS_WIDTH = 68  # of the words in a box
 
 
 @dataclass(frozen=True)
@@ -57,6 +58,12 @@ class Panel:
 
     def level(self, level):
         return self.deck - SCALE * sum(self.heights[:level])
+
+    def has_words(self, point):
+        """Whether a point lies where the words of a box may stand."""
+        x, y = point
+        tops = (self.level(number) for number in range(1, len(self.heights) + 1))
+        return self.stack_left <= x <= self.stack_left + WORDS_WIDTH + 8 and any(0 <= y - top <= 4 * LINE for top in tops)
 
 
 def picture(outcome):
@@ -113,7 +120,7 @@ def draw_end(drawing, panel, outcome, end):
     draw_lashes(drawing, panel, lashes)
     for tier, racking in zip(outcome.sheet.tiers, rackings):
         draw_box_words(drawing, panel, tier, racking)
-    draw_badges(drawing, lashes)
+    draw_badges(drawing, panel, lashes)
     for level in range(len(outcome.sheet.tiers) + 1):
         draw_posts(drawing, panel, outcome, end, level)
 
@@ -150,7 +157,7 @@ def draw_box_words(drawing, panel, tier, racking):
     rows = [(f"tier {racking.index}", "tier", {}), (f"{tier.mass:,} kg", "mass", BOLD)]
     if tier.wind:
         rows.append((word(TIER_FIELDS, tier, "wind"), "wind", {}))
-    drawing.rect(left - 4, row - 13, 68, len(rows) * LINE, BOXES[racking.state], opacity=0.8)
+    drawing.rect(left - 4, row - 13, WORDS_WIDTH, len(rows) * LINE, BOXES[racking.state], opacity=0.8)
     for number, (words, name, more) in enumerate(rows):
         drawing.text(left, row + number * LINE, words, ink(racking), "start", name, **more)
 

@@ -94,11 +94,12 @@ def draw_lash(drawing, lash):
         drawing.circle(point, 4, colour, stroke=PAPER)
 
 
-def draw_badges(drawing, lashes):
-    """The lashes' numbers, each at that place of its lash that lies farthest from the others."""
+def draw_badges(drawing, panel, lashes):
+    """The lashes' numbers, each at that place of its lash, off the words, that lies farthest from the others."""
     taken = []
     for lash in lashes:
         places = [lash.along(part / 20) for part in range(3, 18)]
+        places = [place for place in places if not panel.has_words(place)] or places
         taken.append(max(places, key=lambda place: min((dist(place, other) for other in taken), default=0)))
     for lash, (x, y) in zip(lashes, taken):
         drawing.circle((x, y), BADGE, LASHES[lash.governing.state][0], stroke=PAPER)

@@ -47,7 +47,7 @@ def page_notes(outcome):
     for warning in warnings(outcome):
         yield f"Warning: {warning}", BOLD
     if outcome.assumed:
-        yield f"{assumed_words(outcome)}.".capitalize(), {}
+        yield f"{assumed_words(outcome)}.".replace("not given", "Not given", 1), {}
     yield (
         "Percent: share of the limit used, rounded up; for a lash of whichever of tension, vertical and athwart part uses "
         "most, for a tension at a level of the lower limit, corner or lock. Compression on the deck has no limit. "

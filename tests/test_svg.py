@@ -169,6 +169,23 @@ class Drawn(unittest.TestCase):
         for row in (tier, [*rod, "130,000", "490,000"]):
             self.assertIn(row, [checked[i : i + len(row)] for i in range(len(checked))])
 
+    def test_what_was_not_given_keeps_its_letters(self):
+        sheet = describe((EXAMPLES / "three-high.toml").read_bytes()).sheet
+        text = " ".join(drawn(EXAMPLES / "three-high.toml", output=quiet_answer(sheet)).texts())
+        self.assertIn("Not given and taken as: rule 1; lock material higher strength; lock breaking_load 500,000 N;", text)
+        self.assertIn("lash LX 0 mm;", text)
+
+    def test_numbers_of_lashes_stay_off_the_words(self):
+        """Long rods that cross the words of two boxes."""
+        lashes = tuple(replace(ROD_S, tier=t, ly=2_200, lz=2_591 * t) for t in (1, 2, 3))
+        sheet = Sheet(HEAD, (BOX_B,) * 3, lashes, lashes)
+        picture = drawn_sheet(sheet, quiet_answer(sheet))
+        badges = [(float(shape.get("x")), float(shape.get("y"))) for shape in picture.named("badge")]
+        words = [(float(shape.get("x")), float(shape.get("y"))) for shape in picture.named("mass")]
+        self.assertEqual((len(badges), len(words)), (6, 6))
+        for x, y in badges:
+            self.assertFalse([1 for left, row in words if -8 <= x - left <= 64 and abs(y - 4 - (row - 8)) < 14])
+
     def test_everything_is_there(self):
         picture = drawn(EXAMPLES / "pulled-back.toml", output=PULLED_BACK_ANSWER)
         masses = ["10,000 kg", "10,000 kg", "10,000 kg", "20,000 kg", "30,480 kg", "2,000 kg"]
