@@ -12,8 +12,8 @@ from lashtool.words import (
     stack_words, stiffness_words, verdict_words, warnings, way_words, where, worst_words,
 )
 from sheets.limits import (
-    COMPRESSION, CORNER, LASH_ATHWART_LIMIT, LASH_TENSION, LASH_VERTICAL_LIMIT, LOCK, RACKING, RACKING_LIMIT,
-    COMPRESSION_LIMIT, CORNER_LIMIT, safe_working_load,
+    COMPRESSION, COMPRESSION_LIMIT, CORNER, CORNER_LIMIT, LASH_ATHWART_LIMIT, LASH_VERTICAL_LIMIT, LOCK, RACKING,
+    RACKING_LIMIT,
 )
 
 WIDTH = 110

@@ -1,5 +1,6 @@
 """./lash as a command: its statuses, files and messages, and no trace on bad input."""
 
+import contextlib
 import json
 import os
 import re
@@ -390,6 +391,24 @@ class Process(unittest.TestCase):
             self.assertEqual((status, text), (3, ""))
             self.assertIn(message, errors)
             self.assertEqual(errors.count("\n"), 1)
+
+    def test_colours_on_a_terminal(self):
+        """And none against NO_COLOR; in a file there are none either way."""
+        words = [ROOT / "lash", EXAMPLES / "box-b.toml", "--library", self.library]
+        for more, coloured in (({"TERM": "xterm"}, True), ({"TERM": "xterm", "NO_COLOR": "1"}, False)):
+            reader, writer = os.openpty()
+            environment = {name: value for name, value in BUFFERED.items() if name != "NO_COLOR"}
+            process = subprocess.Popen(words, stdout=writer, env={**environment, **more})
+            os.close(writer)
+            text = b""
+            with contextlib.suppress(OSError):  # a terminal whose other side has gone ends so
+                while part := os.read(reader, 65_536):
+                    text += part
+            os.close(reader)
+            self.assertEqual(process.wait(), 0)
+            self.assertIn(b"ACCEPTED", text)
+            self.assertEqual(b"\x1b[36m" in text, coloured)
+        self.assertNotIn("\x1b", self.lash(EXAMPLES / "box-b.toml")[1])
 
     def test_help(self):
         status, text, _ = self.lash("--help")

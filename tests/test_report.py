@@ -6,8 +6,9 @@ import unittest
 from dataclasses import replace
 
 from lashtool import colour
-from lashtool.figures import Figure, result
+from lashtool.figures import KEPT, Figure, result
 from lashtool.report import table
+from reference import judge
 from reference.cases import BOX_B, HEAD, ROD_S
 from sheets.answer import read_answer
 from sheets.sheet import Sheet
@@ -160,7 +161,8 @@ class Figures(unittest.TestCase):
         self.assertEqual(figure(5, 0, True).used_text, "no limit left")
 
     def test_a_figure_that_may_stand_for_no_force(self):
-        """The pad is less than 9 N; what exceeds its limit is shown as it is."""
+        """The pad is less than the 9 N that compare holds figures to; what exceeds its limit is shown as it is."""
+        self.assertEqual(KEPT, judge.KEPT)
         for force, over, text in ((0, False, "0"), (4, False, "< 9"), (-8, False, "< 9"), (9, False, "9"), (4, True, "4")):
             self.assertEqual(figure(force, 0 if over else 150_000, over).force_text, text)
 

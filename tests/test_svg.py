@@ -12,7 +12,6 @@ from lashtool.description import describe
 from lashtool.drawing import PAPER
 from lashtool.svg_style import BARS, BOXES, LASHES
 from reference.cases import BOX_B, HEAD, ROD_S
-from reference.stack import level_height
 from sheets.sheet import Sheet, pack
 from tests.support import (
     B_ANSWER, CLOSED, DOOR, EXAMPLES, PULLED_BACK_ANSWER, answer_bytes, lash,
@@ -112,7 +111,8 @@ class TrueToScale(unittest.TestCase):
             left, top, width, height = boxes[end * len(sheet.tiers)]
             for lash in lashes:
                 corner = left + (BOX_WIDTH + POST_SPACING) / 2 * scale - lash.kind * POST_SPACING * scale
-                hook = (corner, top + height - level_height(sheet, lash.level) * scale)
+                level = sum(tier.height for tier in sheet.tiers[: lash.level])
+                hook = (corner, top + height - level * scale)
                 foot = (hook[0] - lash.ly * scale, hook[1] + lash.lz * scale)
                 found = min(hooks_and_feet, key=lambda pair: self.apart(pair, (hook, foot)))
                 self.assertLess(self.apart(found, (hook, foot)), 1)
