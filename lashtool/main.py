@@ -2,19 +2,23 @@
 
 import argparse
 import json
+import sys
 from collections import Counter
 from dataclasses import dataclass
 from pathlib import Path
 
 from lashlib.version import version
-from lashtool import svg
+from lashtool import report, svg
 from lashtool.checking import CheckFailed, library_check, outcome
+from lashtool.colour import wanted
+from lashtool.data import as_data
 from lashtool.description import BadDescription, describe
 from lashtool.ending import ACCEPTED, BAD_INPUT, FAILED, NOT_ACCEPTED, complain, reason, say
+from lashtool.figures import result
 from lashtool.refusals import explain
-from lashtool.report import KIND_WORDS, as_data, place_words, result, table
 from lashtool.sources import STREAM, Source, misuse, read, several, sources
-from lashtool.summary import percent_words, worst_use
+from lashtool.template import template
+from lashtool.words import KIND_WORDS, warnings, where
 from sheets.sheet import Refused, pack
 
 HELP = (
@@ -34,6 +38,7 @@ def arguments(words):
     parser.add_argument("--write", metavar="FILE", help="store the sheet's bytes; - for standard output in place of the report")
     parser.add_argument("--svg", metavar="FILE", help="draw the stack with its forces; - as above")
     parser.add_argument("--json", action="store_true", help="print the figures as JSON; of several stacks one line each")
+    parser.add_argument("--template", action="store_true", help="print a commented description to start from")
     parser.add_argument("--version", action="version", version=f"lash {version()}")
     parser.add_argument("--library", type=Path, help=argparse.SUPPRESS)
     options = parser.parse_args(words)
@@ -55,22 +60,22 @@ def write(name, data):
 
 
 def load(source):
-    """The title, the sheet's bytes and what was assumed."""
+    """The sheet's bytes, and what a description says beside them: title, what was assumed, the lashes' numbers."""
     if source.sheet:
-        return "", read(source), []
+        return read(source), ("", [], None)
     description = describe(read(source))
-    return description.title, pack(description.sheet), description.assumed
+    return pack(description.sheet), (description.title, description.assumed, description.numbers)
 
 
 def checked(source, check):
     """The report of a stack and its sheet's bytes. Raises what stands against one."""
-    title, data, assumed = load(source)
+    data, (title, assumed, numbers) = load(source)
     try:
         sheet, answer = outcome(data, check(data))
     except Refused as refused:
         refused.meaning = explain(data, refused.number, refused.second)
         raise
-    return result(title, sheet, answer, assumed), data
+    return result(title, sheet, answer, assumed, numbers), data
 
 
 @dataclass(frozen=True)
@@ -88,9 +93,7 @@ class Tried:
         """For JSON."""
         head = {"version": version(), "source": str(self.source), "status": self.status}
         if self.report:
-            use = worst_use(self.report.sheet, self.report.answer)
-            worst = {"where": use_words(self.report, use), "force": use.force, "limit": use.limit, "used_percent": use.percent}
-            return {**head, "worst_use": worst, **as_data(self.report)}
+            return {**head, **as_data(self.report)}
         return {**head, **({"refused": self.numbers} if self.numbers else {"error": self.message})}
 
 
@@ -114,7 +117,9 @@ def one(options, check):
     if not stack.report:
         complain(f"{stack.source}: {stack.message}")
         return say(json.dumps(stack.as_data(), indent=2), stack.status) if options.json else stack.status
-    printed = json.dumps(stack.as_data(), indent=2) if options.json else table(stack.report)
+    for warning in warnings(stack.report):
+        complain(f"{stack.source}: warning: {warning}")
+    printed = json.dumps(stack.as_data(), indent=2) if options.json else report.table(stack.report, wanted(sys.stdout))
     for name, make in ((options.write, lambda: stack.data), (options.svg, lambda: svg.picture(stack.report))):
         if name == STREAM:
             printed = make()
@@ -126,10 +131,6 @@ def one(options, check):
 # Several stacks
 
 
-def use_words(report, use):
-    return f"{KIND_WORDS[use.kind]}, {place_words(report, report.figure(use.end, use.kind, use.index))}"
-
-
 VERDICTS = {ACCEPTED: "accepted", NOT_ACCEPTED: "not accepted", BAD_INPUT: "not checked", FAILED: "failed"}
 
 
@@ -138,8 +139,8 @@ def line(stack, width):
     words = f"{str(stack.source):{width}}  {VERDICTS[stack.status].upper():12}"
     if not stack.report:
         return f"{words} {'-':>9}  {' '.join(stack.message.split())}"
-    use = worst_use(stack.report.sheet, stack.report.answer)
-    return f"{words} {percent_words(use):>9}  {use_words(stack.report, use)}"
+    worst = stack.report.worst()
+    return f"{words} {worst.used_text:>9}  {KIND_WORDS[worst.kind]}, {where(stack.report, worst)}"
 
 
 def many(options, check):
@@ -148,6 +149,8 @@ def many(options, check):
     width = max(len(str(source)) for source in options.sources)
     for source in options.sources:
         stack = tried(source, check)
+        for warning in warnings(stack.report) if stack.report else ():
+            complain(f"{source}: warning: {warning}")
         counts[stack.status] += 1
         status = max(status, say(json.dumps(stack.as_data()) if options.json else line(stack, width), stack.status))
     if not options.json:
@@ -159,6 +162,8 @@ def many(options, check):
 def main(words=None, check=None):
     """The exit status. `check` gives a sheet's reply in place of the library."""
     options = arguments(words)
+    if options.template:
+        return say(template().rstrip(), ACCEPTED)
     try:
         check = check or library_check(options.library)
         return many(options, check) if several(options) else one(options, check)

@@ -49,6 +49,8 @@ def several(options):
 def misuse(options):
     """What is wrong with the words given, if anything."""
     files = [name for name in (options.write, options.svg) if name is not None]
+    if options.template:
+        return "--template goes alone" if options.sources or files or options.json else None
     if not options.stacks and options.sheet is None:
         return "a stack is needed: a description in TOML, or --sheet with a sheet's bytes"
     if options.stacks and options.sheet is not None:

@@ -1,6 +1,7 @@
-"""A checked stack in one line: the verdict, the worst use of a limit, and where."""
+"""How much of a limit a reported force uses, and the worst use of all."""
 
 from dataclasses import dataclass
+from fractions import Fraction
 from math import inf
 
 from sheets.limits import checks
@@ -20,8 +21,8 @@ class Use:
     def share(self):
         """Above 1 exactly if the limit is exceeded."""
         if self.limit == 0:
-            return inf if self.force else 0
-        return self.force / self.limit
+            return inf if self.force else Fraction(0)
+        return Fraction(self.force, self.limit)
 
     @property
     def percent(self):

@@ -1,5 +1,6 @@
 """./lash as a command: its statuses, files and messages, and no trace on bad input."""
 
+import contextlib
 import json
 import os
 import re
@@ -38,7 +39,7 @@ class InPlace(unittest.TestCase):
         self.assertEqual((status, path.read_bytes().hex()), (0, BOX_B_HEX))
         status, text, errors = lash("--sheet", path, output=B_ANSWER)
         self.assertEqual((status, errors), (0, ""))
-        self.assertTrue(text.startswith("1 tier of 40 feet, 20,000 kg;"))
+        self.assertTrue(text.startswith("ACCEPTED\nworst use of a limit: "))
 
     def test_standard_input(self):
         text = (EXAMPLES / "box-b.toml").read_bytes()
@@ -56,16 +57,40 @@ class InPlace(unittest.TestCase):
         self.assertEqual(status, 2)
         self.assertEqual(json.loads(text)["refused"], {"number": 1, "second": 2, "meaning": meaning})
 
-    def test_a_description_that_the_check_refuses(self):
-        text = (EXAMPLES / "rod-s.toml").read_text().replace("tier = 2", "tier = 3")
-        path = self.file("high.toml", text.encode())
-        status, _, errors = lash(path, output=b"11 34\n")
-        self.assertEqual(status, 2)
-        self.assertIn("refused with 11 34: door end, lash 0 (bytes 34 to 53): tier 3 is not in", errors)
+    def test_a_description_is_never_refused_by_offsets(self):
+        """What the check would turn back is said in the description's own words."""
+        text = (EXAMPLES / "rod-s.toml").read_text()
+        lash_again = text[text.index("[[lash]]") :]
+        for change, message in (
+            (text.replace("tier = 2", "tier = 3"), "lash 1: tier 3 is not in this stack of 2 tiers"),
+            (text + lash_again, "lash 2: given twice: tier 2 top cross at the door end is lash 1 already"),
+        ):
+            path = self.file("stack.toml", change.encode())
+            status, _, errors = lash(path, output=b"11 34\n")
+            self.assertEqual((status, errors), (2, f"lash: {path}: {message}\n"))
+
+    def test_the_template_is_a_description(self):
+        status, text, errors = lash("--template")
+        self.assertEqual((status, errors), (0, ""))
+        end = ((1_000,) * 3, (1_000,) * 4, (1_000,) * 3, ((1_000,) * 3,) * 2)
+        status, report, errors = lash("-", stdin=text.encode(), output=answer_bytes(end, end))
+        self.assertEqual((status, errors), (0, ""))
+        self.assertNotIn("not given", report)
+
+    def test_warnings(self):
+        """On standard error beside the report; the status is the verdict's."""
+        path = EXAMPLES / "pulled-back.toml"
+        for words in ((), ("--json",)):
+            status, text, errors = lash(path, *words, output=PULLED_BACK_ANSWER)
+            self.assertEqual((status, errors.count("\n")), (1, 1))
+            warning = "lash 2 (tier 6 top side, door end): its foot lies 4,000 mm to windward of the stack"
+            self.assertTrue(errors.startswith(f"lash: {path}: warning: {warning}"), errors)
+            self.assertIn(warning, text)
+        self.assertEqual(lash(EXAMPLES / "box-b.toml", output=B_ANSWER)[2], "")
 
     def test_bad_descriptions(self):
         for name, data, message in (
-            ("garbage.toml", bytes(range(256)), "this is no text"),
+            ("garbage.toml", bytes(range(256)), "byte 0x80 in line 2, column 118 is no UTF-8"),
             ("broken.toml", b"[[", "this is no TOML"),
             ("empty.toml", b"", "tier: a stack has 1 to 10 of [[tier]], not 0"),
         ):
@@ -130,6 +155,8 @@ class InPlace(unittest.TestCase):
             ((path, "--write", ""), "need a file's name"),
             ((path, "--write", "-", "--svg", "-"), "standard output can be written only once"),
             ((path, "--svg", "-", "--json"), "standard output can be written only once"),
+            ((path, "--template"), "--template goes alone"),
+            (("--template", "--json"), "--template goes alone"),
         ):
             status, text, errors = lash(*words, output=B_ANSWER)
             self.assertEqual((status, text), (2, ""), words)
@@ -216,7 +243,8 @@ class Several(unittest.TestCase):
         b, pulled = self.folder / "box-b.toml", self.folder / "pulled-back.toml"
         for words in ((b, pulled), (self.folder,)):
             status, text, errors = self.lash(*words)
-            self.assertEqual((status, errors), (1, ""))
+            self.assertEqual((status, errors.count("\n")), (1, 1))
+            self.assertTrue(errors.startswith(f"lash: {pulled}: warning: lash 2 "), errors)
             first, second, last = text.splitlines()
             self.assertRegex(first, rf"^{b} +ACCEPTED +14\.8%  racking, door end, tier 1$")
             # Of the figures over their limits the tension of 299,402 N at a corner is the farthest: 119.761 % of 250,000 N.
@@ -225,8 +253,8 @@ class Several(unittest.TestCase):
 
     def test_the_worst_status(self):
         b, none = self.folder / "box-b.toml", self.folder / "none.toml"
-        status, text, errors = self.lash(b, none, self.folder / "pulled-back.toml", b)
-        self.assertEqual((status, errors), (2, ""))
+        status, text, _ = self.lash(b, none, self.folder / "pulled-back.toml", b)
+        self.assertEqual(status, 2)
         self.assertRegex(text, rf"(?m)^{none} +NOT CHECKED +-  cannot be read: No such file or directory$")
         self.assertTrue(text.endswith("4 stacks: 2 accepted, 1 not accepted, 1 not checked\n"))
         self.assertEqual(self.lash(b, b)[0], 0)
@@ -234,8 +262,8 @@ class Several(unittest.TestCase):
 
     def test_json_lines(self):
         none = self.folder / "none.toml"
-        status, text, errors = self.lash(self.folder, none, "--json")
-        self.assertEqual((status, errors), (2, ""))
+        status, text, _ = self.lash(self.folder, none, "--json")
+        self.assertEqual(status, 2)
         found = [json.loads(line) for line in text.splitlines()]
         self.assertEqual([each["status"] for each in found], [0, 1, 2])
         self.assertEqual([each["source"] for each in found][2], str(none))
@@ -335,7 +363,7 @@ class Process(unittest.TestCase):
         self.assertEqual((done.returncode, done.stdout, done.stderr), (3, "", message))
 
     def test_a_fault_of_the_tool(self):
-        done = self.python("import lashtool.report", "lashtool.report.table = lambda outcome: 1 // 0")
+        done = self.python("import lashtool.report", "lashtool.report.table = lambda *words: 1 // 0")
         message = "lash: a fault of the tool itself, and no verdict: ZeroDivisionError: integer division or modulo by zero\n"
         self.assertEqual((done.returncode, done.stdout, done.stderr), (3, "", message))
 
@@ -364,6 +392,24 @@ class Process(unittest.TestCase):
             self.assertTrue(errors.startswith("lash: the library cannot be loaded: "), errors)
             self.assertIn(message, errors)
             self.assertEqual(errors.count("\n"), 1)
+
+    def test_colours_on_a_terminal(self):
+        """And none against NO_COLOR; in a file there are none either way."""
+        words = [ROOT / "lash", EXAMPLES / "box-b.toml", "--library", self.library]
+        for more, coloured in (({"TERM": "xterm"}, True), ({"TERM": "xterm", "NO_COLOR": "1"}, False)):
+            reader, writer = os.openpty()
+            environment = {name: value for name, value in BUFFERED.items() if name != "NO_COLOR"}
+            process = subprocess.Popen(words, stdout=writer, env={**environment, **more})
+            os.close(writer)
+            text = b""
+            with contextlib.suppress(OSError):  # a terminal whose other side has gone ends so
+                while part := os.read(reader, 65_536):
+                    text += part
+            os.close(reader)
+            self.assertEqual(process.wait(), 0)
+            self.assertIn(b"ACCEPTED", text)
+            self.assertEqual(b"\x1b[36m" in text, coloured)
+        self.assertNotIn("\x1b", self.lash(EXAMPLES / "box-b.toml")[1])
 
     def test_help(self):
         status, text, _ = self.lash("--help")
