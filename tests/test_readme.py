@@ -64,9 +64,13 @@ class Readme(unittest.TestCase):
         for link in links:
             self.assertTrue((ROOT / link).exists(), link)
 
-    def test_the_statements_have_their_place(self):
-        self.assertEqual(README.count("<!-- statements -->\n"), 1)
-        self.assertIn("### What `check` says", README.split("<!-- statements -->")[1].split("<!-- /statements -->")[0])
+    def test_statements_stand_where_it_says(self):
+        files = re.findall(r"`(crates/\w+/specs/(?:inner/)?\w+)`", README)
+        self.assertGreater(len(files), 10)
+        for name in files:
+            self.assertTrue((ROOT / f"{name}.antt").is_file(), name)
+        crates = re.findall(r"^\| `(\w+)` \|", README.split("| crate | holds |")[1], re.M)
+        self.assertEqual(sorted(crates), sorted(path.name for path in (ROOT / "crates").iterdir()))
 
 
 if __name__ == "__main__":
