@@ -12,7 +12,7 @@ use Rattle.sheet.specs.Layout.{sheetOf}
 use Rattle.sheet.specs.Refusals.{refusal}
 use Rattle.sheet.proofs.Refusal.{sheet-taken}
 use Rattle.sheet.proofs.SheetLimits.{sheet-limits}
-use Rattle.sheet.proofs.Taken.{taken-fits}
+use Rattle.sheet.proofs.TakenSheets.{taken-fits}
 use Rattle.statics.specs.declared.LoadRule.{LoadRule}
 use Rattle.statics.specs.Loads.{Rule, classRule, StandsFor}
 use Rattle.statics.specs.Reported.{EndFigured}

@@ -12,7 +12,7 @@ use Rattle.sheet.specs.Refusals.{refusal}
 use Rattle.sheet.specs.Fits.{Fits}
 use Rattle.sheet.proofs.Numbers.{check-numbers}
 use Rattle.sheet.proofs.Refusal.{sheet-taken}
-use Rattle.sheet.proofs.Taken.{taken-fits}
+use Rattle.sheet.proofs.TakenSheets.{taken-fits}
 use Rattle.sheet.specs.Ends.{End, door, closed, lashesOf}
 use Rattle.statics.specs.Loads.{classRule}
 use Rattle.answer.specs.declared.Outcome.{Outcome}

@@ -23,7 +23,7 @@ use Rattle.sheet.specs.Ends.{door, tiersOf, lashesOf}
 use Rattle.statics.specs.Posts.{levelHeight, turning, moment, atMost, tension}
 use Rattle.statics.proofs.LashLength.{length-is}
 use Rattle.answer.specs.Limits.{safeLoad}
-use Rattle.answer.specs.Table.{boxB, rodS, rodOf, exposedBox, sheetWith, alone, pair, held, heldAbove, doorTiers, lowestLoad, Table}
+use Rattle.answer.specs.Table.{boxB, rodS, rodOf, exposedBox, sheetWith, alone, pair, lashed, lashedAbove, doorTiers, lowestLoad, Table}
 
 -- (a), (b)
 figure-a : lowestLoad alone ≈ nat 220725 /q nat 10
@@ -119,34 +119,34 @@ unfolding chainLash athwartPart pull recip
 stiff-rod tier zero h = rw (length-S tier) (record { cross = record { lt = tt } })
 stiff-rod tier (suc j) h = absurd (omega arith)
 
-stiff-d : S.Stiff (doorTiers held) (doorLashes held)
+stiff-d : S.Stiff (doorTiers lashed) (doorLashes lashed)
 unfolding chainTiers
 stiff-d = record { springs = springs; lashes = stiff-rod 1 }
   where
-    springs : (i : ℕ) → i < 1 → nat 0 ⊏ S.tierAt (doorTiers held) i .K
+    springs : (i : ℕ) → i < 1 → nat 0 ⊏ S.tierAt (doorTiers lashed) i .K
     springs zero h = record { cross = record { lt = tt } }
     springs (suc i) h = absurd (omega arith)
 
-stiff-e : S.Stiff (doorTiers heldAbove) (doorLashes heldAbove)
+stiff-e : S.Stiff (doorTiers lashedAbove) (doorLashes lashedAbove)
 unfolding chainTiers
 stiff-e = record { springs = springs; lashes = stiff-rod 2 }
   where
-    springs : (i : ℕ) → i < 2 → nat 0 ⊏ S.tierAt (doorTiers heldAbove) i .K
+    springs : (i : ℕ) → i < 2 → nat 0 ⊏ S.tierAt (doorTiers lashedAbove) i .K
     springs zero h = record { cross = record { lt = tt } }
     springs (suc zero) h = record { cross = record { lt = tt } }
     springs (suc (suc i)) h = absurd (omega arith)
 
-solved-d : shift (solved held) 1 ≈ nat 220725 /q nat 10 /q nat 10930
+solved-d : shift (solved lashed) 1 ≈ nat 220725 /q nat 10 /q nat 10930
 unfolding from solution shiftOf handedStiffness handedLoad shift sumq recip chainTiers load transverse weight wind
     chainLash athwartPart pull levelOf
 solved-d = rw (length-S 1) (record { cross = refl })
 
-solved-e : shift (solved heldAbove) 2 ≈ nat 2918475 /q nat 100 /q nat 18130
+solved-e : shift (solved lashedAbove) 2 ≈ nat 2918475 /q nat 100 /q nat 18130
 unfolding from solution shiftOf handedStiffness handedLoad shift sumq recip chainTiers load transverse weight wind
     chainLash athwartPart pull levelOf
 solved-e = rw (length-S 2) (record { cross = refl })
 
-racked-e : S.racking (doorTiers heldAbove) (solved heldAbove) 1 ⊏ nat 0
+racked-e : S.racking (doorTiers lashedAbove) (solved lashedAbove) 1 ⊏ nat 0
 unfolding from solution shiftOf handedStiffness handedLoad shift sumq recip chainTiers load transverse weight wind
     chainLash athwartPart pull levelOf
 racked-e = rw (length-S 2) (record { cross = record { lt = tt } })
@@ -159,11 +159,11 @@ table =
       b = figure-b;
       c-moment = figure-c-moment;
       c-tension = figure-c-tension;
-      d-one = one held stiff-d;
-      d = every-shift held stiff-d 1 (nat 220725 /q nat 10 /q nat 10930) solved-d;
-      e-one = one heldAbove stiff-e;
-      e-shift = every-shift heldAbove stiff-e 2 (nat 2918475 /q nat 100 /q nat 18130) solved-e;
-      e-racking = every-racking heldAbove stiff-e 1 (nat 0) racked-e;
+      d-one = one lashed stiff-d;
+      d = every-shift lashed stiff-d 1 (nat 220725 /q nat 10 /q nat 10930) solved-d;
+      e-one = one lashedAbove stiff-e;
+      e-shift = every-shift lashedAbove stiff-e 2 (nat 2918475 /q nat 100 /q nat 18130) solved-e;
+      e-racking = every-racking lashedAbove stiff-e 1 (nat 0) racked-e;
       f = figure-f;
       g = figure-g;
       h = length-S 1;

@@ -68,11 +68,11 @@ alone = sheetWith 0 (boxB ∷ []) []
 abbrev pub pair : Sheet
 pair = sheetWith 0 (boxB ∷ boxB ∷ []) []
 
-abbrev pub held : Sheet
-held = sheetWith 0 (boxB ∷ []) (rodS 1 ∷ [])
+abbrev pub lashed : Sheet
+lashed = sheetWith 0 (boxB ∷ []) (rodS 1 ∷ [])
 
-abbrev pub heldAbove : Sheet
-heldAbove = sheetWith 0 (boxB ∷ boxOf 2000 ∷ []) (rodS 2 ∷ [])
+abbrev pub lashedAbove : Sheet
+lashedAbove = sheetWith 0 (boxB ∷ boxOf 2000 ∷ []) (rodS 2 ∷ [])
 
 -- the tiers of a sheet's door end, each with its spring and its load Q
 abbrev pub doorTiers : Sheet → List S.Tier
@@ -88,11 +88,11 @@ pub record Table : Type 0 where
   pub b : lowestLoad pair ≈ nat 711225 /q nat 10
   pub c-moment : (Ds : List Frac) → moment (classRule alone) (tiersOf alone) (lashesOf door alone) Ds 0 ≈ nat 571898475 /q nat 10
   pub c-tension : (Ds : List Frac) → tension (classRule alone) (tiersOf alone) (lashesOf door alone) Ds 0 ≈ nat 0
-  pub d-one : OneSolution (classRule held) door held
-  pub d : (Ds : List Frac) → EndSolved (classRule held) door held Ds → S.shift Ds 1 ≈ nat 220725 /q nat 10 /q nat 10930
-  pub e-one : OneSolution (classRule heldAbove) door heldAbove
-  pub e-shift : (Ds : List Frac) → EndSolved (classRule heldAbove) door heldAbove Ds → S.shift Ds 2 ≈ nat 2918475 /q nat 100 /q nat 18130
-  pub e-racking : (Ds : List Frac) → EndSolved (classRule heldAbove) door heldAbove Ds → S.racking (doorTiers heldAbove) Ds 1 ⊏ nat 0
+  pub d-one : OneSolution (classRule lashed) door lashed
+  pub d : (Ds : List Frac) → EndSolved (classRule lashed) door lashed Ds → S.shift Ds 1 ≈ nat 220725 /q nat 10 /q nat 10930
+  pub e-one : OneSolution (classRule lashedAbove) door lashedAbove
+  pub e-shift : (Ds : List Frac) → EndSolved (classRule lashedAbove) door lashedAbove Ds → S.shift Ds 2 ≈ nat 2918475 /q nat 100 /q nat 18130
+  pub e-racking : (Ds : List Frac) → EndSolved (classRule lashedAbove) door lashedAbove Ds → S.racking (doorTiers lashedAbove) Ds 1 ⊏ nat 0
   pub f : safeLoad 1 490000 ≡ 293413
   pub g : safeLoad 1 500000 ≡ 299401
   pub h : lashLength (rodS 1) ≡ 3250

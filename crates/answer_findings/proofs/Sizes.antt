@@ -1,4 +1,4 @@
--- The size of a signed number of 32 bits: the number with its sign turned below zero, the number itself from zero on.
+-- The size of a signed number of 32 bits: the number with its sign reversed below zero, the number itself from zero on.
 use mathlib.Core.Path.{_≡_, refl, ap}
 use mathlib.Core.Bool.{true, false, true≢false}
 use Prim.Native.Nat.{ℕ, suc, _<_}
@@ -13,9 +13,9 @@ use mir.Val.{Fits, SFits}
 not-below : (n : ℕ) → n < 0 → ⊥
 not-below n h = omega arith
 
-pub turned : (z : ℤ) → ltZ z (pos 0) ≡ true → pos 0 -ℤ z ≡ pos (natAbs z)
-turned (pos n) e = absurd (not-below n (ltb-true n 0 e))
-turned (negsuc n) e = ap pos (zero-add (suc n))
+pub reversed : (z : ℤ) → ltZ z (pos 0) ≡ true → pos 0 -ℤ z ≡ pos (natAbs z)
+reversed (pos n) e = absurd (not-below n (ltb-true n 0 e))
+reversed (negsuc n) e = ap pos (zero-add (suc n))
 
 pub kept : (z : ℤ) → ltZ z (pos 0) ≡ false → z ≡ pos (natAbs z)
 kept (pos n) e = refl

@@ -1,4 +1,4 @@
-// The load on each level and half of the weight above it: the same for both ends. Scales are those of statics/specs/Fixed.
+// The load on each level and half of the weight above it: the same for both ends. Scales are those of statics/specs/inner/WholeNumbers.
 
 ghost use mathlib.Core.Path.{_≡_};
 ghost use Prim.Native.Nat.{ℕ, _+_, _*_, _-_, _/_, _<_, _≤_, _^_};

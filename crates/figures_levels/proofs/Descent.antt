@@ -15,7 +15,7 @@ use Rattle.springs.specs.Equations.{closedSpring}
 use Rattle.statics.specs.inner.WholeNumbers.{rackingPart, rackingFigure, momentPart, compressionFrom, tensionFrom}
 use Rattle.figures_levels.specs.inner.Levels.{total, LevelInputs, compressionAt, tensionAt, LevelsFigured}
 use Rattle.statics.proofs.Arrays.{Between, between-none, fill-below, fill-above, filled, peel, peeled-off}
-use Rattle.figures_levels.proofs.LevelLaws.{turned, racking-small}
+use Rattle.figures_levels.proofs.LevelLaws.{tier-moment-small, racking-small}
 
 -- sums over the levels from i on, of m
 pub total-peel : (v : List ℕ) (m i : ℕ) → i < m → m ≤ length v → total (drop i (take m v)) ≡ total (drop (suc i) (take m v)) + getD v i 0
@@ -169,7 +169,7 @@ module _ {n : ℕ} {k : List ℕ} {ts : List Tier} {d vmax vmin lee windward : L
 
         small : Small ((n - j) * most-turn) (pos h *ℤ p +ℤ moment)
         small =
-            let own = turned (m .heights j (s .within)) (part-small k d j (m .springs j (s .within)) (m .shifts)) in
+            let own = tier-moment-small (m .heights j (s .within)) (part-small k d j (m .springs j (s .within)) (m .shifts)) in
             rw (ep, eh) (small-weaken (small-add own (s .moment-small)) (omega (arith, s .within)))
 
     -- the same at the code's own index

@@ -55,11 +55,11 @@ figure-from (negsuc n) e = absurd (true≢false e)
 
 -- a moment, and what it adds to a post
 module _ {height : ℕ} {part : ℤ} (hh : height ≤ 2896) (hp : Small (2 ^ 45) part) where
-  pub turned : Small (2896 * 2 ^ 45) (pos height *ℤ part)
-  turned = small-mul (small-pos hh) hp
+  pub tier-moment-small : Small (2896 * 2 ^ 45) (pos height *ℤ part)
+  tier-moment-small = small-mul (small-pos hh) hp
 
   pub moment-small : {above : ℤ} → Small (2 ^ 60) above → Small (2 ^ 61) (pos height *ℤ part +ℤ above)
-  moment-small ha = small-weaken (small-add turned ha) (lit≤ tt)
+  moment-small ha = small-weaken (small-add tier-moment-small ha) (lit≤ tt)
 
 pub lean-small : {z : ℤ} → Small (2 ^ 61) z → Small (2 ^ 50) (quotZ z (pos postSpacing))
 lean-small s = small-quot postSpacing s (omega (arith, s .size))

@@ -53,14 +53,14 @@ pub put-of :
     at + 20 ≤ length before →
     copied ≡ take (length (take k text)) (take k text) ++ drop (length (take k text)) (midOf at (length before - at) before) →
     Put n at (at + k) before (putMid at (length before - at) before copied)
-put-of n at k text before copied small counts fewest spelled room held =
+put-of n at k text before copied small counts fewest spelled room stored =
     record {
       text = take k text;
       in-decimal = record { count = k; fewest = fewest; spelled = spelled };
       ends = ap (λ l. at + l) (counts .1);
       short = omega (arith, few);
-      held =
-          ap (putMid at (length before - at) before) (rw (take-length (take k text), ← counts .1) at held)
+      stored =
+          ap (putMid at (length before - at) before) (rw (take-length (take k text), ← counts .1) at stored)
           ∙ part-put before (take k text) at k (counts .1) (omega (arith, few));
     }
   where
@@ -73,9 +73,9 @@ counts-of n xs h = (h, sym (length-take-le n xs h))
 
 -- a number at the start of a buffer, a blank behind it, then a second number and a line end
 module _
-    (number second a b : ℕ) (xs held whole : List ℕ)
-    (first : Put number 0 a xs held) (inside : a < length held)
-    (next : Put second (a + 1) b (set held a 32) whole) (room : b < length whole)
+    (number second a b : ℕ) (xs stored whole : List ℕ)
+    (first : Put number 0 a xs stored) (inside : a < length stored)
+    (next : Put second (a + 1) b (set stored a 32) whole) (room : b < length whole)
   where
     abbrev left : List ℕ
     left = first .text
@@ -84,18 +84,18 @@ module _
     right = next .text
 
     abbrev behind : List ℕ
-    behind = drop b (set held a 32)
+    behind = drop b (set stored a 32)
 
-    blanked : take (a + 1) (set held a 32) ≡ left ++ (32 ∷ [])
+    blanked : take (a + 1) (set stored a 32) ≡ left ++ (32 ∷ [])
     blanked =
-        rw (add-one a, take-suc-set held a 32 inside)
-        (ap (λ l. l ++ (32 ∷ [])) (ap (take a) (first .held) ∙ take-at left (drop a xs) a (omega (arith, first .ends))))
+        rw (add-one a, take-suc-set stored a 32 inside)
+        (ap (λ l. l ++ (32 ∷ [])) (ap (take a) (first .stored) ∙ take-at left (drop a xs) a (omega (arith, first .ends))))
 
     ended : take (b + 1) (set whole b 10) ≡ left ++ (32 ∷ []) ++ right ++ (10 ∷ [])
     ended =
         rw (add-one b, take-suc-set whole b 10 room)
         (ap (λ l. l ++ (10 ∷ []))
-        (ap (take b) (next .held ∙ ap (λ l. l ++ right ++ behind) blanked)
+        (ap (take b) (next .stored ∙ ap (λ l. l ++ right ++ behind) blanked)
         ∙ take-at (left ++ (32 ∷ []) ++ right) behind b (simp length-append (omega (arith, first .ends, next .ends)))))
 
     pub line-of : Line number second (take (b + 1) (set whole b 10))

@@ -5,7 +5,7 @@ use Rattle.sheet.specs.declared.Reading.{Reading}
 use Rattle.sheet.specs.declared.Reading.the-variants.{Taken, Refused}
 use Rattle.sheet.specs.declared.Sheet.{Sheet}
 use Rattle.sheet.specs.Layout.{sheetOf}
-use Rattle.sheet.specs.Refusals.{refusal}
+use Rattle.sheet.specs.Refusals.{longestAnswer, refusal}
 use Rattle.statics.specs.Loads.{classRule}
 use Rattle.answer.specs.Checked.{AnswerTo}
 use Rattle.lashcheck.specs.Lines.{Line}
@@ -15,6 +15,6 @@ abbrev pub ReplyAs : Reading → ℕ → Sheet → List ℕ → Type 0
 ReplyAs (Refused number second) margin t bytes = Line number second bytes
 ReplyAs Taken margin t bytes = AnswerTo margin (classRule t) t bytes
 
--- for the sheet s; the program's answer buffer has 834 bytes
+-- for the sheet s; the program's answer buffer has room for the longest answer
 pub record Reply (margin : ℕ) (s bytes : List ℕ) : Type 0 where
-  pub holds : ReplyAs (refusal s 834) margin (sheetOf s) bytes
+  pub holds : ReplyAs (refusal s longestAnswer) margin (sheetOf s) bytes

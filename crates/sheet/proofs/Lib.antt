@@ -1,7 +1,7 @@
 -- Theorems for the reader and for the crates above.
 pub mod Limits
-pub mod Taken
-pub mod Levels
+pub mod TakenSheets
+pub mod FourALevel
 pub mod SheetLimits
 pub mod Refusal
 pub mod Routes

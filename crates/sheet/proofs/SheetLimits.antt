@@ -14,7 +14,7 @@ use Rattle.sheet.specs.Ends.{End, door, closed, tiersOf, lashesOf}
 use Rattle.sheet.specs.Fits.{tierAt, lashAt, EndFits, Fits}
 use Rattle.sheet.specs.inner.Limits.{TierFilled, LashLimits, EndLimits, SheetLimits}
 use Rattle.sheet.proofs.Limits.{tier-filled, lash-limits}
-use Rattle.sheet.proofs.Levels.{four-a-level}
+use Rattle.sheet.proofs.FourALevel.{four-a-level}
 
 -- an end
 module _ {n : ℕ} {lashes : List Lash} {count : ℕ} (f : EndFits n lashes count) where

@@ -14,7 +14,7 @@ use Rattle.sheet.specs.Fits.{Fits}
 use Rattle.sheet.proofs.Refusal.{decoded-sheet, sheet-refused, room-last}
 use Rattle.sheet.specs.Ends.{door, closed}
 use Rattle.sheet.proofs.SheetLimits.{sheet-limits}
-use Rattle.sheet.proofs.Taken.{decoded-fits}
+use Rattle.sheet.proofs.TakenSheets.{decoded-fits}
 use Rattle.statics.specs.declared.LoadRule.{LoadRule}
 use Rattle.statics.specs.declared.Figures.{Figures}
 use Rattle.statics.specs.Reported.{Fitting}

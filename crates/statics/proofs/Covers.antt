@@ -24,7 +24,7 @@ pub record Covers (b n : ℕ) (X : ℚ) : Type 0 where
   pub back : negℚ X ≤ℚ natℚ n
   pub close : natℚ n ≤ℚ X +ℚ natℚ b
 
--- in the report's words, of a force or of one turned round
+-- in the report's words, of a force or of one with its sign reversed
 module _ {b n : ℕ} (m : ℕ) (X : Frac) (less : b < m) where
   report : (Y : ℚ) → absℚ (mk X) ≤ℚ natℚ n → Y ≤ℚ absℚ (mk X) → natℚ n ≤ℚ Y +ℚ natℚ b → Reported m X n
   report Y h l c =

@@ -145,8 +145,8 @@ module _
     few-above : length (drop i ts) ≤ 10
     few-above = rw length-drop (omega (arith, limits .tiers, limits .few))
 
-    turned : Off (natℚ (length (drop i ts)) *ℚ tierError) (newtons (momentFound i)) (mk (M i))
-    turned =
+    moment-near : Off (natℚ (length (drop i ts)) *ℚ tierError) (newtons (momentFound i)) (mk (M i))
+    moment-near =
         rw (of-≈ (M i) (rackingMoment R (drop i ts) i) (moment-is rule e ts ls Ds (solved .solves) i))
         (moment-off k d R (drop i ts) i low (λ j m e l. racking-near m (omega (arith, inside j l))))
       where
@@ -165,7 +165,7 @@ module _
       lee-near =
           lee-off (length (drop i ts)) half (upwards leePart (counts i) d ls) (momentFound i)
           (weightAbove acceleration ts i) (M i) (verticals onLee (counts i) ls Ds)
-          few-above (weight-off acceleration ts i) turned
+          few-above (weight-off acceleration ts i) moment-near
           (verticals-off d Ds (near .far) lee-post (counts i) ls each (limits .ends e .few) shift-errors-small)
 
       windward-near :
@@ -175,7 +175,7 @@ module _
       windward-near =
           windward-off (length (drop i ts)) half (upwards windwardPart (counts i) d ls) (momentFound i)
           (weightAbove acceleration ts i) (M i) (verticals onWindward (counts i) ls Ds)
-          few-above (weight-off acceleration ts i) turned
+          few-above (weight-off acceleration ts i) moment-near
           (verticals-off d Ds (near .far) windward-post (counts i) ls each (limits .ends e .few) shift-errors-small)
 
     compressed : Reported 9 (compression rule ts ls Ds i) (compressionFigure k ts ls d i)

@@ -52,15 +52,15 @@ module _ (rule : Rule) (Ds : List Frac) where
       let own = transverse (rule .factor) t *q (foot +q rule .share *q nat (t .height)) +q wind t *q (foot +q half *q nat (t .height)) in
       ap (λ y. mk own +ℚ y) (turning-q (foot +q nat (t .height)) above)
 
-  turned : List Tier → ℕ → Lash → Frac
-  turned ts i l =
+  lash-moment : List Tier → ℕ → Lash → Frac
+  lash-moment ts i l =
       given (ltb i (levelOf l)) (athwartOf Ds l *q (nat (levelHeight ts (levelOf l)) -q nat (levelHeight ts i)))
 
   turned-q :
       (ts : List Tier) (i : ℕ) (l : Lash) →
-      mk (turned ts i l)
+      mk (lash-moment ts i l)
       ≡ givenℚ (ltb i (levelOf l)) (athwart l *ℚ (natℚ (levelHeight ts (levelOf l)) -ℚ natℚ (levelHeight ts i)))
-  unfolding turned athwart int _+ℚ_ _*ℚ_ negℚ
+  unfolding lash-moment athwart int _+ℚ_ _*ℚ_ negℚ
   turned-q ts i l =
       mk-given (ltb i (levelOf l)) (athwartOf Ds l *q (nat (levelHeight ts (levelOf l)) -q nat (levelHeight ts i)))
 
@@ -68,10 +68,10 @@ module _ (rule : Rule) (Ds : List Frac) where
       (ts : List Tier) (ls : List Lash) (i : ℕ) →
       mk (moment rule ts ls Ds i)
       ≡ turns F P athwart (mk (rule .share)) (mk half) (natℚ 0) (drop i ts) -ℚ turned-back F P athwart (mk (rule .share)) (mk half) ls ts i
-  unfolding moment turned-back turned int
+  unfolding moment turned-back lash-moment int
   moment-q ts ls i =
-      mk-sub (turning rule (nat 0) (drop i ts)) (sumq (turned ts i) ls)
-      ∙ ap₂ _-ℚ_ (turning-q (nat 0) (drop i ts)) (mk-sum (turned ts i) ls ∙ ap (λ f. sumℚ f ls) (fun-ext (turned-q ts i)))
+      mk-sub (turning rule (nat 0) (drop i ts)) (sumq (lash-moment ts i) ls)
+      ∙ ap₂ _-ℚ_ (turning-q (nat 0) (drop i ts)) (mk-sum (lash-moment ts i) ls ∙ ap (λ f. sumℚ f ls) (fun-ext (turned-q ts i)))
 
   load-q : (t : Tier) (above : List Tier) → mk (load rule t above) ≡ Q F P athwart (mk (rule .share)) (mk half) t above
   unfolding load Q F P _+ℚ_ _*ℚ_

@@ -79,10 +79,10 @@ windward-q W M C = refl
 module _
     (n w c : ℕ) (m : ℤ) (W M C : Frac) (few : n ≤ 10)
     (weighed : Off (newtons (pos 1)) (newtons (pos w)) (mk W /ℚ natℚ 2))
-    (turned : Off (natℚ n *ℚ tierError) (newtons m) (mk M))
+    (moment-near : Off (natℚ n *ℚ tierError) (newtons m) (mk M))
     (pulled : Off verticalsError (newtons (pos c)) (mk C)) where
   spaced : Off (recipℚ (natℚ 2259) *ℚ (natℚ n *ℚ tierError) +ℚ newtons (pos 1)) (newtons (quotZ m (pos 2259))) (mk M /ℚ natℚ 2259)
-  spaced = off-share (recip-nn (natℚ 2259)) (same-le (recipℚ (natℚ 2259))) turned (quot-off 2259 (lit≤ tt) m)
+  spaced = off-share (recip-nn (natℚ 2259)) (same-le (recipℚ (natℚ 2259))) moment-near (quot-off 2259 (lit≤ tt) m)
 
   room : sumError (natℚ n) ≤ℚ postError
   room =

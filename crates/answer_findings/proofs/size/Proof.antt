@@ -1,4 +1,4 @@
--- `answer_findings::size`: below zero the sign is turned, else the number stays.
+-- `answer_findings::size`: below zero the sign is reversed, else the number stays.
 use borrow.Author.Needs.{needs}
 use mathlib.Core.Path.{refl, sym, subst}
 use lib.Dec.{T}
@@ -8,7 +8,7 @@ use mir.Val.{Fits}
 use mir.Syntax.{w32, w64}
 use mir.ValLaws.{toZ-ofZ}
 use Rattle.arith.proofs.ByteLaws.{wide64}
-use Rattle.answer_findings.proofs.Sizes.{turned, kept, size-fits, size-sfits}
+use Rattle.answer_findings.proofs.Sizes.{reversed, kept, size-fits, size-sfits}
 use Rattle.answer_findings.proofs.size.Statement.{statement}
 use Rattle.answer_findings.proofs.size.Tie as tie
 
@@ -20,21 +20,21 @@ sub-result c =
     let x = c .before .args .x in
     let f = c .before .fits .x in
     let e = simp (toZ-ofZ w32 x f) at (c .if1 .taken) in
-    simp (toZ-ofZ w32 x f, toZ-ofZ w64 x (wide64 f), turned x e) (size-sfits x f)
+    simp (toZ-ofZ w32 x f, toZ-ofZ w64 x (wide64 f), reversed x e) (size-sfits x f)
 
 cast-result-2 : tie.Need-cast-result-2
 cast-result-2 c =
     let x = c .before .args .x in
     let f = c .before .fits .x in
     let e = simp (toZ-ofZ w32 x f) at (c .if1 .taken) in
-    simp (toZ-ofZ w32 x f, toZ-ofZ w64 x (wide64 f), turned x e, toZ-ofZ w64 (pos (natAbs x)) (size-sfits x f)) (tt, size-fits x f)
+    simp (toZ-ofZ w32 x f, toZ-ofZ w64 x (wide64 f), reversed x e, toZ-ofZ w64 (pos (natAbs x)) (size-sfits x f)) (tt, size-fits x f)
 
 returns : tie.Need-returns
 returns c =
     let x = c .before .args .x in
     let f = c .before .fits .x in
     let e = simp (toZ-ofZ w32 x f) at (c .if1 .taken) in
-    simp (toZ-ofZ w32 x f, toZ-ofZ w64 x (wide64 f), turned x e, toZ-ofZ w64 (pos (natAbs x)) (size-sfits x f)) refl
+    simp (toZ-ofZ w32 x f, toZ-ofZ w64 x (wide64 f), reversed x e, toZ-ofZ w64 (pos (natAbs x)) (size-sfits x f)) refl
 
 cast-result-3 : tie.Need-cast-result-3
 cast-result-3 c =

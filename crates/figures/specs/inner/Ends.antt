@@ -7,6 +7,7 @@ use Rattle.sheet.specs.inner.Limits.{atLevel, LashLimits}
 use Rattle.sheet.specs.Layout.{blankLash, blankTier}
 use Rattle.sheet.specs.declared.Tier.{Tier}
 use Rattle.sheet.specs.declared.Lash.{Lash}
+use Rattle.springs.specs.Equations.{doorSpring, closedSpring}
 use Rattle.statics.specs.declared.LoadRule.{LoadRule}
 use Rattle.statics.specs.inner.WholeNumbers.{halfWeight}
 use Rattle.statics.specs.inner.Computed.{loadsOf}
@@ -26,7 +27,7 @@ pub record Weighed (ts : List Tier) (vmax vmin : List ℕ) : Type 0 where
 -- an end may be worked: n tiers ts with springs k, m lashes ls, the loads ω on the levels, and half of the weights above them
 pub record Workable (n : ℕ) (k : List ℕ) (ts : List Tier) (m : ℕ) (ls : List Lash) (ω vmax vmin : List ℕ) : Type 0 where
   pub few : n ≤ 10
-  pub springs : (i : ℕ) → i < n → (3730 ≤ getD k i 0) × (getD k i 0 ≤ 15690)
+  pub springs : (i : ℕ) → i < n → (doorSpring ≤ getD k i 0) × (getD k i 0 ≤ closedSpring)
   pub heights : (i : ℕ) → i < n → getD ts i blankTier .height ≤ 2896
   pub few-lashes : m ≤ 8
   pub each : (j : ℕ) → j < length ls → LashLimits n (getD ls j blankLash)

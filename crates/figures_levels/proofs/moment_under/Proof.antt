@@ -4,7 +4,7 @@ use native.Mathlib.Omega.{arith}
 use lib.Dec.{lit<}
 use Rattle.arith.proofs.Sizes.{fits64}
 use Rattle.arith.proofs.Ceilings.{divisor}
-use Rattle.figures_levels.proofs.LevelLaws.{turned, moment-small}
+use Rattle.figures_levels.proofs.LevelLaws.{tier-moment-small, moment-small}
 use Rattle.figures_levels.proofs.Words.{held}
 use borrow.Author.Needs.{needs}
 use Rattle.figures_levels.proofs.moment_under.Statement.{statement}
@@ -17,19 +17,19 @@ mul-result : tie.Need-mul-result
 mul-result c =
     let a = c .args in
     rw (divisor (a .height) (omega arith), held (c .pre .1) (lit< tt))
-    (fits64 (turned (c .pre .2) (c .pre .1)) (lit< tt))
+    (fits64 (tier-moment-small (c .pre .2) (c .pre .1)) (lit< tt))
 
 add-result : tie.Need-add-result
 add-result c =
     let a = c .args in
-    let t = turned (c .pre .2) (c .pre .1) in
+    let t = tier-moment-small (c .pre .2) (c .pre .1) in
     let m = moment-small (c .pre .2) (c .pre .1) (c .pre .0) in
     simp (divisor (a .height) (omega arith), held (c .pre .1) (lit< tt), held t (lit< tt), held (c .pre .0) (lit< tt)) (fits64 m (lit< tt))
 
 returns : tie.Need-returns
 returns c =
     let a = c .args in
-    let t = turned (c .pre .2) (c .pre .1) in
+    let t = tier-moment-small (c .pre .2) (c .pre .1) in
     let m = moment-small (c .pre .2) (c .pre .1) (c .pre .0) in
     simp
     (divisor (a .height) (omega arith), held (c .pre .1) (lit< tt), held t (lit< tt), held (c .pre .0) (lit< tt), held m (lit< tt))

@@ -1,4 +1,4 @@
--- `figures_levels::tension_of`: the figure of the two sums with their signs turned.
+-- `figures_levels::tension_of`: the figure of the two sums with their signs reversed.
 use lib.Dec.{lit<, lit≤}
 use Rattle.arith.proofs.Sizes.{small-neg, small-weaken}
 use Rattle.figures_levels.proofs.Words.{held}

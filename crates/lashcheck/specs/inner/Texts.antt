@@ -18,4 +18,4 @@ pub record Put (n at behind : ℕ) (before after : List ℕ) : Type 0 where
   pub in-decimal : Decimal n text
   pub ends : behind ≡ at + length text
   pub short : length text ≤ 20
-  pub held : after ≡ take at before ++ text ++ drop behind before
+  pub stored : after ≡ take at before ++ text ++ drop behind before

@@ -1,5 +1,5 @@
 -- `sheet_fields::sheet_of`: what a sheet holds: the counts and lengths that its parts need follow from its being taken.
--- Steps: m where the closed end's lashes are counted, n where the door end's are, b where the tiers are, a at the start.
+-- Places: m where the closed end's lashes are counted, n where the door end's are, b where the tiers are, a at the start.
 use borrow.Author.Needs.{needs}
 use Rattle.sheet.specs.Layout.{sheetOf}
 use Rattle.sheet.proofs.Clear.{parts, head-there, few-tiers, tiers-there, few-lashes, lashes-there}

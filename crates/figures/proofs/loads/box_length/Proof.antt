@@ -1,3 +1,4 @@
+-- `figures::loads::box_length`, by the test of the size.
 use borrow.Author.Tests.{eq-eqb, ne-eqb}
 use lib.Dec.{lit≤}
 use Rattle.statics.specs.Loads.{boxLength}

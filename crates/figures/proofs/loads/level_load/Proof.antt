@@ -1,3 +1,4 @@
+-- `figures::loads::level_load`: the load between two tiers by the rule, within 2^46 units.
 use native.Mathlib.Nat.{lt-of-le-of-lt}
 use native.Mathlib.Omega.{arith}
 use lib.Dec.{lit<}

@@ -1,3 +1,4 @@
+-- `figures::loads::mass_by`: the product, within its range.
 use mathlib.Core.Path.{refl}
 use native.Mathlib.Nat.{mul-le-mul}
 use native.Mathlib.Omega.{arith}

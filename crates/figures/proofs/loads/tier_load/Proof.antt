@@ -1,3 +1,4 @@
+-- `figures::loads::tier_load`: mass × A_T and the wind, within their ranges.
 use mathlib.Core.Path.{refl}
 use native.Mathlib.Nat.{mul-le-mul}
 use native.Mathlib.Omega.{arith}

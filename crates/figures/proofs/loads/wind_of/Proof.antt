@@ -1,3 +1,4 @@
+-- `figures::loads::wind_of`, by the test of exposure.
 use native.Mathlib.Nat.{mul-le-mul}
 use native.Mathlib.Omega.{arith}
 use lib.Dec.{lit≤}
