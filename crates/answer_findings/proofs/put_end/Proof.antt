@@ -6,6 +6,28 @@ use borrow.Author.Needs.{needs}
 use Rattle.answer_findings.proofs.put_end.Statement.{statement}
 use Rattle.answer_findings.proofs.put_end.Tie as tie
 
+-- from each step to the one before it
+abbrev entered : tie.After-put-rackings → tie.Start
+entered c = c .before .before .before .before .before .before
+
+abbrev racked : tie.After-put-over → tie.After-put-rackings
+racked c = c .before .before .before .before .before .before .before
+
+abbrev pressed : tie.After-put-over2 → tie.After-put-over
+pressed c = c .before .before .before .before .before .before .before
+
+abbrev cornered : tie.After-put-over3 → tie.After-put-over2
+cornered c = c .before .before .before .before .before .before .before
+
+abbrev locked : tie.After-put-pulls → tie.After-put-over3
+locked c = c .before .before .before .before .before .before .before
+
+abbrev pulled : tie.After-put-over4 → tie.After-put-pulls
+pulled c = c .before .before .before .before .before .before .before
+
+abbrev raised : tie.After-put-over5 → tie.After-put-over4
+raised c = c .before .before .before .before .before .before .before
+
 put-rackings-requires : tie.Need-put-rackings-requires
 put-rackings-requires c κs = search needs
 
@@ -21,55 +43,55 @@ put-over-requires-3 c κs = search needs
 put-pulls-requires : tie.Need-put-pulls-requires
 put-pulls-requires c κs =
     let a4 = c .before .before .before .before .before .before in
-    let a3 = a4 .before .before .before .before .before .before .before in
-    let a2 = a3 .before .before .before .before .before .before .before in
-    let a1 = a2 .before .before .before .before .before .before .before in
-    let s = a1 .before .before .before .before .before .before in
+    let a3 = cornered a4 in
+    let a2 = pressed a3 in
+    let a1 = racked a2 in
+    let s = entered a1 in
     (omega arith, omega (arith, c .put-pulls-arg3 .given .0), omega arith)
 
 put-over-requires-4 : tie.Need-put-over-requires-4
 put-over-requires-4 c κs =
     let a5 = c .before .before .before .before .before .before in
-    let a4 = a5 .before .before .before .before .before .before .before in
-    let a3 = a4 .before .before .before .before .before .before .before in
-    let a2 = a3 .before .before .before .before .before .before .before in
-    let a1 = a2 .before .before .before .before .before .before .before in
-    let s = a1 .before .before .before .before .before .before in
+    let a4 = locked a5 in
+    let a3 = cornered a4 in
+    let a2 = pressed a3 in
+    let a1 = racked a2 in
+    let s = entered a1 in
     (omega arith, omega arith, omega (arith, c .put-over-arg12 .given .0), omega arith)
 
 put-over-requires-5 : tie.Need-put-over-requires-5
 put-over-requires-5 c κs =
     let a6 = c .before .before .before .before .before .before in
-    let a5 = a6 .before .before .before .before .before .before .before in
-    let a4 = a5 .before .before .before .before .before .before .before in
-    let a3 = a4 .before .before .before .before .before .before .before in
-    let a2 = a3 .before .before .before .before .before .before .before in
-    let a1 = a2 .before .before .before .before .before .before .before in
-    let s = a1 .before .before .before .before .before .before in
+    let a5 = pulled a6 in
+    let a4 = locked a5 in
+    let a3 = cornered a4 in
+    let a2 = pressed a3 in
+    let a1 = racked a2 in
+    let s = entered a1 in
     (omega arith, omega arith, omega (arith, c .put-over-arg15 .given .0), omega arith)
 
 same-length : tie.Need-same-length
 same-length c =
     let a7 = c .before .before in
-    let a6 = a7 .before .before .before .before .before .before .before in
-    let a5 = a6 .before .before .before .before .before .before .before in
-    let a4 = a5 .before .before .before .before .before .before .before in
-    let a3 = a4 .before .before .before .before .before .before .before in
-    let a2 = a3 .before .before .before .before .before .before .before in
-    let a1 = a2 .before .before .before .before .before .before .before in
+    let a6 = raised a7 in
+    let a5 = pulled a6 in
+    let a4 = locked a5 in
+    let a3 = cornered a4 in
+    let a2 = pressed a3 in
+    let a1 = racked a2 in
     omega arith
 
 returns : tie.Need-returns
 unfolding tierFindings lashFindings
 returns c =
     let a7 = c .before .before in
-    let a6 = a7 .before .before .before .before .before .before .before in
-    let a5 = a6 .before .before .before .before .before .before .before in
-    let a4 = a5 .before .before .before .before .before .before .before in
-    let a3 = a4 .before .before .before .before .before .before .before in
-    let a2 = a3 .before .before .before .before .before .before .before in
-    let a1 = a2 .before .before .before .before .before .before .before in
-    let s = a1 .before .before .before .before .before .before in
+    let a6 = raised a7 in
+    let a5 = pulled a6 in
+    let a4 = locked a5 in
+    let a3 = cornered a4 in
+    let a2 = pressed a3 in
+    let a1 = racked a2 in
+    let s = entered a1 in
     let tiers =
     then (then (then (a1 .put-rackings .ensures .0) (a2 .put-over .ensures .0)) (a3 .put-over2 .ensures .0)) (a4 .put-over3 .ensures .0) in
     let lashes = then (then (a5 .put-pulls .ensures .0) (a6 .put-over4 .ensures .0)) (a7 .put-over5 .ensures .0) in

@@ -9,6 +9,16 @@ use borrow.Author.Needs.{needs}
 use Rattle.stack_check.proofs.encode.write_answer.Statement.{statement}
 use Rattle.stack_check.proofs.encode.write_answer.Tie as tie
 
+-- from each step to the one before it: the findings' count, the closed end, the door end, the verdict
+abbrev closed : tie.After-write12 → tie.After-write-end2
+closed c = c .before .before .before .before
+
+abbrev door : tie.After-write-end2 → tie.After-write-end
+door c = c .before .before .before .before
+
+abbrev marked : tie.After-write-end → tie.After-write1
+marked c = c .before .before .before .before
+
 findings-of-requires : tie.Need-findings-of-requires
 findings-of-requires c κs = search needs
 
@@ -27,8 +37,8 @@ write-end-requires-2 c κs = search needs
 write1-requires-2 : tie.Need-write1-requires-2
 write1-requires-2 c κs =
     let b = c .before .before .before in
-    let a = b .before .before .before .before in
-    let w = a .before .before .before .before in
+    let a = door b in
+    let w = marked a in
     let g = w .before .before .before in
     (omega (arith, g .findings-of .ensures .1), omega (arith, g .findings-of .ensures .1))
 
@@ -38,27 +48,27 @@ add-first c = search needs
 mul-size : tie.Need-mul-size
 mul-size c =
     let d = c .before .before in
-    let b = d .before .before .before .before in
-    let a = b .before .before .before .before in
-    let w = a .before .before .before .before in
+    let b = closed d in
+    let a = door b in
+    let w = marked a in
     let g = w .before .before .before in
     omega (arith, g .findings-of .ensures .1)
 
 write-found-requires : tie.Need-write-found-requires
 write-found-requires c κs =
     let d = c .before .before .before .before .before .before in
-    let b = d .before .before .before .before in
-    let a = b .before .before .before .before in
-    let w = a .before .before .before .before in
+    let b = closed d in
+    let a = door b in
+    let w = marked a in
     let g = w .before .before .before in
     (omega (arith, g .findings-of .ensures .1, c .write-found-arg3 .given .0), omega (arith, g .findings-of .ensures .1))
 
 add-result : tie.Need-add-result
 add-result c =
     let d = c .before .before .before .before .before .before .before .before .before in
-    let b = d .before .before .before .before in
-    let a = b .before .before .before .before in
-    let w = a .before .before .before .before in
+    let b = closed d in
+    let a = door b in
+    let w = marked a in
     let g = w .before .before .before in
     omega (arith, g .findings-of .ensures .1)
 
@@ -69,9 +79,9 @@ returns : tie.Need-returns
 returns c =
     let v = c .before .before in
     let d = v .before .before .before .before .before .before .before in
-    let b = d .before .before .before .before in
-    let a = b .before .before .before .before in
-    let w = a .before .before .before .before in
+    let b = closed d in
+    let a = door b in
+    let w = marked a in
     let g = w .before .before .before in
     let s = g .before .before in
     let z = s .pre .0 in

@@ -8,6 +8,16 @@ use borrow.Author.Needs.{needs}
 use Rattle.stack_check.proofs.encode.write_end.Statement.{statement}
 use Rattle.stack_check.proofs.encode.write_end.Tie as tie
 
+-- from each step to the one before it
+abbrev entered : tie.After-write-rackings → tie.Start
+entered c = c .before .before .before .before .before .before
+
+abbrev racked : tie.After-write-figures → tie.After-write-rackings
+racked c = c .before .before .before .before .before .before .before
+
+abbrev pressed : tie.After-write-figures2 → tie.After-write-figures
+pressed c = c .before .before .before .before .before .before .before
+
 write-rackings-requires : tie.Need-write-rackings-requires
 write-rackings-requires c κs = search needs
 
@@ -16,21 +26,20 @@ add-write-figures c = search needs
 
 write-figures-requires : tie.Need-write-figures-requires
 write-figures-requires c κs =
-    let b = c .before .before .before .before .before .before .before .before .before .before .before .before in
+    let b = entered (c .before .before .before .before .before .before) in
     search (needs, fits-four (b .pre .3) F.compression)
 
 write-figures-requires-2 : tie.Need-write-figures-requires-2
 write-figures-requires-2 c κs =
-    let p = c .before .before .before .before .before .before .before in
-    let b = p .before .before .before .before .before .before .before .before .before .before .before .before in
+    let b = entered (racked (c .before .before .before .before .before .before)) in
     search (needs, fits-four (b .pre .3) F.tension)
 
 write-lashes-requires : tie.Need-write-lashes-requires
 write-lashes-requires c κs =
     let t = c .before .before .before .before .before .before .before .before .before .before in
-    let p = t .before .before .before .before .before .before .before in
-    let r = p .before .before .before .before .before .before .before in
-    let s = r .before .before .before .before .before .before in
+    let p = pressed t in
+    let r = racked p in
+    let s = entered r in
     let q = s .pre in
     let pulls = c .before .before .before .before .write-lashes-arg3 .given .0 in
     let athwarts = c .before .before .write-lashes-arg5 .given .0 in
@@ -53,8 +62,8 @@ unfolding endBytesOf
 returns c =
     let l = c .before .before in
     let t = l .before .before .before .before .before .before .before .before .before .before .before in
-    let p = t .before .before .before .before .before .before .before in
-    let r = p .before .before .before .before .before .before .before in (
+    let p = pressed t in
+    let r = racked p in (
       then (then (then (r .write-rackings .ensures .0) (p .write-figures .ensures .0)) (t .write-figures2 .ensures .0))
           (l .write-lashes .ensures .0),
       omega arith,
