@@ -4,7 +4,7 @@ from dataclasses import dataclass
 from random import Random
 
 from reference import samples
-from reference.sheet import CROSS, MOST_LASHES, MOST_TIERS, SIDE, TOP, Head, Sheet, pack, parse
+from sheets.sheet import CROSS, MOST_LASHES, MOST_TIERS, SIDE, TOP, Head, Sheet, pack, parse
 
 KIND_SHEETS = 400
 GROWTH_SHEETS = 100

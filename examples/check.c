@@ -1,17 +1,17 @@
 /* Checks the stack sheet in a file and says the result in words.
-   Exit status 0: accepted; 1: not accepted; 2: refused, or no sheet to read. */
+   Exit status 0: accepted; 1: not accepted; 2: refused, or no sheet to read.
+
+   cc examples/check.c target/staticlib/liblash.a -o check        after `rt staticlib lash`, in the repository's folder */
 #include "../include/lash_check.h"
 
 #include <errno.h>
+#include <inttypes.h>
 #include <stdio.h>
-#include <stdlib.h>
 #include <string.h>
 
 enum { ACCEPTED = 0, NOT_ACCEPTED = 1, NO_ANSWER = 2 };
-enum { DOOR, CLOSED, ENDS };
-enum { FORCE = 4, LASH_FORCES = 3 * FORCE, FINDING = 3 }; /* sizes in bytes */
 
-static const char *const end_names[ENDS] = {"door end", "closed end"};
+static const char *const end_names[] = {[LASH_DOOR] = "door end", [LASH_CLOSED] = "closed end"};
 
 /* By number: why a sheet is turned back, and what the second number is. */
 static const struct {
@@ -45,107 +45,69 @@ static const struct {
     [LASH_OVER_ATHWART] = {"athwart part", "lash", "its limit"},
 };
 
-/* The forces of one kind: the first one's bytes, the bytes from one to the next, how many, and the first one's index. */
-struct forces {
-    const uint8_t *bytes;
-    size_t step;
-    int count, first;
+/* A checked sheet: what lash_check returned and the answer's bytes. */
+struct checked {
+    uint64_t result;
+    uint8_t answer[LASH_ANSWER_SIZE];
 };
 
-struct end {
-    struct forces of[LASH_OVER_ATHWART + 1]; /* by kind of finding */
-};
-
-static long force_at(const uint8_t *p)
-{
-    uint32_t v = p[0] | (uint32_t)p[1] << 8 | (uint32_t)p[2] << 16 | (uint32_t)p[3] << 24;
-    return v < UINT32_C(1) << 31 ? (long)v : -(long)(UINT32_MAX - v) - 1;
-}
-
-static struct forces listed(const uint8_t **at, size_t step, int first)
-{
-    struct forces f = {*at + 1, step, **at, first};
-    *at = f.bytes + (size_t)f.count * step;
-    return f;
-}
-
-static struct forces lash_part(struct forces tensions, size_t part)
-{
-    tensions.bytes += part * FORCE;
-    return tensions;
-}
-
-/* Finds one end's forces in the answer and moves on behind them. */
-static struct end read_end(const uint8_t **at)
-{
-    struct end e;
-    e.of[LASH_OVER_RACKING] = listed(at, FORCE, 1);
-    e.of[LASH_OVER_COMPRESSION] = listed(at, FORCE, 0);
-    e.of[LASH_OVER_CORNER] = e.of[LASH_OVER_LOCK] = listed(at, FORCE, 0);
-    e.of[LASH_OVER_TENSION] = listed(at, LASH_FORCES, 0);
-    e.of[LASH_OVER_ATHWART] = lash_part(e.of[LASH_OVER_TENSION], 1);
-    e.of[LASH_OVER_VERTICAL] = lash_part(e.of[LASH_OVER_TENSION], 2);
-    return e;
-}
-
-static long force(const struct forces *f, int index) { return force_at(f->bytes + (size_t)(index - f->first) * f->step); }
+static int64_t size_of(int64_t force) { return force < 0 ? -force : force; }
 
 /* Which way a racking points; every other force has one way. */
-static const char *way(int kind, long force)
+static const char *way(unsigned kind, int64_t force)
 {
     return kind != LASH_OVER_RACKING || force == 0 ? "" : force > 0 ? " to leeward" : " to windward";
 }
 
-static void print_finding(const struct end *ends, const uint8_t *finding)
+static void print_finding(const struct checked *c, struct lash_found f)
 {
-    int end = finding[0], kind = finding[1], index = finding[2];
-    long v = force(&ends[end].of[kind], index);
-    printf("  %s, %s %d: %s %ld N%s is over %s\n", end_names[end], kinds[kind].place, index, kinds[kind].force, labs(v), way(kind, v),
-           kinds[kind].limit);
+    int64_t force = lash_found_force(c->result, c->answer, f);
+    printf("  %s, %s %u: %s %" PRId64 " N%s is over %s\n", end_names[f.end], kinds[f.kind].place, f.index, kinds[f.kind].force,
+           size_of(force), way(f.kind, force), kinds[f.kind].limit);
 }
 
-/* The largest force of a kind and where it stands, in words. */
-static const char *largest(const struct end *e, int kind, char *text, size_t size)
+/* The largest force of a kind at an end and where it stands, in words. */
+static const char *largest(const struct checked *c, unsigned end, unsigned kind, char *text, size_t size)
 {
-    const struct forces *f = &e->of[kind];
-    int most = f->first;
-    if (f->count == 0)
+    struct lash_found at = {end, kind, kind == LASH_OVER_RACKING ? 1 : 0}, most = at;
+    int64_t force, greatest = LASH_NONE;
+    for (; (force = lash_found_force(c->result, c->answer, at)) != LASH_NONE; at.index++)
+        if (greatest == LASH_NONE || size_of(force) > size_of(greatest)) {
+            greatest = force;
+            most = at;
+        }
+    if (greatest == LASH_NONE)
         return "-";
-    for (int i = f->first; i < f->first + f->count; i++)
-        if (labs(force(f, i)) > labs(force(f, most)))
-            most = i;
-    long v = force(f, most);
-    snprintf(text, size, "%ld N%s, %s %d", labs(v), way(kind, v), kinds[kind].place, most);
+    snprintf(text, size, "%" PRId64 " N%s, %s %u", size_of(greatest), way(kind, greatest), kinds[kind].place, most.index);
     return text;
 }
 
-static int print_answer(const uint8_t *answer)
+static int print_answer(const struct checked *c)
 {
-    static const int rows[] = {LASH_OVER_RACKING, LASH_OVER_COMPRESSION, LASH_OVER_CORNER,
-                               LASH_OVER_TENSION, LASH_OVER_ATHWART,     LASH_OVER_VERTICAL};
-    const uint8_t *at = answer + 1;
-    struct end ends[ENDS];
-    ends[DOOR] = read_end(&at);
-    ends[CLOSED] = read_end(&at);
-    int findings = *at++;
-    if (answer[0] == 0)
+    static const unsigned rows[] = {LASH_OVER_RACKING, LASH_OVER_COMPRESSION, LASH_OVER_CORNER,
+                                    LASH_OVER_TENSION, LASH_OVER_ATHWART,     LASH_OVER_VERTICAL};
+    unsigned findings = lash_findings(c->result, c->answer);
+    int accepted = lash_accepted(c->result, c->answer);
+    if (accepted)
         printf("accepted: no limit is exceeded\n");
     else
-        printf("not accepted: %d limit%s exceeded\n", findings, findings == 1 ? " is" : "s are");
-    for (int i = 0; i < findings; i++)
-        print_finding(ends, at + i * FINDING);
-    printf("%-18s%-34s%s\n", "largest", end_names[DOOR], end_names[CLOSED]);
+        printf("not accepted: %u limit%s exceeded\n", findings, findings == 1 ? " is" : "s are");
+    for (unsigned i = 0; i < findings; i++)
+        print_finding(c, lash_finding_of(c->result, c->answer, i));
+    printf("%-18s%-34s%s\n", "largest", end_names[LASH_DOOR], end_names[LASH_CLOSED]);
     for (size_t i = 0; i < sizeof rows / sizeof *rows; i++) {
         char door[64], closed[64];
-        printf("  %-16s%-34s%s\n", kinds[rows[i]].force, largest(&ends[DOOR], rows[i], door, sizeof door),
-               largest(&ends[CLOSED], rows[i], closed, sizeof closed));
+        printf("  %-16s%-34s%s\n", kinds[rows[i]].force, largest(c, LASH_DOOR, rows[i], door, sizeof door),
+               largest(c, LASH_CLOSED, rows[i], closed, sizeof closed));
     }
-    return answer[0] == 0 ? ACCEPTED : NOT_ACCEPTED;
+    return accepted ? ACCEPTED : NOT_ACCEPTED;
 }
 
-static int print_refusal(unsigned number, unsigned long long second)
+static int print_refusal(uint64_t result)
 {
-    printf("refused: number %u: %s; second number %llu: %s\n", number, refusals[number].reason, second, refusals[number].second);
+    unsigned number = lash_number_of(result);
+    printf("refused: number %u: %s; second number %" PRIu64 ": %s\n", number, refusals[number].reason, lash_second_of(result),
+           refusals[number].second);
     return NO_ANSWER;
 }
 
@@ -167,7 +129,8 @@ static int read_sheet(const char *path, uint8_t *sheet, size_t *length)
 
 int main(int argc, char **argv)
 {
-    uint8_t sheet[LASH_SHEET_SIZE + 1], answer[LASH_ANSWER_SIZE];
+    uint8_t sheet[LASH_SHEET_SIZE + 1];
+    struct checked c;
     size_t length;
     if (argc != 2) {
         fprintf(stderr, "usage: check SHEET, a file with the bytes of a stack sheet\n");
@@ -175,7 +138,6 @@ int main(int argc, char **argv)
     }
     if (!read_sheet(argv[1], sheet, &length))
         return NO_ANSWER;
-    uint64_t result = lash_check(sheet, length, answer, sizeof answer);
-    unsigned number = lash_number_of(result);
-    return number == LASH_TAKEN ? print_answer(answer) : print_refusal(number, lash_second_of(result));
+    c.result = lash_check(sheet, length, c.answer, sizeof c.answer);
+    return lash_number_of(c.result) == LASH_TAKEN ? print_answer(&c) : print_refusal(c.result);
 }

@@ -1,4 +1,9 @@
-/* The lashing check of a container stack: bytes of a stack sheet in, bytes of an answer sheet out. */
+/* The lashing check of a container stack: bytes of a stack sheet in, bytes of an answer sheet out. docs/SHEET.md has the layout
+   of both, byte by byte.
+
+   rt staticlib lash                                                      proves the check and writes target/staticlib/liblash.a
+   cc -Iinclude yours.c target/staticlib/liblash.a -o yours               a program over it, on x86-64 Linux
+   cc -shared -Wl,--whole-archive target/staticlib/liblash.a -Wl,--no-whole-archive -o liblash.so          a shared library of it */
 #ifndef LASH_CHECK_H
 #define LASH_CHECK_H
 
@@ -8,6 +13,14 @@
 #ifdef __cplusplus
 extern "C" {
 #endif
+
+/* The version of the header and of the library built beside it; the text is LASH_VERSION, as "0.1.0". */
+#define LASH_VERSION_MAJOR 0
+#define LASH_VERSION_MINOR 1
+#define LASH_VERSION_PATCH 0
+#define LASH_TEXT_(number) #number
+#define LASH_TEXT(number) LASH_TEXT_(number)
+#define LASH_VERSION LASH_TEXT(LASH_VERSION_MAJOR) "." LASH_TEXT(LASH_VERSION_MINOR) "." LASH_TEXT(LASH_VERSION_PATCH)
 
 /* The answer buffer must hold this many bytes, whatever the sheet; a shorter one is refused with LASH_ROOM. No answer is longer. */
 #define LASH_ANSWER_SIZE 834
@@ -24,7 +37,7 @@ enum lash_number {
     LASH_ROUTE = 4,       /* 1: route above 12 */
     LASH_LOCK = 5,        /* 2: lock material above 2, or its breaking load outside the limits */
     LASH_TIER_COUNT = 6,  /* 8: tier count 0 or above 10 */
-    LASH_TIER = 7,        /* offset of the tier: a field outside its codes or limits */
+    LASH_TIER = 7,        /* offset of the tier: a tier field outside its codes or limits */
     LASH_SIZE = 8,        /* offset of the tier: size differs from tier 1 */
     LASH_LASH_COUNT = 9,  /* offset of the count: lash count above 8 */
     LASH_LASH = 10,       /* offset of the lash: hook, kind, material or a measure outside codes or limits */
@@ -33,27 +46,148 @@ enum lash_number {
     LASH_ROOM = 13        /* 834: the answer buffer is under 834 bytes */
 };
 
-/* The answer: a verdict byte, 0 accepted or 1 not. Then each end, door end first: tier count, a racking per tier; level count, a
-   compression per level from 0; level count, a tension per level from 0; lash count, tension, athwart and vertical part per lash.
-   Last a count of findings, each three bytes: end (0 door, 1 closed), kind, index. Counts take one byte, forces four, least byte
-   first, in N; racking is signed (two's complement), above zero to leeward. */
+enum lash_end { LASH_DOOR = 0, LASH_CLOSED = 1 };
+
+/* Kinds of finding, and what the index of each is. */
 enum lash_finding {
-    LASH_OVER_RACKING = 1,     /* index: tier, from 1 */
-    LASH_OVER_COMPRESSION = 2, /* level */
+    LASH_OVER_RACKING = 1,     /* tier, from 1 */
+    LASH_OVER_COMPRESSION = 2, /* level: 0 is the deck, i the top of tier i */
     LASH_OVER_CORNER = 3,      /* level: tension over what a corner may bear */
     LASH_OVER_LOCK = 4,        /* level: tension over the lock's safe working load */
-    LASH_OVER_TENSION = 5,     /* lash, from 0: tension over its safe working load */
+    LASH_OVER_TENSION = 5,     /* lash, from 0 in the sheet's order: tension over its safe working load */
     LASH_OVER_VERTICAL = 6,    /* lash: vertical part */
     LASH_OVER_ATHWART = 7      /* lash: athwart part */
 };
 
-/* Checks a sheet. The first number is in the low 8 bits of what is returned, the second above them. The caller tests nothing first.
+/* Checks a sheet. The first number is in the low 8 bits of what is returned, the second above them. The caller tests nothing first:
+   no bytes, of any length, make the call read or write outside what it was lent, or run on.
    Taken: the answer stands at the start of the buffer and the bytes behind it are as they were. Refused: the buffer is as it was.
-   The sheet is only read. Neither pointer may be null, even with a length of 0, and the two buffers must not overlap. */
+   So a buffer that is used again holds the last stack's verdict after a refusal: ask lash_accepted, never the buffer alone.
+   The sheet is only read, and the two buffers must not overlap. Nothing is read or written through a pointer whose length is 0, but
+   what is proved holds for pointers that are not null; for an empty sheet hand over the address of any byte. */
 uint64_t lash_check(const uint8_t *sheet, size_t sheet_len, uint8_t *answer, size_t answer_len);
 
 static inline unsigned lash_number_of(uint64_t result) { return (unsigned)(result & 255); }
 static inline uint64_t lash_second_of(uint64_t result) { return result >> 8; }
+
+/* Readers of an answer. `result` is what lash_check returned for it. They read no byte behind the answer, and none at all after a
+   refusal. Forces are in N. */
+
+/* A force that the answer does not have: after a refusal, or at an end, tier, level or lash that there is not. It is above every
+   limit, so that such a slip shows. */
+#define LASH_NONE INT64_MAX
+
+struct lash_forces {
+    int64_t tension, athwart, vertical;
+};
+
+struct lash_found {
+    unsigned end, kind, index; /* kind 0: there is no such finding */
+};
+
+/* For the readers below: a byte of the answer, 0 behind its end. */
+static inline unsigned lash_byte(uint64_t result, const uint8_t *answer, size_t at)
+{
+    return lash_number_of(result) == LASH_TAKEN && at < lash_second_of(result) ? answer[at] : 0;
+}
+
+/* For the readers below: where the count of a list stands. An end has four lists: rackings, compressions, tensions, lashes. */
+static inline size_t lash_list(uint64_t result, const uint8_t *answer, unsigned end, unsigned list)
+{
+    size_t at = 1;
+    for (unsigned i = 0; i < 4 * end + list; i++)
+        at += 1 + (size_t)lash_byte(result, answer, at) * (i % 4 == 3 ? 12 : 4);
+    return at;
+}
+
+/* For the readers below: the force of a list at an index from 0, and of a lash the part. */
+static inline int64_t lash_force(uint64_t result, const uint8_t *answer, unsigned end, unsigned list, unsigned index, unsigned part)
+{
+    size_t at = end <= LASH_CLOSED ? lash_list(result, answer, end, list) : 0;
+    uint32_t force = 0;
+    if (at == 0 || index >= lash_byte(result, answer, at))
+        return LASH_NONE;
+    at += 1 + (list == 3 ? 12 * (size_t)index + 4 * part : 4 * (size_t)index);
+    if (at + 4 > lash_second_of(result))
+        return LASH_NONE;
+    for (unsigned i = 4; i > 0; i--)
+        force = force << 8 | lash_byte(result, answer, at + i - 1);
+    return list == 0 && force >> 31 ? (int64_t)force - (INT64_C(1) << 32) : (int64_t)force;
+}
+
+/* Whether the stack was checked and no limit is exceeded. */
+static inline int lash_accepted(uint64_t result, const uint8_t *answer)
+{
+    return lash_number_of(result) == LASH_TAKEN && lash_second_of(result) > 0 && answer[0] == 0;
+}
+
+static inline unsigned lash_tiers(uint64_t result, const uint8_t *answer) { return lash_byte(result, answer, 1); }
+
+static inline unsigned lash_lashes(uint64_t result, const uint8_t *answer, unsigned end)
+{
+    return end <= LASH_CLOSED ? lash_byte(result, answer, lash_list(result, answer, end, 3)) : 0;
+}
+
+/* Of a tier, from 1; above 0 to leeward. */
+static inline int64_t lash_racking(uint64_t result, const uint8_t *answer, unsigned end, unsigned tier)
+{
+    return lash_force(result, answer, end, 0, tier - 1, 0);
+}
+
+/* At a level, 0 to the tier count. */
+static inline int64_t lash_compression(uint64_t result, const uint8_t *answer, unsigned end, unsigned level)
+{
+    return lash_force(result, answer, end, 1, level, 0);
+}
+
+/* Of the posts at a level, 0 to the tier count - 1. */
+static inline int64_t lash_tension(uint64_t result, const uint8_t *answer, unsigned end, unsigned level)
+{
+    return lash_force(result, answer, end, 2, level, 0);
+}
+
+/* Of a lash, from 0 in the sheet's order. */
+static inline struct lash_forces lash_forces_of(uint64_t result, const uint8_t *answer, unsigned end, unsigned lash)
+{
+    struct lash_forces forces;
+    forces.tension = lash_force(result, answer, end, 3, lash, 0);
+    forces.athwart = lash_force(result, answer, end, 3, lash, 1);
+    forces.vertical = lash_force(result, answer, end, 3, lash, 2);
+    return forces;
+}
+
+static inline unsigned lash_findings(uint64_t result, const uint8_t *answer)
+{
+    return lash_byte(result, answer, lash_list(result, answer, 2, 0));
+}
+
+/* A finding, from 0. */
+static inline struct lash_found lash_finding_of(uint64_t result, const uint8_t *answer, unsigned index)
+{
+    struct lash_found found = {0, 0, 0};
+    size_t at = lash_list(result, answer, 2, 0) + 1 + 3 * (size_t)index;
+    if (index < lash_findings(result, answer) && at + 3 <= lash_second_of(result)) {
+        found.end = lash_byte(result, answer, at);
+        found.kind = lash_byte(result, answer, at + 1);
+        found.index = lash_byte(result, answer, at + 2);
+    }
+    return found;
+}
+
+/* The force that a finding names. */
+static inline int64_t lash_found_force(uint64_t result, const uint8_t *answer, struct lash_found found)
+{
+    switch (found.kind) {
+    case LASH_OVER_RACKING: return lash_racking(result, answer, found.end, found.index);
+    case LASH_OVER_COMPRESSION: return lash_compression(result, answer, found.end, found.index);
+    case LASH_OVER_CORNER:
+    case LASH_OVER_LOCK: return lash_tension(result, answer, found.end, found.index);
+    case LASH_OVER_TENSION: return lash_forces_of(result, answer, found.end, found.index).tension;
+    case LASH_OVER_VERTICAL: return lash_forces_of(result, answer, found.end, found.index).vertical;
+    case LASH_OVER_ATHWART: return lash_forces_of(result, answer, found.end, found.index).athwart;
+    default: return LASH_NONE;
+    }
+}
 
 #ifdef __cplusplus
 }

@@ -1,11 +1,15 @@
 """Reads a stack's description in TOML into a sheet."""
 
 import tomllib
+from codecs import BOM_UTF8, BOM_UTF16_BE, BOM_UTF16_LE
 from dataclasses import dataclass
 from difflib import get_close_matches
 
-from lashtool.fields import ENDS, HEAD_FIELDS, LASH_FIELDS, LOCK_FIELDS, TIER_FIELDS
-from reference.sheet import (
+from lashtool.fields import (
+    BOTH_ENDS, END_FIELD, ENDS, GEAR_FIELDS, HEAD_FIELDS, LASH_FIELDS, LOCK_FIELDS, MEANT, TIER_FIELDS,
+    lash_place,
+)
+from sheets.sheet import (
     HEIGHTS, MOST_LASHES, MOST_TIERS, Head, Lash, Sheet, Tier, sheet_order,
 )
 
@@ -19,6 +23,7 @@ class Description:
     title: str
     sheet: Sheet
     assumed: list  # what was not given and what it was taken as, in words
+    numbers: tuple  # of each end's lashes in the sheet's order: their place in the description, from 1
 
 
 TABLES = {"lock": dict, "box": dict, "gear": dict, "tier": list, "lash": list}
@@ -27,10 +32,9 @@ TOP_NAMES = ("title", *(field.name for field in HEAD_FIELDS), *TABLES)
 
 def describe(data):
     """The stack that the bytes of a description tell of."""
+    text = text_of(data)
     try:
-        table = tomllib.loads(data.decode())
-    except UnicodeDecodeError:
-        raise BadDescription("this is no text") from None
+        table = tomllib.loads(text)
     except ValueError as error:
         raise BadDescription(f"this is no TOML: {error}") from None
     except RecursionError:
@@ -40,8 +44,32 @@ def describe(data):
     reader = FieldReader()
     head = read_head(reader, table, sections["lock"])
     tiers = read_tiers(reader, sections["tier"], sections["box"])
-    door, closed = read_lashes(reader, sections["lash"], sections["gear"])
-    return Description(read_title(table), Sheet(head, tiers, door, closed), reader.assumed())
+    ends = read_lashes(reader, sections["lash"], sections["gear"], len(tiers))
+    door, closed = (tuple(lash for _, lash in end) for end in ends)
+    numbers = tuple(tuple(number for number, _ in end) for end in ends)
+    return Description(read_title(table), Sheet(head, tiers, door, closed), reader.assumed(), numbers)
+
+
+def text_of(data):
+    """A description's letters; a byte order mark of UTF-8, as some editors write it, is no part of them."""
+    if data.startswith((BOM_UTF16_LE, BOM_UTF16_BE)):
+        raise BadDescription("this is UTF-16; a description has to be saved as UTF-8")
+    data = data.removeprefix(BOM_UTF8)
+    try:
+        text = data.decode()
+    except UnicodeDecodeError as error:
+        where = place(data[: error.start].decode())
+        fault = f"byte 0x{data[error.start]:02x} in {where} is no UTF-8"
+        raise BadDescription(f"{fault}; a description has to be saved as UTF-8") from None
+    if "\0" in text:
+        where = place(text[: text.index("\0")])
+        raise BadDescription(f"a zero byte in {where}, as in UTF-16; a description has to be saved as UTF-8")
+    return text
+
+
+def place(before):
+    """The line and column that follow a text."""
+    return f"line {before.count(chr(10)) + 1}, column {len(before) - before.rfind(chr(10))}"
 
 
 def section(table, name):
@@ -65,9 +93,14 @@ def read_title(table):
 def check_names(where, table, names):
     for name in table:
         if name not in names:
-            close = get_close_matches(name, names, 1, 0.5)
-            hint = f'did you mean "{close[0]}"?' if close else f"known are {', '.join(names)}"
-            raise BadDescription(f"{where}: unknown field {shown(name)}; {hint}")
+            raise BadDescription(f"{where}: unknown field {shown(name)}; {hint(name, names)}")
+
+
+def hint(name, names):
+    """The field that was probably meant, or all that are known."""
+    meant = MEANT.get(name.lower())
+    close = [meant] if meant in names else get_close_matches(name, names, 1, 0.5)
+    return f'did you mean "{close[0]}"?' if close else f"known are {', '.join(names)}"
 
 
 def shown(value):
@@ -144,6 +177,8 @@ def read_tiers(reader, tables, box):
         check_names(where, table, names(TIER_FIELDS))
         tier = Tier(**reader.values("box", TIER_FIELDS, [(where, table), ("[box]", box)]))
         check_box(where, tier)
+        if tiers and tier.size != tiers[0].size:
+            raise BadDescription(f"{where}: size {tier.size} feet differs from tier 1, which has {tiers[0].size}")
         tiers.append(tier)
     return tuple(tiers)
 
@@ -158,27 +193,39 @@ def check_box(where, tier):
         raise BadDescription(f"{where}: A_Vmin {tier.a_vmin} is above A_Vmax {tier.a_vmax}")
 
 
-def read_lashes(reader, tables, gear):
-    """The lashes of both ends, put in sheet order."""
-    lash_names = names(LASH_FIELDS)
-    check_names("[gear]", gear, lash_names)
+def read_lashes(reader, tables, gear, tier_count):
+    """(number, lash) of both ends, put in sheet order."""
+    check_names("[gear]", gear, names(GEAR_FIELDS))
     ends = ([], [])
     for number, table in enumerate(tables, 1):
         where = f"lash {number}"
-        check_names(where, table, ("end", *lash_names))
-        lash = Lash(**reader.values("lash", LASH_FIELDS, [(where, table), ("[gear]", gear)]))
-        for end in read_ends(where, table):
-            ends[end].append(lash)
+        check_names(where, table, names(GEAR_FIELDS))
+        places = [(where, table), ("[gear]", gear)]
+        end = reader.value("lash", END_FIELD, places)
+        lash = Lash(**reader.values("lash", LASH_FIELDS, places))
+        check_hook(where, lash, tier_count)
+        for each in ENDS if end == BOTH_ENDS else [ENDS[end]]:
+            ends[ENDS.index(each)].append((number, lash))
     for name, lashes in zip(ENDS, ends):
         if len(lashes) > MOST_LASHES:
             raise BadDescription(f"lash: the {name} end has {len(lashes)}, at most {MOST_LASHES} are allowed")
-    return [tuple(sorted(lashes, key=sheet_order)) for lashes in ends]
+        check_places(name, lashes)
+    return [sorted(lashes, key=lambda pair: sheet_order(pair[1])) for lashes in ends]
 
 
-def read_ends(where, table):
-    value = table.get("end", "both")
-    if value == "both":
-        return range(len(ENDS))
-    if value not in ENDS:
-        raise BadDescription(f'{where}: end is {shown(value)}; it has to be "door", "closed" or "both"')
-    return [ENDS.index(value)]
+def check_hook(where, lash, tier_count):
+    if lash.tier > tier_count:
+        raise BadDescription(f"{where}: tier {lash.tier} is not in this stack of {tier_count} tiers")
+    if lash.level == 0:
+        raise BadDescription(f"{where}: hook is the bottom of tier 1, which stands on the deck")
+
+
+def check_places(end, lashes):
+    """Each corner takes one lash of a kind."""
+    taken = {}
+    for number, lash in lashes:
+        first = taken.setdefault(sheet_order(lash), number)
+        if first != number:
+            raise BadDescription(
+                f"lash {number}: given twice: {lash_place(lash)} at the {end} end is lash {first} already"
+            )

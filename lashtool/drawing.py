@@ -7,23 +7,21 @@ PAPER = "#ffffff"
 
 
 class Drawing:
-    """A page that shapes are put on."""
+    """A page that shapes are put on, as high as they need."""
 
-    def __init__(self, width, height, title):
-        size = {"width": str(round(width)), "height": str(round(height))}
+    def __init__(self, width, title):
+        self.width = round(width)
         self.root = ElementTree.Element(
             "svg",
             {
                 "xmlns": "http://www.w3.org/2000/svg",
-                "viewBox": f"0 0 {round(width)} {round(height)}",
                 "font-family": "Helvetica, Arial, 'DejaVu Sans', sans-serif",
                 "font-size": "12",
                 "role": "img",
-                **size,
             },
         )
         ElementTree.SubElement(self.root, "title").text = title
-        self.shape("rect", {**size, "fill": PAPER})
+        self.paper = self.shape("rect", {"fill": PAPER})
 
     def shape(self, tag, attributes, name=None):
         values = {key: f"{v:.1f}" if isinstance(v, float) else str(v) for key, v in attributes.items()}
@@ -53,6 +51,10 @@ class Drawing:
         points = f"{x:.1f},{y:.1f} {back:.1f},{y - 7:.1f} {back:.1f},{y + 7:.1f}"
         self.shape("polygon", {"points": points, "fill": fill})
 
-    def bytes(self):
+    def bytes(self, height):
+        """The page, cut at a height."""
+        size = {"width": str(self.width), "height": str(round(height))}
+        self.paper.attrib.update(size)
+        self.root.attrib.update(size, viewBox=f"0 0 {size['width']} {size['height']}")
         ElementTree.indent(self.root, " ")
         return ElementTree.tostring(self.root, "utf-8", xml_declaration=True) + b"\n"

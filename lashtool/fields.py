@@ -1,14 +1,15 @@
-"""The fields of a readable stack: their names, words, limits and what they are when not given."""
+"""The fields of a readable stack: their names, units, limits, meaning and what they are when not given."""
 
 from dataclasses import dataclass
 
-from reference.sheet import HEAD_LIMITS, HEIGHTS, LASH_LIMITS, MOST_TIERS, TIER_LIMITS
+from sheets.sheet import HEAD_LIMITS, HEIGHTS, LASH_LIMITS, MOST_TIERS, TIER_LIMITS
 
 
 @dataclass(frozen=True)
 class Field:
     name: str  # in a description
     attribute: str  # in a sheet's entry
+    meaning: str
     default: object = None  # none: it has to be given
     limits: tuple = None  # least and greatest
     choices: tuple = ()  # the only numbers allowed
@@ -21,56 +22,105 @@ class Field:
             return self.words[value] if value < len(self.words) else f"code {value}"
         return f"{value:,} {self.unit}".rstrip()
 
-    def allowed(self):
+    def range(self):
+        """The values allowed, without their unit."""
         if self.words:
             return " or ".join(f'"{word}"' for word in self.words)
         if self.choices:
-            return f"{' or '.join(f'{choice:,}' for choice in self.choices)} {self.unit}"
+            return " or ".join(f"{choice:,}" for choice in self.choices)
         least, greatest = self.limits
-        return f"{least:,} to {greatest:,} {self.unit}".rstrip()
+        return f"{least:,} to {greatest:,}"
+
+    def allowed(self):
+        return f"{self.range()} {self.unit}".rstrip()
 
 
 G = "thousandths of g"
 ALL_HEIGHTS = tuple(sorted({height for heights in HEIGHTS.values() for height in heights}))
+ENDS = ("door", "closed")
+BOTH_ENDS = len(ENDS)
 
 HEAD_FIELDS = (
-    Field("rule", "rule", 1, (0, 255)),
-    Field("route", "route", 0, HEAD_LIMITS["route"]),
+    Field("rule", "rule", "rule number", 1, choices=(1,)),
+    Field("route", "route", "route of CR 5.2.4(c); its factor reduces A_T", 0, HEAD_LIMITS["route"]),
 )
 LOCK_FIELDS = (
-    Field("material", "lock_material", 1, words=("ordinary steel", "higher strength", "nodular iron")),
-    Field("breaking_load", "lock_breaking", 500_000, HEAD_LIMITS["lock_breaking"], unit="N"),
+    Field("material", "lock_material", "of the locks: factor of safety 1.67 for higher strength, else 2", 1,
+          words=("ordinary steel", "higher strength", "nodular iron")),
+    Field("breaking_load", "lock_breaking", "of a lock", 500_000, HEAD_LIMITS["lock_breaking"], unit="N"),
 )
 TIER_FIELDS = (
-    Field("size", "size", 40, choices=tuple(HEIGHTS), unit="feet"),
-    Field("wind", "wind", 1, words=("sheltered", "exposed")),
-    Field("height", "height", 2591, choices=ALL_HEIGHTS, unit="mm"),
-    Field("mass", "mass", None, TIER_LIMITS["mass"], unit="kg"),
-    Field("A_T", "a_t", None, TIER_LIMITS["a_t"], unit=G),
-    Field("A_Vmax", "a_vmax", None, TIER_LIMITS["a_vmax"], unit=G),
-    Field("A_Vmin", "a_vmin", None, TIER_LIMITS["a_vmin"], unit=G),
+    Field("size", "size", "nominal length, the same in every tier", 40, choices=tuple(HEIGHTS), unit="feet"),
+    Field("wind", "wind", "whether the wind reaches the box's side", 1, words=("sheltered", "exposed")),
+    Field("height", "height", "outer height; 2,438 only at 20 feet, 2,896 only at 40", 2591,
+          choices=ALL_HEIGHTS, unit="mm"),
+    Field("mass", "mass", "gross mass of the box", None, TIER_LIMITS["mass"], unit="kg"),
+    Field("A_T", "a_t", "transverse acceleration, before the route's factor", None, TIER_LIMITS["a_t"], unit=G),
+    Field("A_Vmax", "a_vmax", "greatest vertical acceleration, for compression", None,
+          TIER_LIMITS["a_vmax"], unit=G),
+    Field("A_Vmin", "a_vmin", "least vertical acceleration, for tension; not above A_Vmax", None,
+          TIER_LIMITS["a_vmin"], unit=G),
 )
+END_FIELD = Field("end", "end", "end of the stack that the lash is at", BOTH_ENDS, words=(*ENDS, "both"))
 LASH_FIELDS = (
-    Field("tier", "tier", None, (1, MOST_TIERS)),
-    Field("hook", "hook", 0, words=("top", "bottom")),
-    Field("kind", "kind", 0, words=("cross", "side")),
-    Field("material", "material", 1, words=("ordinary rod", "higher strength rod", "wire", "chain")),
-    Field("LX", "lx", 0, LASH_LIMITS["lx"], unit="mm"),
-    Field("LY", "ly", None, LASH_LIMITS["ly"], unit="mm"),
-    Field("LZ", "lz", None, LASH_LIMITS["lz"], unit="mm"),
-    Field("area", "area", None, LASH_LIMITS["area"], unit="mm2"),
-    Field("modulus", "modulus", None, LASH_LIMITS["modulus"], unit="N/mm2"),
-    Field("breaking_load", "breaking", 490_000, LASH_LIMITS["breaking"], unit="N"),
+    Field("tier", "tier", "tier that the lash is hooked to", None, (1, MOST_TIERS)),
+    Field("hook", "hook", "which corner of that tier; not the bottom of tier 1", 0, words=("top", "bottom")),
+    Field("kind", "kind", "cross: from the lee corner across the end; side: from the windward one outward", 0,
+          words=("cross", "side")),
+    Field("material", "material", "factor of safety 1.67 for higher strength rods, else 2", 1,
+          words=("ordinary rod", "higher strength rod", "wire", "chain")),
+    Field("LX", "lx", "from foot to hook, fore and aft", 0, LASH_LIMITS["lx"], unit="mm"),
+    Field("LY", "ly", "from foot to hook, athwart", None, LASH_LIMITS["ly"], unit="mm"),
+    Field("LZ", "lz", "from foot to hook, upward", None, LASH_LIMITS["lz"], unit="mm"),
+    Field("area", "area", "cross-section", None, LASH_LIMITS["area"], unit="mm2"),
+    Field("modulus", "modulus", "modulus of elasticity of the whole lash with its tensioner", None,
+          LASH_LIMITS["modulus"], unit="N/mm2"),
+    Field("breaking_load", "breaking", "of the whole lash", 490_000, LASH_LIMITS["breaking"], unit="N"),
+)
+GEAR_FIELDS = (END_FIELD, *LASH_FIELDS)
+
+# As CR 5.2.4(c) and its Appendix 1 print them.
+ROUTES = (
+    "Unrestricted",
+    "Asia - Europe",
+    "Pacific - Atlantic",
+    "North Pacific",
+    "North Sea - Mediterranean",
+    "North Atlantic",
+    "Asia - South America (West Coast)",
+    "South America (East Coast) - Africa",
+    "Africa - East Asia",
+    "Europe - Africa",
+    "Europe - South America (Brazil)",
+    "North America (East Coast) - South America (Brazil)",
+    "Northeast Asia – Australia",
 )
 
-ENDS = ("door", "closed")
+# What is often written for a field, beside its misspellings.
+MEANT = {
+    "weight": "mass",
+    "gross": "mass",
+    "length": "size",
+    "corner": "hook",
+    "type": "kind",
+    "strength": "breaking_load",
+    "mbl": "breaking_load",
+    "mbs": "breaking_load",
+    "swl": "breaking_load",
+    "e": "modulus",
+    "youngs_modulus": "modulus",
+}
 
 
 def field(fields, attribute):
     return next(field for field in fields if field.attribute == attribute)
 
 
+def word(fields, entry, attribute):
+    """An entry's coded value as a person reads it."""
+    return field(fields, attribute).shown(getattr(entry, attribute))
+
+
 def lash_place(lash):
     """Where a lash is hooked and which way it runs, in words."""
-    hook = field(LASH_FIELDS, "hook").shown(lash.hook)
-    return f"tier {lash.tier} {hook} {field(LASH_FIELDS, 'kind').shown(lash.kind)}"
+    return f"tier {lash.tier} {word(LASH_FIELDS, lash, 'hook')} {word(LASH_FIELDS, lash, 'kind')}"

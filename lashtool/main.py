@@ -3,122 +3,171 @@
 import argparse
 import json
 import sys
+from collections import Counter
+from dataclasses import dataclass
 from pathlib import Path
 
-from lashtool import program, svg
+from lashlib.version import version
+from lashtool import report, svg
+from lashtool.checking import CheckFailed, library_check, outcome
+from lashtool.colour import wanted
+from lashtool.data import as_data
 from lashtool.description import BadDescription, describe
+from lashtool.ending import ACCEPTED, BAD_INPUT, FAILED, NOT_ACCEPTED, complain, reason, say
+from lashtool.figures import result
 from lashtool.refusals import explain
-from lashtool.report import as_data, result, table
-from reference.script import forget_output
-from reference.sheet import Refused, pack
+from lashtool.sources import STREAM, Source, misuse, read, several, sources
+from lashtool.template import template
+from lashtool.words import KIND_WORDS, warnings, where
+from sheets.sheet import Refused, pack
 
-ACCEPTED, NOT_ACCEPTED, BAD_INPUT, FAILED = range(4)
-LARGEST_FILE = 1_000_000
-
-HELP = "Checks the lashing of one container stack and prints its forces beside their limits."
+HELP = (
+    "Checks the lashing of a container stack and prints its forces beside their limits; of several stacks, "
+    "or of a folder of *.toml, a line each with the worst use of a limit."
+)
 STATUS_HELP = (
     "Exit status: 0 accepted, 1 not accepted, 2 refused or a bad description, "
-    "3 the check could not be built or run, or a file not be written."
+    "3 the check could not be built or run, or a file not be written; of several stacks the greatest."
 )
 
 
 def arguments(words):
-    parser = argparse.ArgumentParser("lash", description=HELP, epilog=STATUS_HELP)
-    source = parser.add_mutually_exclusive_group(required=True)
-    source.add_argument("stack", nargs="?", help="description of the stack in TOML; - for standard input")
-    source.add_argument("--sheet", metavar="FILE", help="take a stack sheet's bytes instead")
-    parser.add_argument("--write", metavar="FILE", help="store the sheet's bytes")
-    parser.add_argument("--svg", metavar="FILE", help="draw the stack with its forces")
-    parser.add_argument("--json", action="store_true", help="print the figures as JSON")
-    parser.add_argument("--program", type=Path, help=argparse.SUPPRESS)
-    return parser.parse_args(words)
+    parser = argparse.ArgumentParser("lash", description=HELP, epilog=STATUS_HELP, allow_abbrev=False)
+    parser.add_argument("stacks", nargs="*", metavar="STACK", help="a description in TOML, or a folder of them; - for standard input")
+    parser.add_argument("--sheet", metavar="FILE", help="take a stack sheet's bytes instead")
+    parser.add_argument("--write", metavar="FILE", help="store the sheet's bytes; - for standard output in place of the report")
+    parser.add_argument("--svg", metavar="FILE", help="draw the stack with its forces; - as above")
+    parser.add_argument("--json", action="store_true", help="print the figures as JSON; of several stacks one line each")
+    parser.add_argument("--template", action="store_true", help="print a commented description to start from")
+    parser.add_argument("--version", action="version", version=f"lash {version()}")
+    parser.add_argument("--library", type=Path, help=argparse.SUPPRESS)
+    options = parser.parse_args(words)
+    options.sources = sources(options)
+    fault = misuse(options)
+    if fault:
+        parser.error(fault)
+    return options
 
 
-def read(name):
-    """A file's bytes; no description or sheet comes near the largest size read."""
-    try:
-        if name == "-":
-            return sys.stdin.buffer.read(LARGEST_FILE)
-        with open(name, "rb") as file:
-            return file.read(LARGEST_FILE)
-    except (OSError, ValueError) as error:
-        raise BadDescription(f"cannot be read: {reason(error)}") from None
+# One stack
 
 
 def write(name, data):
     try:
         Path(name).write_bytes(data)
     except (OSError, ValueError) as error:
-        raise program.CheckFailed(f"{name}: cannot be written: {reason(error)}") from None
+        raise CheckFailed(f"{name}: cannot be written: {reason(error)}") from None
 
 
-def reason(error):
-    return getattr(error, "strerror", None) or str(error)
+def load(source):
+    """The sheet's bytes, and what a description says beside them: title, what was assumed, the lashes' numbers."""
+    if source.sheet:
+        return read(source), ("", [], None)
+    description = describe(read(source))
+    return pack(description.sheet), (description.title, description.assumed, description.numbers)
 
 
-def load(options):
-    """The title, the sheet's bytes and what was assumed."""
-    if options.sheet is not None:
-        return "", read(options.sheet), []
-    description = describe(read(options.stack))
-    return description.title, pack(description.sheet), description.assumed
-
-
-def checked(options, run):
-    """The report of a stack. Raises what stands against one."""
-    title, data, assumed = load(options)
-    if options.write:
-        write(options.write, data)
+def checked(source, check):
+    """The report of a stack and its sheet's bytes. Raises what stands against one."""
+    data, (title, assumed, numbers) = load(source)
     try:
-        sheet, answer = program.outcome(data, run(data))
+        sheet, answer = outcome(data, check(data))
     except Refused as refused:
         refused.meaning = explain(data, refused.number, refused.second)
         raise
-    return result(title, sheet, answer, assumed)
+    return result(title, sheet, answer, assumed, numbers), data
 
 
-def run_program(options):
-    """How a sheet is checked: by the built program, or by one that is named."""
-    return lambda data: program.run(options.program or program.built(), data)
+@dataclass(frozen=True)
+class Tried:
+    """What became of a stack."""
+
+    source: Source
+    status: int
+    report: object = None
+    data: bytes = b""
+    message: str = ""  # in words, if there is no report
+    numbers: dict = None  # of a refusal
+
+    def as_data(self):
+        """For JSON."""
+        head = {"version": version(), "source": str(self.source), "status": self.status}
+        if self.report:
+            return {**head, **as_data(self.report)}
+        return {**head, **({"refused": self.numbers} if self.numbers else {"error": self.message})}
 
 
-def main(words=None, run=None):
-    """The exit status. `run` gives a sheet's answer in place of the program."""
-    options = arguments(words)
-    source = options.stack if options.sheet is None else options.sheet
+def tried(source, check):
+    """A stack checked, with what stands against a report in words."""
     try:
-        outcome = checked(options, run or run_program(options))
-        if options.svg:
-            write(options.svg, svg.picture(outcome))
+        report, data = checked(source, check)
     except Refused as refused:
-        message = f"{source}: refused with {refused}: {refused.meaning}"
         numbers = {"number": refused.number, "second": refused.second, "meaning": refused.meaning}
-        return fail(options, BAD_INPUT, message, refused=numbers)
+        return Tried(source, BAD_INPUT, message=f"refused with {refused}: {refused.meaning}", numbers=numbers)
     except BadDescription as fault:
-        return fail(options, BAD_INPUT, f"{source}: {fault}", error=str(fault))
-    except program.CheckFailed as failure:
-        return fail(options, FAILED, str(failure), error=str(failure))
-    status = ACCEPTED if outcome.accepted else NOT_ACCEPTED
-    return say(json.dumps(as_data(outcome), indent=2) if options.json else table(outcome), status)
+        return Tried(source, BAD_INPUT, message=str(fault))
+    except CheckFailed as failure:
+        return Tried(source, FAILED, message=str(failure))
+    return Tried(source, ACCEPTED if report.accepted else NOT_ACCEPTED, report, data)
 
 
-def fail(options, status, message, **data):
-    """A message, and for scripts the same as data."""
-    print(f"lash: {message}", file=sys.stderr)
-    return say(json.dumps(data, indent=2), status) if options.json else status
+def one(options, check):
+    """A stack in full."""
+    stack = tried(options.sources[0], check)
+    if not stack.report:
+        complain(f"{stack.source}: {stack.message}")
+        return say(json.dumps(stack.as_data(), indent=2), stack.status) if options.json else stack.status
+    for warning in warnings(stack.report):
+        complain(f"{stack.source}: warning: {warning}")
+    printed = json.dumps(stack.as_data(), indent=2) if options.json else report.table(stack.report, wanted(sys.stdout))
+    for name, make in ((options.write, lambda: stack.data), (options.svg, lambda: svg.picture(stack.report))):
+        if name == STREAM:
+            printed = make()
+        elif name is not None:
+            write(name, make())
+    return say(printed, stack.status)
 
 
-def say(text, status):
-    """Prints a text and gives the status on; a reader that has gone is no fault."""
-    if sys.stdout is None:
-        return status
-    try:
-        sys.stdout.reconfigure(errors="replace")
-        print(text, flush=True)
-    except BrokenPipeError:
-        forget_output()
-    except OSError as error:
-        forget_output()
-        print(f"lash: the report cannot be written: {reason(error)}", file=sys.stderr)
-        return FAILED
+# Several stacks
+
+
+VERDICTS = {ACCEPTED: "accepted", NOT_ACCEPTED: "not accepted", BAD_INPUT: "not checked", FAILED: "failed"}
+
+
+def line(stack, width):
+    """A stack's verdict and its worst use of a limit, or why there is no verdict."""
+    words = f"{str(stack.source):{width}}  {VERDICTS[stack.status].upper():12}"
+    if not stack.report:
+        return f"{words} {'-':>9}  {' '.join(stack.message.split())}"
+    worst = stack.report.worst()
+    return f"{words} {worst.used_text:>9}  {KIND_WORDS[worst.kind]}, {where(stack.report, worst)}"
+
+
+def many(options, check):
+    """A line for each stack; the status is the greatest."""
+    counts, status = Counter(), ACCEPTED
+    width = max(len(str(source)) for source in options.sources)
+    for source in options.sources:
+        stack = tried(source, check)
+        for warning in warnings(stack.report) if stack.report else ():
+            complain(f"{source}: warning: {warning}")
+        counts[stack.status] += 1
+        status = max(status, say(json.dumps(stack.as_data()) if options.json else line(stack, width), stack.status))
+    if not options.json:
+        words = ", ".join(f"{count} {VERDICTS[each]}" for each, count in sorted(counts.items()))
+        status = max(status, say(f"{counts.total()} stacks: {words}", status))
     return status
+
+
+def main(words=None, check=None):
+    """The exit status. `check` gives a sheet's reply in place of the library."""
+    options = arguments(words)
+    if options.template:
+        return say(template().rstrip(), ACCEPTED)
+    try:
+        check = check or library_check(options.library)
+        return many(options, check) if several(options) else one(options, check)
+    except CheckFailed as failure:
+        complain(str(failure))
+        data = {"version": version(), "status": FAILED, "error": str(failure)}
+        return say(json.dumps(data, indent=2), FAILED) if options.json else FAILED

@@ -3,9 +3,9 @@
 from lashtool.fields import (
     ENDS, HEAD_FIELDS, LASH_FIELDS, LOCK_FIELDS, TIER_FIELDS, field, lash_place,
 )
-from reference.sheet import (
+from sheets.sheet import (
     HEAD, HEAD_LIMITS, HEIGHTS, LASH, MOST_LASHES, MOST_TIERS, TIER, Head, Lash, Refused, Tier,
-    lash_faults, outside, parse, tier_faults,
+    lash_faults, outside, parse, sheet_order, tier_faults,
 )
 
 
@@ -21,7 +21,7 @@ def items(data):
         yield place, 1, f"the {end} end's lash count"
         count = count_at(data, place)
         place += 1
-        for number in range(count):
+        for number in range(1, count + 1):
             yield place, LASH.size, f"{end} end, lash {number}"
             place += LASH.size
 
@@ -96,12 +96,12 @@ def entry_explained(layout, kind, sentence):
     def explanation(data, second):
         place, size, name = item_at(data, second)
         entry = kind(*layout.unpack_from(data, second))
-        return f"{name} ({bytes_of(place, size)}): {sentence(data, entry)}"
+        return f"{name} ({bytes_of(place, size)}): {sentence(data, entry, place)}"
 
     return explanation
 
 
-def tier_fields(data, tier):
+def tier_fields(data, tier, place):
     return ", ".join(tier_fault(tier, attribute) for attribute in tier_faults(tier))
 
 
@@ -116,7 +116,7 @@ def tier_fault(tier, attribute):
     return out_of_range(tier, TIER_FIELDS, attribute)
 
 
-def other_size(data, tier):
+def other_size(data, tier, place):
     first = Tier(*TIER.unpack_from(data, HEAD.size + 1))
     return f"size {tier.size} feet differs from tier 1, which has {first.size}"
 
@@ -126,19 +126,22 @@ def too_many_lashes(data, second):
     return f"{name} (byte {second}) is {data[second]}; at most {MOST_LASHES} are allowed"
 
 
-def lash_fields(data, lash):
+def lash_fields(data, lash, place):
     return ", ".join(out_of_range(lash, LASH_FIELDS, attribute) for attribute in lash_faults(lash))
 
 
-def misplaced(data, lash):
+def misplaced(data, lash, place):
     if 1 <= lash.tier <= data[HEAD.size]:
         return "it is hooked to the bottom corner of tier 1, which stands on the deck"
     return f"tier {lash.tier} is not in this stack of {data[HEAD.size]} tiers"
 
 
-def out_of_order(data, lash):
-    due = "lashes go by tier, then hook, then kind, each place once"
-    return f"{lash_place(lash)} is not later than the lash before it; {due}"
+def out_of_order(data, lash, place):
+    before = Lash(*LASH.unpack_from(data, place - LASH.size))
+    if sheet_order(before) == sheet_order(lash):
+        return f"{lash_place(lash)} is given twice, here and right before"
+    due = "lashes go by tier, then hook (top first), then kind (cross first)"
+    return f"{lash_place(lash)} comes after {lash_place(before)}; {due}"
 
 
 EXPLANATIONS = {

@@ -1,266 +1,209 @@
-"""The figures of an answer beside their limits: as a table, in words and for scripts."""
+"""The printout: the verdict, what decides it, what was checked and every figure beside its limit."""
 
 from dataclasses import dataclass
-from math import ceil
+from textwrap import wrap
 
-from lashtool.fields import ENDS, LOCK_FIELDS, field, lash_place
-from reference.stack import (
-    COMPRESSION, CORNER, LASH_ATHWART, LASH_TENSION, LASH_VERTICAL, LOCK, RACKING, ROUTE_PERCENT,
-    checks, safe_working_load,
+from lashtool.colour import bar, painted
+from lashtool.fields import ENDS, LASH_FIELDS, TIER_FIELDS, lash_place, word
+from lashtool.figures import CALM, LASH_KINDS, OVER, greatest
+from lashtool.geometry import foot_height, lash_length
+from lashtool.words import (
+    KIND_WORDS, NOT_CHECKED, PAD_WORDS, assumed_words, ends_words, force_words, lock_words, route_words,
+    stack_words, stiffness_words, verdict_words, warnings, way_words, where, worst_words,
+)
+from sheets.limits import (
+    COMPRESSION, COMPRESSION_LIMIT, CORNER, CORNER_LIMIT, LASH_ATHWART_LIMIT, LASH_VERTICAL_LIMIT, LOCK, RACKING,
+    RACKING_LIMIT,
 )
 
-KIND_WORDS = {
-    RACKING: "racking",
-    COMPRESSION: "compression",
-    CORNER: "corner tension",
-    LOCK: "lock tension",
-    LASH_TENSION: "lash tension",
-    LASH_VERTICAL: "lash vertical part",
-    LASH_ATHWART: "lash athwart part",
-}
-PLACE_WORDS = {
-    **dict.fromkeys((RACKING,), "tier"),
-    **dict.fromkeys((COMPRESSION, CORNER, LOCK), "level"),
-    **dict.fromkeys((LASH_TENSION, LASH_VERTICAL, LASH_ATHWART), "lash"),
-}
+WIDTH = 110
 
 
 @dataclass(frozen=True)
-class Figure:
-    """A reported force; the limit is none where the force is only reported."""
+class Cell:
+    """A text of a figure, coloured by how much of its limit the figure uses."""
 
-    end: int
-    kind: int
-    index: int
-    force: int
-    limit: int
-    over: bool  # the check found it so
-
-    @property
-    def used(self):
-        """The share of the limit used in percent, rounded up to a tenth; none without a limit."""
-        return ceil(abs(self.force) * 1000 / self.limit) / 10 if self.limit else None
-
-    @property
-    def used_share(self):
-        if self.used is None:
-            return "-"
-        return f"{self.used:,.1f}%" if self.used < 1000 else f"{ceil(self.used):,}%"
-
-    @property
-    def used_text(self):
-        return f"{self.used_share} !" if self.over else f"{self.used_share}  "
-
-    @property
-    def limit_text(self):
-        return "-" if self.limit is None else f"{self.limit:,}"
+    text: str
+    state: str
 
 
-@dataclass(frozen=True)
-class Result:
-    """A taken sheet with its answer."""
-
-    title: str
-    sheet: object
-    answer: object
-    assumed: list
-    figures: dict  # Figure by (end, kind, index)
-
-    @property
-    def accepted(self):
-        return self.answer.verdict == 0
-
-    def figure(self, end, kind, index):
-        return self.figures[end, kind, index]
-
-    def findings(self):
-        return [self.figures[place] for place in self.answer.findings]
-
-    def lash(self, end, index):
-        return self.sheet.lashes(end)[index]
-
-
-def result(title, sheet, answer, assumed):
-    return Result(title, sheet, answer, assumed, figures(sheet, answer))
-
-
-def figures(sheet, answer):
-    """Every reported force beside its limit."""
-    limits = {(c.end, c.kind, c.index): c.limit for c in checks(sheet, answer.ends)}
-    found = {}
-    for end, forces in enumerate(answer.ends):
-        lists = {
-            RACKING: dict(enumerate(forces.racking, 1)),
-            COMPRESSION: dict(enumerate(forces.compression)),
-            CORNER: dict(enumerate(forces.tension)),
-            LOCK: dict(enumerate(forces.tension)),
-            LASH_TENSION: dict(enumerate(lash.tension for lash in forces.lashes)),
-            LASH_VERTICAL: dict(enumerate(lash.vertical for lash in forces.lashes)),
-            LASH_ATHWART: dict(enumerate(lash.athwart for lash in forces.lashes)),
-        }
-        for kind, by_index in lists.items():
-            for index, force in by_index.items():
-                place = (end, kind, index)
-                over = place in answer.findings
-                found[place] = Figure(*place, force, limits.get(place), over)
-    return found
-
-
-# In words
-
-
-def place_words(outcome, figure):
-    word = f"{ENDS[figure.end]} end, {PLACE_WORDS[figure.kind]} {figure.index}"
-    if PLACE_WORDS[figure.kind] == "lash":
-        word += f" ({lash_place(outcome.lash(figure.end, figure.index))})"
-    return word
-
-
-def finding_words(outcome, figure):
-    force = f"{KIND_WORDS[figure.kind]} {abs(figure.force):,} N"
-    if figure.kind == RACKING:
-        force += " to leeward" if figure.force > 0 else " to windward"
-    safe = figure.kind in (LOCK, LASH_TENSION)
-    limit = f"the safe working load of {figure.limit:,} N" if safe else f"{figure.limit:,} N"
-    return f"{place_words(outcome, figure)}: {force} exceeds {limit}"
-
-
-def counted(number, word):
-    return f"{number} {word}" if number == 1 else f"{number} {word}s"
-
-
-def stack_words(sheet):
-    mass = sum(tier.mass for tier in sheet.tiers)
-    return f"{counted(len(sheet.tiers), 'tier')} of {sheet.tiers[0].size} feet, {mass:,} kg"
-
-
-def verdict_words(outcome):
-    if outcome.accepted:
-        return "ACCEPTED"
-    return f"NOT ACCEPTED: {counted(len(outcome.answer.findings), 'finding')}"
-
-
-def heading(outcome):
-    """The stack in two or three lines."""
-    sheet = outcome.sheet
-    head = sheet.head
-    lock = field(LOCK_FIELDS, "lock_material").shown(head.lock_material)
-    safe = safe_working_load(head.lock_breaking, head.lock_material)
-    yield (
-        f"{stack_words(sheet)}; "
-        f"route {head.route} (factor {ROUTE_PERCENT[head.route] / 100:.2f}); "
-        f"lock {lock}, safe working load {safe:,} N"
-    )
-    if outcome.assumed:
-        yield f"not given and taken as: {'; '.join(outcome.assumed)}"
-
-
-# Table
-
-
-def table(outcome):
+def table(outcome, colour=False):
     """The whole report."""
-    lines = [outcome.title] if outcome.title else []
-    lines += heading(outcome)
-    for end in range(len(ENDS)):
-        lines += ["", f"{ENDS[end].upper()} END", *tier_lines(outcome, end), *level_lines(outcome, end)]
-        lines += lash_lines(outcome, end)
-    lines.append("")
-    found = outcome.findings()
-    if found:
-        lines += ["FINDINGS", *(f"  {finding_words(outcome, figure)}" for figure in found), ""]
-    lines.append(verdict_words(outcome))
-    return "\n".join(lines)
+    sections = [
+        summary(outcome, colour),
+        findings(outcome),
+        bulleted("WARNINGS", warnings(outcome)),
+        checked(outcome),
+        *(end_lines(outcome, end, colour) for end in range(len(ENDS))),
+        notes(outcome),
+        [painted(verdict_words(outcome), verdict_state(outcome), colour)],
+    ]
+    return "\n\n".join("\n".join(lines) for lines in sections if lines)
 
 
-def cells(figure):
-    """Force, limit and share of one figure, in columns."""
-    return f" {figure.force:>11,}{limit_cells(figure)}"
+def verdict_state(outcome):
+    return CALM if outcome.accepted else OVER
 
 
-def limit_cells(figure):
-    return f" {figure.limit_text:>10} {figure.used_text:>10}"
+def summary(outcome, colour):
+    worst = outcome.worst()
+    return [
+        *([outcome.title] if outcome.title else []),
+        painted(verdict_words(outcome), verdict_state(outcome), colour),
+        f"worst use of a limit: {painted(bar(worst), worst.state, colour)} {worst_words(outcome)}",
+    ]
 
 
-def title_cells(force):
-    return f" {force:>11}{limit_titles()}"
+def findings(outcome):
+    """The findings by kind, each where it stands."""
+    lines = []
+    for kind, name in KIND_WORDS.items():
+        found = [figure for figure in outcome.findings() if figure.kind == kind]
+        if found:
+            lines.append(f"  {name}")
+        for figure in found:
+            share = f"{figure.used_text} of {figure.limit:,} N" if figure.limit else "nothing is allowed"
+            lines.append(f"    {where(outcome, figure)}: {force_words(figure)}, {share}")
+    return ["FINDINGS", *lines] if lines else []
 
 
-def limit_titles(limit="limit"):
-    return f" {limit:>10} {'used':>8}  "
+def bulleted(title, texts):
+    lines = [line for text in texts for line in folded(text)]
+    return [title, *lines] if lines else []
 
 
-def tier_lines(outcome, end):
-    yield f"  {'tier':6}{title_cells('racking, N')}".rstrip()
+def folded(text):
+    """A sentence in lines of the page's width."""
+    return wrap(text, WIDTH, initial_indent="  ", subsequent_indent="    ")
+
+
+def checked(outcome):
+    """What was checked, as the check read it."""
+    sheet = outcome.sheet
+    words = (
+        stack_words(sheet), route_words(sheet.head), lock_words(sheet.head), stiffness_words(), assumed_words(outcome),
+    )
+    return [
+        *bulleted("CHECKED", [line for line in words if line]),
+        "",
+        *aligned(tier_rows(sheet), {0, 3}),
+        "",
+        *(aligned(lash_rows(outcome), {0, 1, 2, 9}) if outcome.listed() else ["  no lashes"]),
+    ]
+
+
+def tier_rows(sheet):
+    yield ("tier", "height, mm", "mass, kg", "wind", "A_T, g", "A_Vmax, g", "A_Vmin, g")
+    for number, tier in enumerate(sheet.tiers, 1):
+        accelerations = (f"{value / 1000:.3f}" for value in (tier.a_t, tier.a_vmax, tier.a_vmin))
+        wind = word(TIER_FIELDS, tier, "wind")
+        yield (str(number), f"{tier.height:,}", f"{tier.mass:,}", wind, *accelerations)
+
+
+def lash_rows(outcome):
+    yield ("lash", "end", "hooked at", "LX", "LY", "LZ", "length", "foot at", "area", "material", "modulus", "breaks at")
+    yield ("", "", "", "mm", "mm", "mm", "mm", "mm", "mm2", "", "N/mm2", "N")
+    for row in outcome.listed():
+        lash = row.lash
+        sides = (lash.lx, lash.ly, lash.lz, lash_length(lash), foot_height(outcome.sheet, lash), lash.area)
+        yield (
+            str(row.number), ends_words(row.ends), lash_place(lash), *(f"{side:,}" for side in sides),
+            word(LASH_FIELDS, lash, "material"), f"{lash.modulus:,}", f"{lash.breaking:,}",
+        )
+
+
+def aligned(rows, left, colour=False):
+    """Rows of cells as lines in columns; those in `left` begin at their left edge."""
+    rows = [[cell if isinstance(cell, Cell) else Cell(cell, None) for cell in row] for row in rows]
+    widths = [max(len(row[i].text) for row in rows if i < len(row)) for i in range(max(map(len, rows)))]
+    for row in rows:
+        cells = [
+            shown(cell, f"{cell.text:{'<' if i in left else '>'}{widths[i]}}", colour) for i, cell in enumerate(row)
+        ]
+        yield f"  {'  '.join(cells)}".rstrip()
+
+
+def shown(cell, text, colour):
+    return painted(text, cell.state, colour and bool(text.strip())) if cell.state else text
+
+
+# The figures of an end
+
+
+def end_lines(outcome, end, colour):
+    return [
+        f"{ENDS[end].upper()} END",
+        *aligned(racking_rows(outcome, end), {0, 3}, colour),
+        "",
+        *aligned(level_rows(outcome, end), {0, 6}, colour),
+        "",
+        *aligned(force_rows(outcome, end), {0, 1, 9}, colour),
+    ]
+
+
+def used(figure):
+    return Cell(f"{figure.used_text}{' !' if figure.over else '  '}", figure.state)
+
+
+def bar_cell(figure):
+    return Cell(bar(figure), figure.state)
+
+
+def limit(number):
+    return f"{number:,}"
+
+
+def racking_rows(outcome, end):
+    yield ("tier", "racking, N", "used  ")
+    yield ("limit", limit(RACKING_LIMIT), "")
     for tier in range(1, len(outcome.sheet.tiers) + 1):
         figure = outcome.figure(end, RACKING, tier)
-        way = "  to windward" if figure.force < 0 else ""
-        yield f"  {tier:<6}{cells(figure)}{way}".rstrip()
+        way = way_words(figure) if figure.force < 0 else ""
+        yield (str(tier), figure.force_text, used(figure), Cell(bar(figure) + way, figure.state))
 
 
-def level_lines(outcome, end):
-    titles = title_cells("compr., N") + title_cells("tension, N") + limit_titles("lock limit")
-    yield f"  {'level':6}{titles}".rstrip()
+def level_rows(outcome, end):
+    lock = outcome.figure(end, LOCK, 0)
+    yield ("level", "compr., N", "used  ", "tension, N", "of corner  ", "of lock  ")
+    yield ("limit", limit(COMPRESSION_LIMIT), "", "", f"{limit(CORNER_LIMIT)}  ", f"{limit(lock.limit)}  ")
     for level in range(len(outcome.sheet.tiers) + 1):
-        line = f"  {level:<6}{cells(outcome.figure(end, COMPRESSION, level))}"
+        figures = [outcome.figure(end, COMPRESSION, level)]
+        cells = [str(level), figures[0].force_text, used(figures[0])]
         if level < len(outcome.sheet.tiers):
-            lock = outcome.figure(end, LOCK, level)
-            line += cells(outcome.figure(end, CORNER, level)) + limit_cells(lock)
-        yield line.rstrip()
+            figures += [outcome.figure(end, kind, level) for kind in (CORNER, LOCK)]
+            cells += [figures[1].force_text, *map(used, figures[1:])]
+        else:
+            cells += ["", "", ""]
+        yield (*cells, bar_cell(greatest(figures)))
 
 
-def lash_lines(outcome, end):
-    lashes = outcome.sheet.lashes(end)
-    if not lashes:
-        yield "  no lashes"
+def force_rows(outcome, end):
+    if not outcome.sheet.lashes(end):
+        yield ("no lashes",)
         return
-    titles = "".join(map(title_cells, ("tension, N", "vertical, N", "athwart, N")))
-    yield f"  {'lash':23}{titles}".rstrip()
-    for index, lash in enumerate(lashes):
-        kinds = (LASH_TENSION, LASH_VERTICAL, LASH_ATHWART)
-        line = "".join(cells(outcome.figure(end, kind, index)) for kind in kinds)
-        yield f"  {index:<3}{lash_place(lash):20}{line}".rstrip()
+    yield ("lash", "", "tension, N", "safe load", "used  ", "vertical, N", "used  ", "athwart, N", "used  ")
+    yield ("limit", "", "", "", "", limit(LASH_VERTICAL_LIMIT), "", limit(LASH_ATHWART_LIMIT), "")
+    for index in outcome.order(end):
+        lash = outcome.lash(end, index)
+        figures = [outcome.figure(end, kind, index) for kind in LASH_KINDS]
+        tension, *parts = ((figure.force_text, used(figure)) for figure in figures)
+        safe = limit(figures[0].limit)
+        yield (
+            str(outcome.number(end, index)), lash_place(lash), tension[0], safe, tension[1],
+            *(cell for pair in parts for cell in pair), bar_cell(outcome.governing(end, index)),
+        )
 
 
-# For scripts
-
-
-def as_data(outcome):
-    """The report as plain data for JSON."""
-    return {
-        "title": outcome.title,
-        "accepted": outcome.accepted,
-        "assumed": outcome.assumed,
-        "ends": [end_data(outcome, end) for end in range(len(ENDS))],
-        "findings": [
-            {
-                **figure_data(figure),
-                "end": ENDS[figure.end],
-                "kind": figure.kind,
-                "name": KIND_WORDS[figure.kind],
-                PLACE_WORDS[figure.kind]: figure.index,
-                "text": finding_words(outcome, figure),
-            }
-            for figure in outcome.findings()
-        ],
-    }
-
-
-def figure_data(figure):
-    return {"force": figure.force, "limit": figure.limit, "used_percent": figure.used, "over": figure.over}
-
-
-def end_data(outcome, end):
-    data = {"end": ENDS[end], "lashes": []}
-    for kind in (RACKING, COMPRESSION, CORNER, LOCK):
-        data[KIND_WORDS[kind].replace(" ", "_")] = [
-            {PLACE_WORDS[kind]: figure.index, **figure_data(figure)}
-            for figure in outcome.figures.values()
-            if (figure.end, figure.kind) == (end, kind)
-        ]
-    for index, lash in enumerate(outcome.sheet.lashes(end)):
-        parts = {"tension": LASH_TENSION, "vertical": LASH_VERTICAL, "athwart": LASH_ATHWART}
-        entry = {"lash": index, "place": lash_place(lash)}
-        entry.update({name: figure_data(outcome.figure(end, kind, index)) for name, kind in parts.items()})
-        data["lashes"].append(entry)
-    return data
+def notes(outcome):
+    """How to read the figures."""
+    texts = [
+        "Forces in N. Level 0 is the deck, level i the top of tier i; compression on the deck is reported only. "
+        "Racking is to leeward unless marked.",
+        "used: share of the limit, rounded up to a tenth of a percent; the bar is of the row's greatest: "
+        "= calm, # from 80%, ! over the limit.",
+    ]
+    if outcome.listed():
+        texts.append("foot at: height of a lash's lower end above the deck.")
+    if any(figure.force_text.startswith("<") for figure in outcome.figures.values()):
+        texts.append(PAD_WORDS)
+    return bulleted("NOTES", [*texts, NOT_CHECKED])

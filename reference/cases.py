@@ -27,10 +27,11 @@ sys.path.insert(0, str(Path(__file__).resolve().parent.parent))
 
 from reference.judge import MARGIN, figures
 from reference.script import finish
-from reference.sheet import (
+from reference.stack import exact
+from sheets.limits import checks
+from sheets.sheet import (
     ANSWER_ROOM, BOTTOM, CROSS, SIDE, TOP, Head, Lash, Refused, Sheet, Tier, pack, parse,
 )
-from reference.stack import checks, exact
 
 HEAD = Head(1, 0, 1, 0, 500_000)
 BOX_B = Tier(40, 0, 2591, 20_000, 500, 1_500, 800)

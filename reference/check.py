@@ -11,8 +11,9 @@ from pathlib import Path
 sys.path.insert(0, str(Path(__file__).resolve().parent.parent))
 
 from reference.script import finish
-from reference.sheet import Refused, parse
-from reference.stack import checks, exact
+from reference.stack import exact
+from sheets.limits import checks
+from sheets.sheet import Refused, parse
 
 END_NAMES = ("door", "closed")
 KIND_NAMES = {

@@ -3,11 +3,11 @@
 from dataclasses import replace
 from itertools import accumulate
 
-from reference.sheet import (
+from reference.samples import extreme, hooks, realistic
+from sheets.sheet import (
     BOTTOM, CLOSED, CROSS, DOOR, HEAD, HEAD_LIMITS, HEIGHTS, LASH, LASH_LIMITS, MOST_LASHES,
     MOST_TIERS, SIDE, TIER, TIER_LIMITS, TOP, pack,
 )
-from reference.samples import extreme, hooks, realistic
 
 BYTE_FIELDS = ("route", "lock_material", "wind", "hook", "kind", "material")
 LONG_FIELDS = ("lock_breaking", "modulus", "breaking")

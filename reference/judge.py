@@ -3,13 +3,15 @@
 from dataclasses import dataclass, field
 from re import fullmatch
 
-from reference.answer import BadAnswer, counts, counts_due, read_answer
-from reference.sheet import Refused, parse
-from reference.stack import exact, findings
+from reference.stack import exact
+from sheets.answer import BadAnswer, counts, counts_due, read_answer
+from sheets.limits import findings
+from sheets.sheet import Refused, parse
 
-# A reported force is at least the exact one in size and less than this above it, N.
-# From this size on a racking's sign is the exact one's.
+# A reported force is at least the exact one in size and less than a margin above it, N; from the margin on a racking's sign is
+# the exact one's. Document 01 demands the first margin; the check keeps the second.
 MARGIN = 100
+KEPT = 9
 
 END_NAMES = ("door", "closed")
 
@@ -26,7 +28,7 @@ class Expected:
 @dataclass
 class Judgement:
     faults: list = field(default_factory=list)
-    distances: dict = field(default_factory=dict)  # kind of force: largest distance above the exact
+    distances: dict = field(default_factory=dict)  # kind of force: largest distance above the exact, rounded
     verdict: int = None  # of a taken sheet
 
 
@@ -38,7 +40,7 @@ def expected(data):
     return Expected(sheet=sheet, ends=exact(sheet))
 
 
-def judge(due, output):
+def judge(due, output, margin=KEPT):
     """Every fault of a program's output, and how far its forces lie above the exact ones."""
     judgement = Judgement()
     if due.refusal:
@@ -57,7 +59,7 @@ def judge(due, output):
     judgement.verdict = answer.verdict
     judgement.faults += layout_faults(due.sheet, answer, len(output))
     if not judgement.faults:
-        judge_figures(due, answer, judgement)
+        judge_figures(due, answer, judgement, margin)
         judgement.faults += finding_faults(due.sheet, answer)
     return judgement
 
@@ -73,38 +75,43 @@ def layout_faults(sheet, answer, length):
     return faults
 
 
+def forces(end):
+    """(kind of force, its place's word, index, force) of one end."""
+    yield from (("racking", "tier", tier, force) for tier, force in enumerate(end.racking, 1))
+    yield from (("compression", "level", level, force) for level, force in enumerate(end.compression))
+    yield from (("tension", "level", level, force) for level, force in enumerate(end.tension))
+    for index, lash in enumerate(end.lashes):
+        yield "lash tension", "lash", index, lash.tension
+        yield "lash athwart", "lash", index, lash.athwart
+        yield "lash vertical", "lash", index, lash.vertical
+
+
 def figures(end):
     """(kind of force, where, force) of one end."""
-    for tier, force in enumerate(end.racking, 1):
-        yield "racking", f"tier {tier}", force
-    for level, force in enumerate(end.compression):
-        yield "compression", f"level {level}", force
-    for level, force in enumerate(end.tension):
-        yield "tension", f"level {level}", force
-    for index, forces in enumerate(end.lashes):
-        yield "lash tension", f"lash {index}", forces.tension
-        yield "lash athwart", f"lash {index}", forces.athwart
-        yield "lash vertical", f"lash {index}", forces.vertical
+    return ((kind, f"{word} {index}", force) for kind, word, index, force in forces(end))
 
 
-def judge_figures(due, answer, judgement):
+def judge_figures(due, answer, judgement, margin=KEPT):
     for name, exact_end, end in zip(END_NAMES, due.ends, answer.ends):
-        for (kind, where, force), (_, _, reported) in zip(figures(exact_end), figures(end)):
-            distance = abs(reported) - abs(force)
-            fault = figure_fault(kind, force, reported)
+        for (kind, word, index, force), (_, _, _, reported) in zip(forces(exact_end), forces(end)):
+            fault = figure_fault(kind, force, reported, margin)
             if fault:
-                text = f"{fault}: {name} end, {kind}, {where}: {reported}, exact {float(force):.6f}"
-                judgement.faults.append(text)
+                where = f"{name} end, {kind}, {word} {index}"
+                judgement.faults.append(f"{fault}: {where}: {reported}, exact {float(force):.6f}")
+            distance = (abs(reported) * force.denominator - abs(force.numerator)) / force.denominator
             judgement.distances[kind] = max(distance, judgement.distances.get(kind, distance))
 
 
-def figure_fault(kind, force, reported):
-    distance = abs(reported) - abs(force)
-    if distance < 0:
+def figure_fault(kind, force, reported, margin):
+    """What is wrong with a reported force; fractions are compared by cross products."""
+    top, bottom = force.numerator, force.denominator
+    above = abs(reported) * bottom - abs(top)
+    if above < 0:
         return "below the exact force"
-    if distance >= MARGIN:
-        return f"{MARGIN} N or more above the exact force"
-    if kind == "racking" and abs(force) >= MARGIN and (reported > 0) != (force > 0):
+    for most in (MARGIN, margin):
+        if above >= most * bottom:
+            return f"{most} N or more above the exact force"
+    if kind == "racking" and abs(top) >= margin * bottom and (reported > 0) != (top > 0):
         return "wrong sign"
     return None
 

@@ -4,7 +4,7 @@ from dataclasses import dataclass
 from random import Random
 
 from reference import faults, samples
-from reference.sheet import pack
+from sheets.sheet import pack
 
 
 @dataclass(frozen=True)

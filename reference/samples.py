@@ -4,13 +4,14 @@ from dataclasses import replace
 from fractions import Fraction
 from math import ceil
 
-from reference.sheet import (
+from reference.stack import exact, exact_end
+from sheets.limits import (
+    COMPRESSION_LIMIT, CORNER_LIMIT, HIGHER_STRENGTH, LASH_ATHWART_LIMIT, LASH_VERTICAL_LIMIT,
+    RACKING_LIMIT,
+)
+from sheets.sheet import (
     BOTTOM, CLOSED, CROSS, DOOR, HEAD_LIMITS, HEIGHTS, LASH_LIMITS, MOST_LASHES, MOST_TIERS, SIDE,
     TIER_LIMITS, TOP, Head, Lash, Sheet, Tier,
-)
-from reference.stack import (
-    COMPRESSION_LIMIT, CORNER_LIMIT, HIGHER_STRENGTH, LASH_ATHWART_LIMIT, LASH_VERTICAL_LIMIT,
-    RACKING_LIMIT, exact, exact_end,
 )
 
 
@@ -165,7 +166,8 @@ def near_force(random, name):
     sheet = heavy(random)
     end = random.choice((DOOR, CLOSED))
     target = LIMITED[name] + Fraction(aim(random))
-    over = [index for index, size in enumerate(sizes(exact_end(sheet, end), name)) if size > target]
+    found = sizes(exact_end(sheet, end), name)
+    over = [index for index, size in enumerate(found) if size > target]
     if not over:
         return None
     index = random.choice(over)
@@ -173,9 +175,8 @@ def near_force(random, name):
     def force(masses):
         return sizes(exact_end(with_masses(sheet, masses), end), name)[index]
 
-    masses = [tier.mass for tier in sheet.tiers]
-    factor = target / force(masses)
-    masses = [max(1, int(mass * factor)) for mass in masses]
+    factor = target / found[index]
+    masses = [max(1, int(tier.mass * factor)) for tier in sheet.tiers]
     masses[0] = 15_000
     heavier = [25_000] + masses[1:]
     before, after = force(masses), force(heavier)

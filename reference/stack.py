@@ -1,87 +1,80 @@
-"""One stack in fractions: loads, springs, forces and limits as document 01 writes them."""
+"""One stack in fractions: loads, springs and forces as document 01 writes them."""
 
 from dataclasses import dataclass
 from fractions import Fraction
-from functools import lru_cache
-from math import isqrt
+from itertools import accumulate
+from math import isqrt, lcm
 
-from reference.sheet import CLOSED, CROSS, DOOR, SIDE
+from sheets.answer import End, LashForces
+from sheets.sheet import CLOSED, CROSS, DOOR, ROUTE_PERCENT, SIDE
 
-GRAVITY = Fraction(981, 100)  # m/s²
-ROUTE_PERCENT = (100, 87, 96, 95, 94, 100, 95, 73, 86, 90, 90, 73, 87)
-WIND_PRESSURE = Fraction(1080, 1_000_000)  # N/mm²
+GRAVITY = 981  # hundredths of m/s²
+WIND_PRESSURE = 1080  # N/m²
+SQUARE_METRE = 1_000_000  # mm²
 BOX_LENGTH = {20: 6058, 40: 12192}  # mm, by feet
-SHARE_TO_TOP = Fraction(45, 100)  # of F to the box's own top; the centre's height in the box
-HALF = Fraction(1, 2)
+SHARE_TO_TOP = 45  # percent of F to the box's own top; the centre's height in the box
 RACKING_STIFFNESS = {DOOR: 3730, CLOSED: 15690}  # K, N/mm
 POST_SPACING = 2259  # mm
 
-# Kinds of finding.
-RACKING, COMPRESSION, CORNER, LOCK, LASH_TENSION, LASH_VERTICAL, LASH_ATHWART = range(1, 8)
 
-# CR Table 2-3, N.
-RACKING_LIMIT = 150_000
-COMPRESSION_LIMIT = 848_000
-CORNER_LIMIT = 250_000
-LASH_VERTICAL_LIMIT = 300_000
-LASH_ATHWART_LIMIT = 150_000
-
-HIGHER_STRENGTH = 1  # the material code, of locks and of lashes
+# Loads on one end: whole numbers of a part of a newton so small that every product of 01's factors is one
 
 
-@dataclass(frozen=True)
-class LashForces:
-    tension: Fraction
-    athwart: Fraction
-    vertical: Fraction
+UNIT = 4_000_000_000  # parts in a newton
+THOUSAND = 1000  # accelerations are in thousandths of g
+PERCENT = 100
 
 
-@dataclass(frozen=True)
-class End:
-    """The forces of one end in N, exact or reported."""
-
-    racking: tuple  # tiers 1 to n
-    compression: tuple  # levels 0 to n
-    tension: tuple  # levels 0 to n-1
-    lashes: tuple  # LashForces, in sheet order
-
-
-# Loads on one end
-
-
-def weight(tier):
-    """W."""
-    return tier.mass * GRAVITY
-
-
-@lru_cache(512)
 def transverse(tier, route):
-    """F = 0.5 × W × A_T × route factor."""
-    return HALF * weight(tier) * Fraction(tier.a_t, 1000) * Fraction(ROUTE_PERCENT[route], 100)
+    """F = 0.5 × W × A_T × route factor, W = mass × 9.81."""
+    return UNIT * tier.mass * GRAVITY * tier.a_t * ROUTE_PERCENT[route] // (2 * PERCENT * THOUSAND * PERCENT)
 
 
-@lru_cache(512)
 def vertical(tier, thousandths):
     """F_V = 0.5 × W × A_Vmax or A_Vmin."""
-    return HALF * weight(tier) * Fraction(thousandths, 1000)
+    return UNIT * tier.mass * GRAVITY * thousandths // (2 * PERCENT * THOUSAND)
 
 
-@lru_cache(512)
 def wind(tier):
     """P = 0.5 × 1,080 N/m² × length × height if exposed, else 0."""
-    return HALF * WIND_PRESSURE * BOX_LENGTH[tier.size] * tier.height * tier.wind
+    return UNIT * WIND_PRESSURE * BOX_LENGTH[tier.size] * tier.height * tier.wind // (2 * SQUARE_METRE)
 
 
-def racking_load(sheet, number):
-    """Q of a tier: 0.45 F + 0.5 P of its own, F + P of every tier above."""
-    route = sheet.head.route
-    own = sheet.tiers[number - 1]
-    above = sheet.tiers[number:]
-    return (
-        SHARE_TO_TOP * transverse(own, route)
-        + HALF * wind(own)
-        + sum(transverse(tier, route) + wind(tier) for tier in above)
+@dataclass(frozen=True)
+class Loads:
+    """What an end bears, the same at both."""
+
+    racking: tuple  # Q of tiers 1 to n
+    moment: tuple  # of F and P above levels 0 to n, in parts of N·mm
+    greatest: tuple  # V above levels 0 to n, by A_Vmax
+    least: tuple  # and by A_Vmin
+
+
+def loads(sheet):
+    tiers, route = sheet.tiers, sheet.head.route
+    f, p = [transverse(tier, route) for tier in tiers], [wind(tier) for tier in tiers]
+    levels = range(len(tiers) + 1)
+    return Loads(
+        tuple(racking_load(f, p, index) for index in range(len(tiers))),
+        tuple(load_moment(tiers, f, p, level) for level in levels),
+        tuple(sum(vertical(tier, tier.a_vmax) for tier in tiers[level:]) for level in levels),
+        tuple(sum(vertical(tier, tier.a_vmin) for tier in tiers[level:]) for level in levels),
     )
+
+
+def racking_load(f, p, index):
+    """Q of a tier: 0.45 F + 0.5 P of its own, F + P of every tier above."""
+    return SHARE_TO_TOP * f[index] // PERCENT + p[index] // 2 + sum(f[index + 1 :]) + sum(p[index + 1 :])
+
+
+def load_moment(tiers, f, p, level):
+    """F at 45% and P at half of the height of its tier, about a level below."""
+    total, bottom = 0, 0
+    for index in range(level, len(tiers)):
+        height = tiers[index].height
+        total += f[index] * (PERCENT * bottom + SHARE_TO_TOP * height) // PERCENT + p[index] * (2 * bottom + height) // 2
+        bottom += height
+    return total
 
 
 # Springs
@@ -98,26 +91,27 @@ def lash_forces(lash, shift):
     """T = modulus × area × LY × D / L², athwart T × LY / L, vertical T × LZ / L."""
     length = lash_length(lash)
     tension = Fraction(lash.modulus * lash.area * lash.ly, length**2) * shift
-    return LashForces(tension, tension * lash.ly / length, tension * lash.lz / length)
+    return LashForces(tension, tension * Fraction(lash.ly, length), tension * Fraction(lash.lz, length))
 
 
-def equations(sheet, end):
+def equations(sheet, end, racking_loads):
     """One row a tier: the factors of D of levels 1 to n, then the right side.
 
     K × (D of level i − D of level i−1) + athwart parts of lashes at level i or above = Q of tier i
     """
     count = len(sheet.tiers)
-    stiffness = RACKING_STIFFNESS[end]
+    stiffness = Fraction(RACKING_STIFFNESS[end])
+    athwart = [(lash.level, lash_forces(lash, 1).athwart) for lash in sheet.lashes(end)]
     rows = []
     for number in range(1, count + 1):
         row = [Fraction(0)] * (count + 1)
-        row[number - 1] += stiffness
+        row[number - 1] = stiffness
         if number > 1:
-            row[number - 2] -= stiffness
-        for lash in sheet.lashes(end):
-            if lash.level >= number:
-                row[lash.level - 1] += lash_forces(lash, 1).athwart
-        row[count] = racking_load(sheet, number)
+            row[number - 2] = -stiffness
+        for level, part in athwart:
+            if level >= number:
+                row[level - 1] += part
+        row[count] = Fraction(racking_loads[number - 1], UNIT)
         rows.append(row)
     return rows
 
@@ -127,146 +121,103 @@ def solve(rows):
     rows = [list(row) for row in rows]
     size = len(rows)
     for column in range(size):
-        pivot = next(index for index in range(column, size) if rows[index][column] != 0)
+        pivot = next(index for index in range(column, size) if rows[index][column])
         rows[column], rows[pivot] = rows[pivot], rows[column]
         for index in range(column + 1, size):
             subtract_row(rows[index], rows[column], column)
     unknowns = [Fraction(0)] * size
     for index in reversed(range(size)):
-        known = sum(rows[index][j] * unknowns[j] for j in range(index + 1, size))
+        known = sum(rows[index][j] * unknowns[j] for j in range(index + 1, size) if rows[index][j])
         unknowns[index] = (rows[index][size] - known) / rows[index][index]
     return unknowns
 
 
 def subtract_row(row, pivot_row, column):
     """Takes the multiple of the pivot's row away that makes the column zero."""
-    if row[column] == 0:
-        return
-    factor = row[column] / pivot_row[column]
-    for j in range(column, len(row)):
-        row[j] -= factor * pivot_row[j]
+    if row[column]:
+        factor = row[column] / pivot_row[column]
+        for j in range(column, len(row)):
+            if pivot_row[j]:
+                row[j] -= factor * pivot_row[j]
 
 
-def shifts(sheet, end):
+def shifts(sheet, end, racking_loads):
     """D of levels 0 to n."""
-    return [Fraction(0)] + solve(equations(sheet, end))
+    return [Fraction(0)] + solve(equations(sheet, end, racking_loads))
 
 
-# Posts and locks
+# Posts and locks: whole numbers over one denominator, which are quicker to add than fractions
 
 
-def level_height(sheet, level):
-    return sum(tier.height for tier in sheet.tiers[:level])
+@dataclass(frozen=True)
+class Hooked:
+    """The parts of an end's lashes, over a denominator."""
+
+    lashes: tuple
+    athwart: list
+    vertical: list
+    bottom: int
 
 
-def moment(sheet, end, lash_results, level):
-    """M about a level: F at 45% and P at half height of the tiers above, less athwart parts above."""
-    base = level_height(sheet, level)
-    total = Fraction(0)
-    for index in range(level, len(sheet.tiers)):
-        tier = sheet.tiers[index]
-        bottom = level_height(sheet, index) - base
-        total += transverse(tier, sheet.head.route) * (bottom + SHARE_TO_TOP * tier.height)
-        total += wind(tier) * (bottom + HALF * tier.height)
-    for lash, forces in zip(sheet.lashes(end), lash_results):
-        if lash.level > level:
-            total -= forces.athwart * (level_height(sheet, lash.level) - base)
-    return total
+def hooked(lashes, forces):
+    bottom = lcm(*(part.denominator for each in forces for part in (each.athwart, each.vertical)))
+    athwart, vertical_ = ([int(getattr(each, name) * bottom) for each in forces] for name in ("athwart", "vertical"))
+    return Hooked(lashes, athwart, vertical_, bottom)
 
 
-def vertical_parts(sheet, end, lash_results, kind, lowest):
-    """The vertical parts of the lashes of one kind at the lowest level or above."""
-    pairs = zip(sheet.lashes(end), lash_results)
-    return sum(
-        forces.vertical for lash, forces in pairs if lash.kind == kind and lash.level >= lowest
-    )
+def level_heights(sheet):
+    return [0, *accumulate(tier.height for tier in sheet.tiers)]
 
 
-def post_sums(sheet, end, lash_results, level, m, field, lowest):
-    """V/2 + M/2259 + vertical parts of cross lashes, V/2 − M/2259 + vertical parts of side lashes."""
-    half_v = HALF * sum(vertical(tier, getattr(tier, field)) for tier in sheet.tiers[level:])
-    pair = m / POST_SPACING
-    lee = half_v + pair + vertical_parts(sheet, end, lash_results, CROSS, lowest)
-    windward = half_v - pair + vertical_parts(sheet, end, lash_results, SIDE, lowest)
-    return lee, windward
+def moment(heights, load_moments, held, level):
+    """M about a level: that of the loads above, less athwart parts × heights of the hooks above; over UNIT × held.bottom."""
+    parts = zip(held.lashes, held.athwart)
+    pulled = sum(part * (heights[lash.level] - heights[level]) for lash, part in parts if lash.level > level)
+    return load_moments[level] * held.bottom - pulled * UNIT
 
 
-def compression(sheet, end, lash_results, level, m):
+def vertical_parts(held, kind, lowest):
+    """The vertical parts of the lashes of one kind at the lowest level or above, over held.bottom."""
+    parts = zip(held.lashes, held.vertical)
+    return sum(part for lash, part in parts if lash.kind == kind and lash.level >= lowest)
+
+
+def post_sums(held, v, m, lowest):
+    """V/2 + M/2259 + vertical parts of cross lashes, V/2 − M/2259 + vertical parts of side lashes; and their denominator."""
+    half_v = v * held.bottom * POST_SPACING
+    cross, side = (2 * UNIT * POST_SPACING * vertical_parts(held, kind, lowest) for kind in (CROSS, SIDE))
+    return half_v + 2 * m + cross, half_v - 2 * m + side, 2 * UNIT * held.bottom * POST_SPACING
+
+
+def compression(held, v, m, level):
     """By A_Vmax, with the lashes at this level or above."""
-    return max(Fraction(0), *post_sums(sheet, end, lash_results, level, m, "a_vmax", level))
+    lee, windward, bottom = post_sums(held, v, m, level)
+    return Fraction(max(0, lee, windward), bottom)
 
 
-def tension(sheet, end, lash_results, level, m):
+def tension(held, v, m, level):
     """By A_Vmin, with only the lashes above this level."""
-    return max(Fraction(0), -min(post_sums(sheet, end, lash_results, level, m, "a_vmin", level + 1)))
+    lee, windward, bottom = post_sums(held, v, m, level + 1)
+    return Fraction(max(0, -min(lee, windward)), bottom)
 
 
-def exact_end(sheet, end):
+def exact_end(sheet, end, borne=None):
     """Every exact force of one end."""
-    count = len(sheet.tiers)
-    shift = shifts(sheet, end)
+    borne = borne or loads(sheet)
+    count, stiffness, heights = len(sheet.tiers), RACKING_STIFFNESS[end], level_heights(sheet)
+    shift = shifts(sheet, end, borne.racking)
     lashes = tuple(lash_forces(lash, shift[lash.level]) for lash in sheet.lashes(end))
-    stiffness = RACKING_STIFFNESS[end]
-    m = [moment(sheet, end, lashes, level) for level in range(count + 1)]
+    held = hooked(sheet.lashes(end), lashes)
+    m = [moment(heights, borne.moment, held, level) for level in range(count + 1)]
     return End(
         tuple(stiffness * (shift[i] - shift[i - 1]) for i in range(1, count + 1)),
-        tuple(compression(sheet, end, lashes, level, m[level]) for level in range(count + 1)),
-        tuple(tension(sheet, end, lashes, level, m[level]) for level in range(count)),
+        tuple(compression(held, borne.greatest[level], m[level], level) for level in range(count + 1)),
+        tuple(tension(held, borne.least[level], m[level], level) for level in range(count)),
         lashes,
     )
 
 
 def exact(sheet):
     """Both ends, door first."""
-    return exact_end(sheet, DOOR), exact_end(sheet, CLOSED)
-
-
-# Permissible loads
-
-
-def safe_working_load(breaking, material):
-    """Breaking load / factor, rounded down; 1.67 for higher strength steel, 2 for all else."""
-    return breaking * 100 // 167 if material == HIGHER_STRENGTH else breaking // 2
-
-
-@dataclass(frozen=True)
-class Check:
-    """One checked limit: a force in size beside what it may be."""
-
-    end: int
-    kind: int
-    index: int
-    size: Fraction
-    limit: int
-
-
-def checks(sheet, ends):
-    """Every checked limit in the answer's order: end, kind, index."""
-    head = sheet.head
-    lock = safe_working_load(head.lock_breaking, head.lock_material)
-    for end, forces in zip((DOOR, CLOSED), ends):
-        for tier, force in enumerate(forces.racking, 1):
-            yield Check(end, RACKING, tier, abs(force), RACKING_LIMIT)
-        for level, force in enumerate(forces.compression):
-            if level > 0:
-                yield Check(end, COMPRESSION, level, force, COMPRESSION_LIMIT)
-        for level, force in enumerate(forces.tension):
-            yield Check(end, CORNER, level, force, CORNER_LIMIT)
-        for level, force in enumerate(forces.tension):
-            yield Check(end, LOCK, level, force, lock)
-        yield from lash_checks(sheet.lashes(end), end, forces.lashes)
-
-
-def lash_checks(lashes, end, results):
-    for index, (lash, forces) in enumerate(zip(lashes, results)):
-        limit = safe_working_load(lash.breaking, lash.material)
-        yield Check(end, LASH_TENSION, index, forces.tension, limit)
-    for index, forces in enumerate(results):
-        yield Check(end, LASH_VERTICAL, index, forces.vertical, LASH_VERTICAL_LIMIT)
-    for index, forces in enumerate(results):
-        yield Check(end, LASH_ATHWART, index, forces.athwart, LASH_ATHWART_LIMIT)
-
-
-def findings(sheet, ends):
-    """(end, kind, index) exactly where the reported size exceeds the limit."""
-    return [(c.end, c.kind, c.index) for c in checks(sheet, ends) if c.size > c.limit]
+    borne = loads(sheet)
+    return exact_end(sheet, DOOR, borne), exact_end(sheet, CLOSED, borne)

@@ -12,12 +12,13 @@ from pathlib import Path
 ROOT = Path(__file__).resolve().parent.parent
 sys.path.insert(0, str(ROOT))
 
-from reference.answer import counts
 from reference.cases import CASES, reported_range, stands
 from reference.judge import figures
 from reference.script import finish
-from reference.sheet import Refused, parse
-from reference.stack import checks, exact
+from reference.stack import exact
+from sheets.answer import counts
+from sheets.limits import checks
+from sheets.sheet import Refused, parse
 
 HEAD = struct.Struct("<BHHH")
 FIELD = struct.Struct("<BII")

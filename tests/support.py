@@ -2,10 +2,13 @@
 
 import contextlib
 import io
+import re
 import struct
+import subprocess
 from pathlib import Path
 from unittest import mock
 
+from lashlib.calls import Reply
 from lashtool.main import main
 
 ROOT = Path(__file__).resolve().parent.parent
@@ -49,14 +52,45 @@ FINDINGS = (
 PULLED_BACK_ANSWER = answer_bytes(DOOR, CLOSED, FINDINGS)
 
 
-def lash(*words, output=b"", stdin=b""):
-    """Status, output and messages of ./lash with these words, given the check's output."""
+def reply(output):
+    """The reply of a check whose program would write this."""
+    refusal = re.fullmatch(rb"(\d+) (\d+)\n", output)
+    number, second = map(int, refusal.groups()) if refusal else (0, len(output))
+    return Reply(number + 256 * second, output)
+
+
+def lash(*words, output=b"", stdin=b"", binary=False):
+    """Status, output and messages of ./lash with these words, given what the program would write for the sheet, or for each."""
     out, err = io.TextIOWrapper(io.BytesIO(), "utf-8"), io.StringIO()
     given = mock.patch("sys.stdin", io.TextIOWrapper(io.BytesIO(stdin)))
     with contextlib.redirect_stdout(out), contextlib.redirect_stderr(err), given:
         try:
-            status = main([str(word) for word in words], run=lambda data: output)
+            check = output if callable(output) else lambda data: output
+            status = main([str(word) for word in words], check=lambda data: reply(check(data)))
         except SystemExit as end:
             status = end.code
     out.flush()
-    return status, out.buffer.getvalue().decode(), err.getvalue()
+    written = out.buffer.getvalue()
+    return status, written if binary else written.decode(), err.getvalue()
+
+
+LIBRARY = """\
+#include <stddef.h>
+#include <stdint.h>
+#include <string.h>
+uint64_t %s(const uint8_t *sheet, size_t sheet_len, uint8_t *answer, size_t answer_len)
+{
+    static const uint8_t fixed[] = {%s};
+    (void)sheet, (void)sheet_len, (void)answer_len;
+    memcpy(answer, fixed, sizeof fixed);
+    return (uint64_t)sizeof fixed << 8;
+}
+"""
+
+
+def library_of(folder, answer, name="lash_check"):
+    """A shared library whose call gives this answer for every sheet."""
+    source, made = folder / f"{name}.c", folder / f"{name}.so"
+    source.write_text(LIBRARY % (name, ", ".join(map(str, answer))))
+    subprocess.run(["cc", "-shared", "-fPIC", source, "-o", made], check=True)
+    return made

@@ -1,17 +1,20 @@
 """./lash as a command: its statuses, files and messages, and no trace on bad input."""
 
+import contextlib
 import json
 import os
+import re
 import subprocess
 import sys
 import tempfile
 import unittest
 from pathlib import Path
-from unittest import mock
+from xml.etree import ElementTree
 
-from lashtool import program
+from lashtool.sources import LARGEST_FILE
+from sheets.sheet import parse
 from tests.support import (
-    B_ANSWER, B_END, EXAMPLES, PULLED_BACK_ANSWER, ROOT, answer_bytes, lash,
+    B_ANSWER, B_END, EXAMPLES, PULLED_BACK_ANSWER, ROOT, answer_bytes, lash, library_of,
 )
 
 # Output is held back until the end, as it is for most users.
@@ -36,7 +39,7 @@ class InPlace(unittest.TestCase):
         self.assertEqual((status, path.read_bytes().hex()), (0, BOX_B_HEX))
         status, text, errors = lash("--sheet", path, output=B_ANSWER)
         self.assertEqual((status, errors), (0, ""))
-        self.assertTrue(text.startswith("1 tier of 40 feet, 20,000 kg;"))
+        self.assertTrue(text.startswith("ACCEPTED\nworst use of a limit: "))
 
     def test_standard_input(self):
         text = (EXAMPLES / "box-b.toml").read_bytes()
@@ -52,18 +55,42 @@ class InPlace(unittest.TestCase):
         self.assertFalse((self.folder / "no.svg").exists())
         status, text, _ = lash("--sheet", path, "--json", output=b"1 2\n")
         self.assertEqual(status, 2)
-        self.assertEqual(json.loads(text), {"refused": {"number": 1, "second": 2, "meaning": meaning}})
+        self.assertEqual(json.loads(text)["refused"], {"number": 1, "second": 2, "meaning": meaning})
 
-    def test_a_description_that_the_check_refuses(self):
-        text = (EXAMPLES / "rod-s.toml").read_text().replace("tier = 2", "tier = 3")
-        path = self.file("high.toml", text.encode())
-        status, _, errors = lash(path, output=b"11 34\n")
-        self.assertEqual(status, 2)
-        self.assertIn("refused with 11 34: door end, lash 0 (bytes 34 to 53): tier 3 is not in", errors)
+    def test_a_description_is_never_refused_by_offsets(self):
+        """What the check would turn back is said in the description's own words."""
+        text = (EXAMPLES / "rod-s.toml").read_text()
+        lash_again = text[text.index("[[lash]]") :]
+        for change, message in (
+            (text.replace("tier = 2", "tier = 3"), "lash 1: tier 3 is not in this stack of 2 tiers"),
+            (text + lash_again, "lash 2: given twice: tier 2 top cross at the door end is lash 1 already"),
+        ):
+            path = self.file("stack.toml", change.encode())
+            status, _, errors = lash(path, output=b"11 34\n")
+            self.assertEqual((status, errors), (2, f"lash: {path}: {message}\n"))
+
+    def test_the_template_is_a_description(self):
+        status, text, errors = lash("--template")
+        self.assertEqual((status, errors), (0, ""))
+        end = ((1_000,) * 3, (1_000,) * 4, (1_000,) * 3, ((1_000,) * 3,) * 2)
+        status, report, errors = lash("-", stdin=text.encode(), output=answer_bytes(end, end))
+        self.assertEqual((status, errors), (0, ""))
+        self.assertNotIn("not given", report)
+
+    def test_warnings(self):
+        """On standard error beside the report; the status is the verdict's."""
+        path = EXAMPLES / "pulled-back.toml"
+        for words in ((), ("--json",)):
+            status, text, errors = lash(path, *words, output=PULLED_BACK_ANSWER)
+            self.assertEqual((status, errors.count("\n")), (1, 1))
+            warning = "lash 2 (tier 6 top side, door end): its foot lies 4,000 mm to windward of the stack"
+            self.assertTrue(errors.startswith(f"lash: {path}: warning: {warning}"), errors)
+            self.assertIn(warning, text)
+        self.assertEqual(lash(EXAMPLES / "box-b.toml", output=B_ANSWER)[2], "")
 
     def test_bad_descriptions(self):
         for name, data, message in (
-            ("garbage.toml", bytes(range(256)), "this is no text"),
+            ("garbage.toml", bytes(range(256)), "byte 0x80 in line 2, column 118 is no UTF-8"),
             ("broken.toml", b"[[", "this is no TOML"),
             ("empty.toml", b"", "tier: a stack has 1 to 10 of [[tier]], not 0"),
         ):
@@ -77,19 +104,103 @@ class InPlace(unittest.TestCase):
 
     def test_missing_file_and_folder(self):
         missing = self.folder / "none.toml"
-        names = ((missing, "No such file"), (self.folder, "Is a directory"), ("a\0b", "embedded null"))
-        for name, reason in names:
-            for words in ((name,), ("--sheet", name)):
-                status, text, errors = lash(*words, output=B_ANSWER)
-                self.assertEqual((status, text), (2, ""))
-                self.assertIn(f"lash: {name}: cannot be read: {reason}", errors)
+        for words, reason in (
+            ((missing,), "No such file"),
+            (("--sheet", missing), "No such file"),
+            (("--sheet", self.folder), "Is a directory"),
+            (("a\0b",), "embedded null"),
+            (("--sheet", "a\0b"), "embedded null"),
+        ):
+            status, text, errors = lash(*words, output=B_ANSWER)
+            self.assertEqual((status, text), (2, ""))
+            self.assertIn(f"lash: {words[-1]}: cannot be read: {reason}", errors)
+
+    def padded(self, size):
+        """Box B, and behind this many bytes a second tier."""
+        text = (EXAMPLES / "box-b.toml").read_bytes()
+        tier = b"\n[[tier]]\nmass = 30000\nA_T = 1\nA_Vmax = 1\nA_Vmin = 1\n"
+        return text + b"#" * (size - len(text) - len(tier)) + tier
+
+    def test_a_description_is_never_checked_in_part(self):
+        for size in (LARGEST_FILE + 1, 1_000_100):
+            path = self.file("long.toml", self.padded(size))
+            status, text, errors = lash(path, output=B_ANSWER)
+            self.assertEqual((status, text), (2, ""))
+            self.assertEqual(errors.count("\n"), 1)
+            self.assertIn("has more than 65,536 bytes", errors)
+            self.assertEqual(lash("-", output=B_ANSWER, stdin=self.padded(size))[0], 2)
+            self.assertEqual(lash("--sheet", path, output=B_ANSWER)[0], 2)
+
+    def test_the_longest_description_is_checked_whole(self):
+        end = ((1, 1), (1, 1, 1), (1, 1))
+        path = self.file("long.toml", self.padded(LARGEST_FILE))
+        status, _, errors = lash(path, "--write", self.folder / "sheet", output=answer_bytes(end, end))
+        self.assertEqual((status, errors), (0, ""))
+        self.assertEqual([tier.mass for tier in parse((self.folder / "sheet").read_bytes()).tiers], [20_000, 30_000])
 
     def test_bad_words(self):
         path = EXAMPLES / "box-b.toml"
-        for words in ((), (path, "--sheet", path), (path, "--colour"), (path, path)):
-            status, text, errors = lash(*words)
-            self.assertEqual((status, text), (2, ""))
+        for words, message in (
+            ((), "a stack is needed"),
+            ((path, "--sheet", path), "either descriptions or --sheet"),
+            ((path, "--colour"), "unrecognized arguments: --colour"),
+            (("--colour",), "unrecognized arguments: --colour"),
+            ((path, "--sv", "x"), "unrecognized arguments: --sv"),
+            (("-", "-"), "standard input can be read only once"),
+            ((self.folder,), f"no *.toml in the folder {self.folder}"),
+            ((path, self.folder), f"no *.toml in the folder {self.folder}"),
+            ((path, path, "--svg", "x"), "--write and --svg are for one stack"),
+            ((EXAMPLES, "--write", "x"), "--write and --svg are for one stack"),
+            ((path, "--svg", ""), "need a file's name"),
+            ((path, "--write", ""), "need a file's name"),
+            ((path, "--write", "-", "--svg", "-"), "standard output can be written only once"),
+            ((path, "--svg", "-", "--json"), "standard output can be written only once"),
+            ((path, "--template"), "--template goes alone"),
+            (("--template", "--json"), "--template goes alone"),
+        ):
+            status, text, errors = lash(*words, output=B_ANSWER)
+            self.assertEqual((status, text), (2, ""), words)
             self.assertIn("usage: lash", errors)
+            self.assertIn(message, errors)
+
+    def test_nothing_is_written_over(self):
+        path = self.file("b.toml", (EXAMPLES / "box-b.toml").read_bytes())
+        os.link(path, self.folder / "linked")
+        (self.folder / "pointer").symlink_to(path)
+        new = self.folder / "new"
+        for words in (
+            ("--svg", path), ("--write", path), ("--svg", self.folder / "linked"),
+            ("--write", self.folder / "pointer"), ("--svg", new, "--write", new),
+        ):
+            status, text, errors = lash(path, *words, output=B_ANSWER)
+            self.assertEqual((status, text), (2, ""), words)
+            self.assertIn("would be written over", errors)
+        self.assertEqual(path.read_bytes(), (EXAMPLES / "box-b.toml").read_bytes())
+        self.assertFalse(new.exists())
+        self.assertEqual(lash(path, "--svg", os.devnull, "--write", os.devnull, output=B_ANSWER)[0], 0)
+
+    def test_outputs_to_standard_output(self):
+        path = EXAMPLES / "box-b.toml"
+        status, text, _ = lash(path, "--svg", "-", output=B_ANSWER)
+        self.assertEqual(status, 0)
+        self.assertTrue(text.startswith("<?xml") and text.endswith("</svg>\n"))
+        self.assertEqual(ElementTree.fromstring(text).tag, "{http://www.w3.org/2000/svg}svg")
+        self.assertEqual(lash(path, "--write", "-", output=B_ANSWER, binary=True)[1].hex(), BOX_B_HEX)
+
+    def test_a_refusal_leaves_no_file(self):
+        path = self.file("short.sheet", b"\x01\x02")
+        for option in ("--write", "--svg"):
+            self.assertEqual(lash("--sheet", path, option, self.folder / "left", output=b"1 2\n")[0], 2)
+            self.assertFalse((self.folder / "left").exists())
+
+    def test_version(self):
+        header = (ROOT / "include" / "lash_check.h").read_text()
+        numbers = re.findall(r"#define LASH_VERSION_(?:MAJOR|MINOR|PATCH) (\d+)", header)
+        due = ".".join(numbers)
+        self.assertEqual(len(numbers), 3)
+        self.assertEqual(lash("--version"), (0, f"lash {due}\n", ""))
+        status, text, _ = lash(EXAMPLES / "box-b.toml", "--json", output=B_ANSWER)
+        self.assertEqual((status, json.loads(text)["version"]), (0, due))
 
     def test_files_that_cannot_be_written(self):
         for option in ("--svg", "--write"):
@@ -106,69 +217,90 @@ class InPlace(unittest.TestCase):
         for output in (b"", b"\0", b"hello", *wrong):
             status, text, errors = lash(EXAMPLES / "box-b.toml", output=output)
             self.assertEqual((status, text), (3, ""))
-            self.assertIn("lash: the check wrote", errors)
+            self.assertIn(": the check wrote", errors)
         path = self.file("empty.sheet", b"")
         status, _, errors = lash("--sheet", path, output=B_ANSWER)
         self.assertEqual(status, 3)
         self.assertIn("the check took a sheet that is to be refused with 1 0", errors)
 
 
-class Building(unittest.TestCase):
-    """The program is built at first use."""
+class Several(unittest.TestCase):
+    """Many stacks in one call."""
 
     def setUp(self):
         folder = tempfile.TemporaryDirectory()
         self.addCleanup(folder.cleanup)
-        self.root = Path(folder.name)
-        self.program = self.root / "target" / "bin" / "lashcheck"
+        self.folder = Path(folder.name)
+        for name in ("box-b.toml", "pulled-back.toml"):
+            (self.folder / name).write_bytes((EXAMPLES / name).read_bytes())
+        (self.folder / "notes.txt").write_text("no stack")
 
-    def built(self, rt=None):
-        tools = self.root / "tools"
-        tools.mkdir()
-        if rt is not None:
-            (tools / "rt").write_text(f"#!/bin/sh\n{rt}\n")
-            (tools / "rt").chmod(0o755)
-        path = f"{tools}{os.pathsep}/bin" if rt else str(tools)
-        with mock.patch.dict(os.environ, PATH=path), mock.patch("sys.stderr"):
-            return program.built(self.program, self.root)
+    def lash(self, *words):
+        """Answers by the sheet: six tiers get the figures of no real stack, one tier box B's."""
+        return lash(*words, output=lambda data: PULLED_BACK_ANSWER if data[8] == 6 else B_ANSWER)
 
-    def test_missing_rt(self):
-        message = "is missing and `rt check lashcheck` cannot build it: rt is not on the PATH"
-        with self.assertRaisesRegex(program.CheckFailed, message):
-            self.built()
+    def test_a_line_each(self):
+        b, pulled = self.folder / "box-b.toml", self.folder / "pulled-back.toml"
+        for words in ((b, pulled), (self.folder,)):
+            status, text, errors = self.lash(*words)
+            self.assertEqual((status, errors.count("\n")), (1, 1))
+            self.assertTrue(errors.startswith(f"lash: {pulled}: warning: lash 2 "), errors)
+            first, second, last = text.splitlines()
+            self.assertRegex(first, rf"^{b} +ACCEPTED +14\.8%  racking, door end, tier 1$")
+            # Of the figures over their limits the tension of 299,402 N at a corner is the farthest: 119.761 % of 250,000 N.
+            self.assertRegex(second, rf"^{pulled} +NOT ACCEPTED +119\.8%  corner tension, door end, level 3$")
+            self.assertEqual(last, "2 stacks: 1 accepted, 1 not accepted")
 
-    def test_built_once(self):
-        made = self.built('echo "$@" > words; mkdir -p target/bin; echo > target/bin/lashcheck')
-        self.assertEqual(made, self.program)
-        self.assertEqual((self.root / "words").read_text(), "check lashcheck\n")
-        (self.root / "words").unlink()
-        self.assertEqual(program.built(self.program, self.root), self.program)
-        self.assertFalse((self.root / "words").exists())
+    def test_the_worst_status(self):
+        b, none = self.folder / "box-b.toml", self.folder / "none.toml"
+        status, text, _ = self.lash(b, none, self.folder / "pulled-back.toml", b)
+        self.assertEqual(status, 2)
+        self.assertRegex(text, rf"(?m)^{none} +NOT CHECKED +-  cannot be read: No such file or directory$")
+        self.assertTrue(text.endswith("4 stacks: 2 accepted, 1 not accepted, 1 not checked\n"))
+        self.assertEqual(self.lash(b, b)[0], 0)
+        self.assertEqual(lash(b, none, output=b"nonsense")[0], 3)
 
-    def test_failed_build(self):
-        with self.assertRaisesRegex(program.CheckFailed, "ended with status 3 and left no"):
-            self.built("exit 3")
+    def test_json_lines(self):
+        none = self.folder / "none.toml"
+        status, text, _ = self.lash(self.folder, none, "--json")
+        self.assertEqual(status, 2)
+        found = [json.loads(line) for line in text.splitlines()]
+        self.assertEqual([each["status"] for each in found], [0, 1, 2])
+        self.assertEqual([each["source"] for each in found][2], str(none))
+        self.assertEqual(found[0]["worst_use"]["used_percent"], 14.8)
+        self.assertEqual(found[1]["worst_use"]["force"], 299_402)
+        self.assertIn("cannot be read", found[2]["error"])
 
-    def test_build_that_leaves_nothing(self):
-        with self.assertRaisesRegex(program.CheckFailed, "ended with status 0 and left no"):
-            self.built("exit 0")
+    def test_a_limit_of_nothing(self):
+        """A breaking load of 1 N leaves a safe working load of 0: any force is above it, and none uses it up."""
+        text = (EXAMPLES / "box-b.toml").read_text().replace("breaking_load = 500_000", "breaking_load = 1")
+        self.assertIn("breaking_load = 1\n", text)
+        (self.folder / "weak.toml").write_text(text)
+        findings = [(0, 4, 0), (1, 4, 0)]
+        end = ((22_073,), (98_892, 1), (1,))
+        status, text, _ = lash(self.folder / "weak.toml", self.folder / "weak.toml", output=answer_bytes(end, end, findings))
+        self.assertEqual(status, 1)
+        self.assertIn("no limit left  lock tension, door end, level 0", text)
 
 
 class Process(unittest.TestCase):
-    """./lash itself, with a program that writes a fixed answer."""
+    """./lash itself, with a library that gives a fixed answer."""
+
+    @classmethod
+    def setUpClass(cls):
+        folder = tempfile.TemporaryDirectory()
+        cls.addClassCleanup(folder.cleanup)
+        cls.library = library_of(Path(folder.name), B_ANSWER)
 
     def setUp(self):
         folder = tempfile.TemporaryDirectory()
         self.addCleanup(folder.cleanup)
         self.folder = Path(folder.name)
         (self.folder / "answer").write_bytes(B_ANSWER)
-        self.program = self.folder / "program"
-        self.program.write_text(f"#!/bin/sh\ncat > /dev/null\ncat '{self.folder}/answer'\n")
-        self.program.chmod(0o755)
 
-    def lash(self, *words, shell=""):
+    def lash(self, *words, shell="", library=None):
         command = f'exec "$0" "$@" {shell}'
-        words = [ROOT / "lash", *words, "--program", self.program]
+        words = [ROOT / "lash", *words, "--library", library or self.library]
         whole = ["sh", "-c", command, *words]
         done = subprocess.run(whole, capture_output=True, text=True, cwd=self.folder, env=BUFFERED)
         self.assertNotIn("Traceback", done.stderr)
@@ -185,8 +317,58 @@ class Process(unittest.TestCase):
         self.assertEqual(status, 3)
         self.assertEqual(errors, "lash: the report cannot be written: No space left on device\n")
 
+    def test_closed_and_full_streams(self):
+        """Only a verdict ends in 0 or 1, and never a trace."""
+        good, bad = EXAMPLES / "box-b.toml", "none.toml"
+        for words, shell, due in (
+            (("-",), "<&-", 2), (("--sheet", "-"), "<&-", 2), (("-",), "<&- 2>&-", 2),
+            ((good,), "2>&-", 0), ((good,), "2> /dev/full", 0),
+            ((bad,), "2>&-", 2), ((bad,), "2> /dev/full", 2), ((bad, "--json"), "2> /dev/full", 2),
+            ((good,), "> /dev/full 2> /dev/full", 3), ((good,), "> /dev/full 2>&-", 3), ((good,), "<&- >&- 2>&-", 0),
+            ((good, good), "> /dev/full", 3), ((good, "--svg", "-"), "> /dev/full", 3),
+            (("--colour",), "2>&-", 2), (("--colour",), "2> /dev/full", 2), ((), "2> /dev/full", 2),
+            (("--version",), "> /dev/full", 3), (("--help",), "> /dev/full", 3),
+            ((good, "--svg", "/dev/full"), "", 3), ((good, "--write", "/dev/full"), "", 3),
+        ):
+            with self.subTest(words=words, shell=shell):
+                status, _, errors = self.lash(*words, shell=shell)
+                self.assertEqual(status, due, errors)
+                self.assertLessEqual(errors.count("\n"), 1)
+
+    def test_a_closed_stream_is_not_taken_for_a_file(self):
+        """Messages do not go where a file was opened in place of a closed stream."""
+        status, _, _ = self.lash(EXAMPLES / "box-b.toml", "--svg", "picture", shell="2>&- >&-")
+        self.assertEqual(status, 0)
+        self.assertTrue((self.folder / "picture").read_bytes().endswith(b"</svg>\n"))
+        self.assertEqual(self.lash("none.toml", shell="2>&-")[1], "")
+
+    def test_files_do_not_get_the_numbers_of_closed_streams(self):
+        """What a command run later writes to its standard error must not end in a file of ours."""
+        lines = ("import os, sys", f"sys.path.insert(0, {str(ROOT)!r})", "from lashtool.ending import guarded")
+        opened = "sys.exit(guarded(lambda: os.open(os.devnull, os.O_RDONLY)))"
+        for shell in ("<&-", ">&-", "2>&-", "<&- >&- 2>&-"):
+            command = ["sh", "-c", f'exec "$0" "$@" {shell}', sys.executable, "-c", "\n".join((*lines, opened))]
+            self.assertGreater(subprocess.run(command, env=BUFFERED).returncode, 2, shell)
+
+    def python(self, *lines):
+        """./lash run after these lines of Python."""
+        script = ["import runpy, sys", *lines, f"sys.argv = ['lash', {str(EXAMPLES / 'box-b.toml')!r}, '--library', {str(self.library)!r}]"]
+        script.append(f"sys.path.insert(0, {str(ROOT)!r})")
+        script.append(f"runpy.run_path({str(ROOT / 'lash')!r}, run_name='__main__')")
+        return subprocess.run([sys.executable, "-c", "\n".join(script)], capture_output=True, text=True, env=BUFFERED)
+
+    def test_an_older_python(self):
+        done = self.python("sys.modules['tomllib'] = None", "sys.version_info = (3, 10, 2, 'final', 0)")
+        message = "lash: Python 3.11 or newer is needed; this is 3.10\n"
+        self.assertEqual((done.returncode, done.stdout, done.stderr), (3, "", message))
+
+    def test_a_fault_of_the_tool(self):
+        done = self.python("import lashtool.report", "lashtool.report.table = lambda *words: 1 // 0")
+        message = "lash: a fault of the tool itself, and no verdict: ZeroDivisionError: integer division or modulo by zero\n"
+        self.assertEqual((done.returncode, done.stdout, done.stderr), (3, "", message))
+
     def test_a_reader_that_has_gone(self):
-        words = [sys.executable, ROOT / "lash", EXAMPLES / "box-b.toml", "--program", self.program]
+        words = [sys.executable, ROOT / "lash", EXAMPLES / "box-b.toml", "--library", self.library]
         reader, writer = os.pipe()
         os.close(reader)
         done = subprocess.run(words, stdout=writer, stderr=subprocess.PIPE, text=True, env=BUFFERED)
@@ -196,27 +378,44 @@ class Process(unittest.TestCase):
     def test_bad_input(self):
         (self.folder / "deep.toml").write_text("x = " + "[" * 50_000)
         (self.folder / "digits.toml").write_text("route = " + "9" * 50_000)
-        for name in ("none.toml", ".", "answer", "deep.toml", "digits.toml", "/dev/zero", "", "\udcff"):
+        for name in ("none.toml", "answer", "deep.toml", "digits.toml", "/dev/zero", "", "\udcff"):
             status, text, errors = self.lash(name)
             self.assertEqual((status, text), (2, ""), name)
             self.assertTrue(errors.startswith("lash: "), errors)
 
-    def test_programs_that_fail(self):
-        for script, message in (
-            ("#!/bin/sh\nkill -9 $$\n", "ended by signal 9"),
-            ("#!/no/such/interpreter\n", "No such file or directory"),
-            ("", "Exec format error"),
-        ):
-            self.program.write_text(script)
-            status, _, errors = self.lash(EXAMPLES / "box-b.toml")
-            self.assertEqual(status, 3)
+    def test_libraries_that_fail(self):
+        (self.folder / "text").write_bytes(b"no library" * 100)
+        (self.folder / "other.so").write_bytes(Path(library_of(self.folder, B_ANSWER, name="another_call")).read_bytes())
+        for name, message in (("none", "cannot open"), ("text", "invalid ELF header"), ("other.so", "lash_check")):
+            status, text, errors = self.lash(EXAMPLES / "box-b.toml", library=self.folder / name)
+            self.assertEqual((status, text), (3, ""))
+            self.assertTrue(errors.startswith("lash: the library cannot be loaded: "), errors)
             self.assertIn(message, errors)
+            self.assertEqual(errors.count("\n"), 1)
+
+    def test_colours_on_a_terminal(self):
+        """And none against NO_COLOR; in a file there are none either way."""
+        words = [ROOT / "lash", EXAMPLES / "box-b.toml", "--library", self.library]
+        for more, coloured in (({"TERM": "xterm"}, True), ({"TERM": "xterm", "NO_COLOR": "1"}, False)):
+            reader, writer = os.openpty()
+            environment = {name: value for name, value in BUFFERED.items() if name != "NO_COLOR"}
+            process = subprocess.Popen(words, stdout=writer, env={**environment, **more})
+            os.close(writer)
+            text = b""
+            with contextlib.suppress(OSError):  # a terminal whose other side has gone ends so
+                while part := os.read(reader, 65_536):
+                    text += part
+            os.close(reader)
+            self.assertEqual(process.wait(), 0)
+            self.assertIn(b"ACCEPTED", text)
+            self.assertEqual(b"\x1b[36m" in text, coloured)
+        self.assertNotIn("\x1b", self.lash(EXAMPLES / "box-b.toml")[1])
 
     def test_help(self):
         status, text, _ = self.lash("--help")
         self.assertEqual(status, 0)
         self.assertIn("Exit status: 0 accepted, 1 not accepted, 2 refused", text)
-        self.assertNotIn("--program", text)
+        self.assertNotIn("--library", text)
 
 
 if __name__ == "__main__":

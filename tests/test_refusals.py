@@ -6,7 +6,7 @@ from random import Random
 
 from lashtool.refusals import explain
 from reference.cases import BOX_B, HEAD, ROD_S
-from reference.sheet import Refused, Sheet, pack, parse
+from sheets.sheet import Refused, Sheet, pack, parse
 
 
 def stack(tiers=(BOX_B, BOX_B), door=(), closed=(), **head):
@@ -28,7 +28,7 @@ MEANINGS = (
     (stack()[:30], (1, 30), "the sheet has 30 bytes, too few for tier 2 (bytes 21 to 32)"),
     (stack()[:34], (1, 34), "the sheet has 34 bytes, too few for the closed end's lash count (byte 34)"),
     (stack(door=rods())[:60], (1, 60),
-     "the sheet has 60 bytes, too few for door end, lash 1 (bytes 54 to 73)"),
+     "the sheet has 60 bytes, too few for door end, lash 2 (bytes 54 to 73)"),
     (stack() + b"abc", (2, 35), "bytes follow the last entry: 3 from byte 35 on"),
     (stack(rule=2), (3, 0), "the head: rule 2 is not known; it has to be 1"),
     (stack(zero=9), (3, 0), "the head: byte 3 is 9; it has to be 0"),
@@ -51,16 +51,18 @@ MEANINGS = (
      "tier 2 (bytes 21 to 32): size 20 feet differs from tier 1, which has 40"),
     (stack()[:-1] + b"\x09", (9, 34), "the closed end's lash count (byte 34) is 9; at most 8 are allowed"),
     (stack(closed=rods(ly=499, kind=2)), (10, 55),
-     "closed end, lash 1 (bytes 55 to 74): kind has code 2; codes are 0 to 1, "
+     "closed end, lash 2 (bytes 55 to 74): kind has code 2; codes are 0 to 1, "
      "LY 499 is outside 500 to 10,000 mm"),
     (stack(door=[replace(ROD_S, tier=3)]), (11, 34),
-     "door end, lash 0 (bytes 34 to 53): tier 3 is not in this stack of 2 tiers"),
+     "door end, lash 1 (bytes 34 to 53): tier 3 is not in this stack of 2 tiers"),
     (stack(door=[replace(ROD_S, hook=1)]), (11, 34),
-     "door end, lash 0 (bytes 34 to 53): "
+     "door end, lash 1 (bytes 34 to 53): "
      "it is hooked to the bottom corner of tier 1, which stands on the deck"),
     (stack(door=[ROD_S, ROD_S]), (12, 54),
-     "door end, lash 1 (bytes 54 to 73): tier 1 top cross is not later than the lash before it; "
-     "lashes go by tier, then hook, then kind, each place once"),
+     "door end, lash 2 (bytes 54 to 73): tier 1 top cross is given twice, here and right before"),
+    (stack(door=[replace(ROD_S, tier=2), ROD_S]), (12, 54),
+     "door end, lash 2 (bytes 54 to 73): tier 1 top cross comes after tier 2 top cross; "
+     "lashes go by tier, then hook (top first), then kind (cross first)"),
 )
 
 

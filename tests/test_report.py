@@ -1,80 +1,150 @@
-"""The table and the data for scripts, from answers written by hand."""
+"""The printout, from answers written by hand."""
 
-import json
+import io
+import re
 import unittest
+from dataclasses import replace
 
-from lashtool.report import Figure
-from tests.support import B_ANSWER, EXAMPLES, PULLED_BACK_ANSWER, lash
+from lashtool import colour
+from lashtool.figures import KEPT, Figure, result
+from lashtool.report import table
+from reference import judge
+from reference.cases import BOX_B, HEAD, ROD_S
+from sheets.answer import read_answer
+from sheets.sheet import Sheet
+from tests.support import B_ANSWER, EXAMPLES, PULLED_BACK_ANSWER, answer_bytes, lash
 
-B_TABLE = """\
+B_TOP = """\
 Box B alone
-1 tier of 40 feet, 20,000 kg; route 0 (factor 1.00); lock higher strength, safe working load 299,401 N
-
-DOOR END
-  tier    racking, N      limit     used
-  1           22,073    150,000    14.8%
-  level    compr., N      limit     used    tension, N      limit     used   lock limit     used
-  0           98,892          -        -             1    250,000     0.1%      299,401     0.1%
-  1                1    848,000     0.1%
-  no lashes
-
-CLOSED END
-  tier    racking, N      limit     used
-  1           22,073    150,000    14.8%
-  level    compr., N      limit     used    tension, N      limit     used   lock limit     used
-  0           98,892          -        -             1    250,000     0.1%      299,401     0.1%
-  1                1    848,000     0.1%
-  no lashes
-
 ACCEPTED
+worst use of a limit: |==        | 14.8% at the door end, tier 1: racking to leeward 22,073 N of 150,000 N
+
+CHECKED
+  1 tier of 40 feet, 20,000 kg, 2,591 mm high
+  rule 1; route 0, Unrestricted: A_T x 1.00
+  locks: higher strength, breaking load 500,000 N, safe working load 299,401 N
+  racking stiffness of each box: door end 3,730 N/mm, closed end 15,690 N/mm
+
+  tier  height, mm  mass, kg  wind       A_T, g  A_Vmax, g  A_Vmin, g
+  1          2,591    20,000  sheltered   0.500      1.500      0.800
+
+  no lashes
+
+"""
+B_END = """\
+  tier   racking, N   used
+  limit     150,000
+  1          22,073  14.8%    |==        |
+
+  level  compr., N  used    tension, N  of corner    of lock
+  limit    848,000                        250,000    299,401
+  0         98,892     -           < 9       0.1%       0.1%    |=         |
+  1            < 9  0.1%                                        |=         |
+
+  no lashes
+
 """
 
-FINDINGS = """\
-FINDINGS
-  door end, tier 6: racking 155,949 N to windward exceeds 150,000 N
-  door end, level 2: compression 848,001 N exceeds 848,000 N
-  door end, level 1: corner tension 250,001 N exceeds 250,000 N
-  door end, level 3: corner tension 299,402 N exceeds 250,000 N
-  door end, level 3: lock tension 299,402 N exceeds the safe working load of 299,401 N
-  door end, lash 1 (tier 6 top side): lash tension 293,414 N exceeds the safe working load of 293,413 N
-  door end, lash 1 (tier 6 top side): lash vertical part 300,001 N exceeds 300,000 N
-  door end, lash 1 (tier 6 top side): lash athwart part 150,001 N exceeds 150,000 N
-
+# With findings and warnings: what decides stands first, the findings by kind, lashes by the description's count.
+PULLED_BACK_TOP = """\
+A light top box pulled back to windward
 NOT ACCEPTED: 8 findings
+worst use of a limit: |!!!!!!!!!!| 119.8% at the door end, level 3: corner tension 299,402 N of 250,000 N
+
+FINDINGS
+  racking
+    door end, tier 6: 155,949 N to windward, 104.0% of 150,000 N
+  compression
+    door end, level 2: 848,001 N, 100.1% of 848,000 N
+  corner tension
+    door end, level 1: 250,001 N, 100.1% of 250,000 N
+    door end, level 3: 299,402 N, 119.8% of 250,000 N
+  lock tension
+    door end, level 3: 299,402 N, 100.1% of 299,401 N
+  lash tension
+    door end, lash 2 (tier 6 top side): 293,414 N, 100.1% of 293,413 N
+  lash vertical part
+    door end, lash 2 (tier 6 top side): 300,001 N, 100.1% of 300,000 N
+  lash athwart part
+    door end, lash 2 (tier 6 top side): 150,001 N, 100.1% of 150,000 N
+
+WARNINGS
+  lash 2 (tier 6 top side, door end): its foot lies 4,000 mm to windward of the stack (LY 4,000 mm), beyond
+    the next stack and, for a stack at the ship's side, beyond the ship
+
+CHECKED
 """
 
 LINES = (
-    "  4          -11,004    150,000     7.4%    to windward",
-    "  6         -155,949    150,000   104.0% !  to windward",
-    "  0          900,000          -        -        13,000    250,000     5.2%      299,401     4.4%",
-    "  1           12,001    848,000     1.5%       250,001    250,000   100.1% !    299,401    83.6%",
-    "  2          848,001    848,000   100.1% !      13,002    250,000     5.3%      299,401     4.4%",
-    "  3           12,003    848,000     1.5%       299,402    250,000   119.8% !    299,401   100.1% !",
-    "  6           12,006    848,000     1.5%",
-    "  0  tier 6 top cross          14,000    293,413     4.8%        14,200    300,000     4.8%"
-    "        14,100    150,000     9.4%",
-    "  1  tier 6 top side          293,414    293,413   100.1% !     300,001    300,000   100.1% !"
-    "     150,001    150,000   100.1% !",
-    "  6          150,000    150,000   100.0%",
-    "  2          848,000    848,000   100.0%        23,002    250,000     9.3%      299,401     7.7%",
-    "  1  tier 5 top cross          24,001    293,413     8.2%       300,000    300,000   100.0%"
-    "       150,000    150,000   100.0%",
+    "  not given and taken as: lash hook top; lash kind cross",
+    "  5          2,591    30,480  sheltered   0.800      1.000      1.000",
+    "  2     door    tier 6 top side    0  4,000  3,000   5,000   12,546   300  higher strength rod  130,000    490,000",
+    "  4     closed  tier 5 top cross   0  4,000  3,000   5,000    9,955   500  higher strength rod  130,000    490,000",
+    "  4          11,004    7.4%    |=         | to windward",
+    "  6         155,949  104.0% !  |!!!!!!!!!!| to windward",
+    "  0        900,000       -        13,000       5.2%       4.4%    |=         |",
+    "  1         12,001    1.5%       250,001     100.1% !    83.6%    |!!!!!!!!!!|",
+    "  2        848,001  100.1% !      13,002       5.3%       4.4%    |!!!!!!!!!!|",
+    "  3         12,003    1.5%       299,402     119.8% !   100.1% !  |!!!!!!!!!!|",
+    "  6         12,006    1.5%                                        |=         |",
+    "  1      tier 6 top cross      14,000    293,413    4.8%         14,200    4.8%        14,100    9.4%    |=         |",
+    "  2      tier 6 top side      293,414    293,413  100.1% !      300,001  100.1% !     150,001  100.1% !  |!!!!!!!!!!|",
+    "  6         150,000  100.0%    |##########|",
+    "  2        848,000  100.0%        23,002       9.3%       7.7%    |##########|",
+    "  3      tier 4 top cross     293,413    293,413  100.0%         24,200    8.1%        24,100   16.1%    |##########|",
+    "  4      tier 5 top cross      24,001    293,413    8.2%        300,000  100.0%       150,000  100.0%    |##########|",
 )
+
+
+def figure(force, limit, over=False, kind=1):
+    return Figure(0, kind, 1, force, limit, over)
 
 
 class Table(unittest.TestCase):
     def test_accepted(self):
         status, text, errors = lash(EXAMPLES / "box-b.toml", output=B_ANSWER)
-        self.assertEqual((status, text, errors), (0, B_TABLE, ""))
+        self.assertEqual((status, errors), (0, ""))
+        self.assertTrue(text.startswith(f"{B_TOP}DOOR END\n{B_END}CLOSED END\n{B_END}NOTES\n"), text)
+        self.assertTrue(text.endswith("\n\nACCEPTED\n"))
+        self.assertIn("  < 9: every figure is proved to be at least the exact force", text)
 
     def test_not_accepted(self):
         status, text, errors = lash(EXAMPLES / "pulled-back.toml", output=PULLED_BACK_ANSWER)
-        self.assertEqual((status, errors), (1, ""))
-        self.assertTrue(text.endswith(FINDINGS), text)
+        self.assertEqual(status, 1)
+        self.assertTrue(text.startswith(PULLED_BACK_TOP), text)
         for line in LINES:
             self.assertIn(line, text.splitlines())
-        self.assertIn("not given and taken as: lash hook top; lash kind cross", text.splitlines())
+        self.assertTrue(text.endswith("\n\nNOT ACCEPTED: 8 findings\n"))
+        self.assertNotIn("< 9", text)
 
+    def test_a_lash_at_both_ends_is_listed_once_and_keeps_its_number(self):
+        """Lashes 2 and 3 of this description change places in the sheet."""
+        posts = ((1_000,) * 8, (1_000,) * 9, (1_000,) * 8)
+        end = (*posts, tuple((n, n, n) for n in (100_001, 100_003, 100_002, 100_004)))
+        status, text, _ = lash(EXAMPLES / "eight-high.toml", output=answer_bytes(end, end))
+        self.assertEqual(status, 0)
+        listed = [line.split()[:6] for line in text.splitlines() if " both " in line]
+        hooked = ["tier 3 top cross", "tier 4 bottom cross", "tier 4 top cross", "tier 5 bottom cross"]
+        self.assertEqual(listed, [[str(n), "both", *place.split()] for n, place in enumerate(hooked, 1)])
+        for number, place in enumerate(hooked, 1):
+            row = rf"(?m)^  {number} +{place} +{100_000 + number:,} "
+            self.assertEqual(len(re.findall(row, text)), 2, text)
+
+    def test_a_sheet_has_no_description_to_count_by(self):
+        door = (ROD_S, replace(ROD_S, kind=1))
+        sheet = Sheet(HEAD, (BOX_B,), door, (replace(ROD_S, kind=1),))
+        lists = [((1,), (1, 1), (1,), ((9, 9, 9),) * count) for count in (2, 1)]
+        text = table(result("", sheet, read_answer(answer_bytes(*lists)), []))
+        rows = [line.split()[:3] for line in text.splitlines() if " higher strength rod " in line]
+        self.assertEqual(rows, [["1", "door", "tier"], ["1", "closed", "tier"], ["2", "door", "tier"]])
+
+    def test_lines_fit_a_page(self):
+        for name, output in (("box-b", B_ANSWER), ("pulled-back", PULLED_BACK_ANSWER)):
+            text = lash(EXAMPLES / f"{name}.toml", output=output)[1]
+            self.assertLessEqual(max(map(len, text.splitlines())), 122)
+
+
+class Figures(unittest.TestCase):
     def test_the_share_never_hides_an_excess(self):
         for force, limit, used, share in (
             (0, 150_000, 0, "0.0%"),
@@ -82,45 +152,80 @@ class Table(unittest.TestCase):
             (150_000, 150_000, 100.0, "100.0%"),
             (150_001, 150_000, 100.1, "100.1%"),
             (74_999, 150_000, 50.0, "50.0%"),
-            (1_500_001, 150_000, 1000.1, "1,001%"),
-            (5, 0, None, "-"),
+            (1_500_001, 150_000, 1000.1, "1,000.1%"),
             (5, None, None, "-"),
+            (0, 0, 0.0, "0.0%"),
         ):
-            figure = Figure(0, 1, 1, force, limit, False)
-            self.assertEqual((figure.used, figure.used_share), (used, share))
+            shown = figure(force, limit)
+            self.assertEqual((shown.used, shown.used_text), (used, share))
+        self.assertEqual(figure(5, 0, True).used_text, "no limit left")
+
+    def test_a_figure_that_may_stand_for_no_force(self):
+        """The pad is less than the 9 N that compare holds figures to; what exceeds its limit is shown as it is."""
+        self.assertEqual(KEPT, judge.KEPT)
+        for force, over, text in ((0, False, "0"), (4, False, "< 9"), (-8, False, "< 9"), (9, False, "9"), (4, True, "4")):
+            self.assertEqual(figure(force, 0 if over else 150_000, over).force_text, text)
+
+    def test_the_worst_use(self):
+        """By share, not by force; a limit of 0 that is exceeded is worst, a force without a limit never."""
+        weak = replace(ROD_S, breaking=1, material=2)
+        for lashes, forces, due in (
+            ((), (), (0, 3, 0)),
+            ((ROD_S,), ((150_000, 149_999, 50_000),), (0, 7, 0)),
+            ((weak,), ((1, 1, 1),), (0, 5, 0)),
+        ):
+            end = ((50_000,), (800_000, 300_000), (125_000,))
+            found = [(e, 5, 0) for e in (0, 1)] if lashes == (weak,) else []
+            answer = answer_bytes((*end, forces), (*end, forces), found)
+            outcome = result("", Sheet(HEAD, (BOX_B,), lashes, lashes), read_answer(answer), [])
+            worst = outcome.worst()
+            self.assertEqual((worst.end, worst.kind, worst.index), due)
+        self.assertIn("worst use of a limit: |!!!!!!!!!!| no limit left at the door end, lash 1", table(outcome))
+        self.assertIn("    door end, lash 1 (tier 1 top cross): 1 N, nothing is allowed", table(outcome))
+
+    def test_bars(self):
+        for force, over, text in (
+            (0, False, "|          |"),
+            (1, False, "|=         |"),
+            (-75_000, False, "|=====     |"),
+            (119_999, False, "|========  |"),
+            (120_000, False, "|########  |"),
+            (150_000, False, "|##########|"),
+            (150_001, True, "|!!!!!!!!!!|"),
+        ):
+            self.assertEqual(colour.bar(figure(force, 150_000, over)), text)
 
 
-class Data(unittest.TestCase):
-    def test_not_accepted(self):
-        status, text, errors = lash(EXAMPLES / "pulled-back.toml", "--json", output=PULLED_BACK_ANSWER)
-        self.assertEqual((status, errors), (1, ""))
-        data = json.loads(text)
-        self.assertEqual(data["title"], "A light top box pulled back to windward")
-        self.assertIs(data["accepted"], False)
-        door, closed = data["ends"]
-        self.assertEqual((door["end"], closed["end"]), ("door", "closed"))
-        self.assertEqual(
-            door["racking"][5],
-            {"tier": 6, "force": -155_949, "limit": 150_000, "used_percent": 104.0, "over": True},
-        )
-        self.assertEqual([row["level"] for row in door["compression"]], [0, 1, 2, 3, 4, 5, 6])
-        self.assertIsNone(door["compression"][0]["limit"])
-        tensions = [row["force"] for row in closed["corner_tension"]]
-        self.assertEqual(tensions, [23_000, 250_000, 23_002, 23_003, 23_004, 23_005])
-        self.assertEqual({row["limit"] for row in closed["lock_tension"]}, {299_401})
-        self.assertEqual(closed["lashes"][1]["place"], "tier 5 top cross")
-        forces = [closed["lashes"][1][name]["force"] for name in ("tension", "vertical", "athwart")]
-        self.assertEqual(forces, [24_001, 300_000, 150_000])
-        self.assertEqual([row["kind"] for row in data["findings"]], [1, 2, 3, 3, 4, 5, 6, 7])
-        self.assertEqual(data["findings"][0]["tier"], 6)
-        self.assertEqual(data["findings"][5]["lash"], 1)
-        text = "door end, level 2: compression 848,001 N exceeds 848,000 N"
-        self.assertEqual(data["findings"][1]["text"], text)
+class Terminal(io.StringIO):
+    def isatty(self):
+        return True
 
-    def test_accepted(self):
-        status, text, _ = lash(EXAMPLES / "box-b.toml", "--json", output=B_ANSWER)
-        data = json.loads(text)
-        self.assertEqual((status, data["accepted"], data["findings"]), (0, True, []))
+
+class Colours(unittest.TestCase):
+    def test_on_a_terminal_only(self):
+        self.assertTrue(colour.wanted(Terminal(), {"TERM": "xterm"}))
+        self.assertTrue(colour.wanted(Terminal(), {"NO_COLOR": ""}))
+        for stream, environment in (
+            (io.StringIO(), {}),
+            (Terminal(), {"NO_COLOR": "1"}),
+            (Terminal(), {"TERM": "dumb"}),
+            (None, {}),
+        ):
+            self.assertFalse(colour.wanted(stream, environment))
+        closed = Terminal()
+        closed.close()
+        closed.isatty = io.StringIO.isatty.__get__(closed)
+        self.assertFalse(colour.wanted(closed, {}))
+
+    def test_colours_change_no_letter(self):
+        sheet = Sheet(HEAD, (BOX_B,), (), ())
+        end = ((150_001,), (1, 700_000), (1,))
+        outcome = result("", sheet, read_answer(answer_bytes(end, end, [(0, 1, 1), (1, 1, 1)])), [])
+        coloured = table(outcome, True)
+        for code in ("\x1b[1;31m", "\x1b[1;33m", "\x1b[36m"):
+            self.assertIn(code, coloured)
+            coloured = coloured.replace(code, "")
+        self.assertEqual(coloured.replace("\x1b[0m", ""), table(outcome))
 
 
 if __name__ == "__main__":

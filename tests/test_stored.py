@@ -4,10 +4,10 @@ import unittest
 from pathlib import Path
 
 from reference.cases import BOX_B, CASES, SLIPS, Case, box, rod, stack
-from reference.sheet import ANSWER_ROOM, parse
 from reference.stack import exact
 from reference.stored import FIELD, HEAD, Undecided, due, packed, stored
-from reference.test_compare import SHOWN_BY, StandIn, slipped
+from sheets.sheet import ANSWER_ROOM, parse
+from tests.test_compare import SHOWN_BY, StandIn, slipped
 
 ROOT = Path(__file__).resolve().parent.parent
 TAKEN = [case for case in CASES if case.room == ANSWER_ROOM and due(case)[2]]

@@ -1,9 +1,25 @@
 """The answer sheet: what its bytes hold."""
 
 from dataclasses import dataclass
+from fractions import Fraction
 from struct import unpack_from
 
-from reference.stack import End, LashForces
+
+@dataclass(frozen=True)
+class LashForces:
+    tension: Fraction
+    athwart: Fraction
+    vertical: Fraction
+
+
+@dataclass(frozen=True)
+class End:
+    """The forces of one end in N, exact or reported."""
+
+    racking: tuple  # tiers 1 to n
+    compression: tuple  # levels 0 to n
+    tension: tuple  # levels 0 to n-1
+    lashes: tuple  # LashForces, in sheet order
 
 
 @dataclass(frozen=True)

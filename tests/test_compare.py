@@ -15,9 +15,9 @@ from pathlib import Path
 
 from reference.cases import CASES, SLIPS
 from reference.faults import EDGES
-from reference.judge import expected, figure_fault, judge
+from reference.judge import KEPT, MARGIN, expected, figure_fault, judge
 from reference.making import KINDS, make
-from reference.sheet import ANSWER_ROOM
+from sheets.sheet import ANSWER_ROOM
 
 ROOT = Path(__file__).resolve().parent.parent
 
@@ -379,15 +379,23 @@ class Comparison(unittest.TestCase):
         cls.near = trials(make(seed).data for seed in NEAR_SEEDS)
 
     def test_a_right_check_passes(self):
-        for pad in (0.001, 98.9):
+        for pad, margin in ((0.001, KEPT), (7.9, KEPT), (98.9, MARGIN)):
             check = StandIn()
             check.pad = pad
             for data, due in self.named + self.made + self.near:
-                self.assertEqual(judge(due, check(data)).faults, [], data.hex())
+                self.assertEqual(judge(due, check(data), margin).faults, [], data.hex())
 
-    def first_fault(self, check, trials):
+    def test_what_is_kept_is_asked_for(self):
+        """Figures within the 100 N demanded, and past the 9 N kept."""
+        check = StandIn()
+        check.pad = 9
+        fault = self.first_fault(check, self.named, KEPT)
+        self.assertTrue(fault.startswith("9 N or more above the exact force"), fault)
+        self.assertIsNone(self.first_fault(check, self.named))
+
+    def first_fault(self, check, trials, margin=MARGIN):
         for data, due in trials:
-            faults = judge(due, check(data)).faults
+            faults = judge(due, check(data), margin).faults
             if faults:
                 return faults[0]
         return None
@@ -435,7 +443,16 @@ class Bounds(unittest.TestCase):
             ("racking", "100", 100, None), ("racking", "100", -100, sign), ("racking", "-100", 100, sign),
             ("racking", "-100", -199, None), ("racking", "-100", -200, above), ("racking", "0", -99, None),
         ):
-            self.assertEqual(figure_fault(kind, Fraction(force), reported), due, (kind, force, reported))
+            self.assertEqual(figure_fault(kind, Fraction(force), reported, MARGIN), due, (kind, force, reported))
+
+    def test_a_figure_within_what_is_kept(self):
+        above, sign = "9 N or more above the exact force", "wrong sign"
+        for kind, force, reported, due in (
+            ("tension", "0", 8, None), ("tension", "0", 9, above), ("tension", "7.5", 16, None),
+            ("tension", "7.5", 17, above), ("tension", "7.5", 107, above), ("tension", "7.5", 108, f"100{above[1:]}"),
+            ("racking", "8.5", -9, None), ("racking", "9", -9, sign), ("racking", "-9", 9, sign), ("racking", "-9", -17, None),
+        ):
+            self.assertEqual(figure_fault(kind, Fraction(force), reported, KEPT), due, (kind, force, reported))
 
 
 class Script(unittest.TestCase):

@@ -20,6 +20,9 @@ TIER_COUNT_PLACE = HEAD.size
 
 HEIGHTS = {20: (2438, 2591), 40: (2591, 2896)}
 
+# By route code, the share of the transverse acceleration, in percent.
+ROUTE_PERCENT = (100, 87, 96, 95, 94, 100, 95, 73, 86, 90, 90, 73, 87)
+
 # Least and greatest value of each field that has a range.
 HEAD_LIMITS = {"route": (0, 12), "lock_material": (0, 2), "lock_breaking": (1, 2_000_000)}
 TIER_LIMITS = {

@@ -5,19 +5,27 @@ from dataclasses import replace
 from fractions import Fraction
 from struct import pack as packed
 
-from reference.answer import BadAnswer, read_answer
 from reference.cases import BOX_B as B
 from reference.cases import HEAD
 from reference.cases import ROD_S as S
-from reference.sheet import BOTTOM, CLOSED, CROSS, DOOR, SIDE, Refused, Sheet, pack, parse
 from reference.stack import (
-    End, LashForces, equations, exact, findings, lash_forces, lash_length, moment, racking_load,
-    safe_working_load, shifts, transverse, wind,
+    UNIT, equations, exact, lash_forces, lash_length, loads, shifts, transverse, vertical, wind,
 )
+from sheets.answer import BadAnswer, End, LashForces, read_answer
+from sheets.limits import findings, safe_working_load
+from sheets.sheet import BOTTOM, CLOSED, CROSS, DOOR, SIDE, Refused, Sheet, pack, parse
 
 
 def stack(*tiers, door=(), closed=(), head=HEAD):
     return Sheet(head, tiers, tuple(door), tuple(closed))
+
+
+def newtons(load):
+    return Fraction(load, UNIT)
+
+
+def racking_load(sheet, number):
+    return newtons(loads(sheet).racking[number - 1])
 
 
 class Figures(unittest.TestCase):
@@ -30,17 +38,17 @@ class Figures(unittest.TestCase):
         self.assertEqual(racking_load(stack(B, B), 1), Fraction("71122.5"))
 
     def test_c_moment_at_the_deck(self):
-        self.assertEqual(moment(stack(B), DOOR, (), 0), Fraction("57189847.5"))
+        self.assertEqual(newtons(loads(stack(B)).moment[0]), Fraction("57189847.5"))
         self.assertEqual(exact(stack(B))[0].tension, (0,))
 
     def test_d_shift_with_a_rod(self):
         sheet = stack(B, door=[S])
         self.assertEqual(lash_forces(S, 1).athwart, 7200)
-        self.assertEqual(shifts(sheet, DOOR)[1], Fraction("22072.5") / 10930)
+        self.assertEqual(shifts(sheet, DOOR, loads(sheet).racking)[1], Fraction("22072.5") / 10930)
 
     def test_e_pulled_back(self):
         sheet = stack(B, replace(B, mass=2000), door=[replace(S, tier=2)])
-        self.assertEqual(shifts(sheet, DOOR)[2], Fraction("29184.75") / 18130)
+        self.assertEqual(shifts(sheet, DOOR, loads(sheet).racking)[2], Fraction("29184.75") / 18130)
         self.assertAlmostEqual(float(exact(sheet)[0].racking[1]), -9382.94, 2)
 
     def test_f_g_safe_working_loads(self):
@@ -53,21 +61,45 @@ class Figures(unittest.TestCase):
         self.assertEqual(lash_length(replace(S, lx=1)), 3251)
 
     def test_i_wind(self):
-        self.assertEqual(wind(replace(B, wind=1, height=2896)), Fraction("19066.33728"))
-        self.assertEqual(wind(replace(B, wind=1, size=20)), Fraction("8475.99012"))
+        self.assertEqual(newtons(wind(replace(B, wind=1, height=2896))), Fraction("19066.33728"))
+        self.assertEqual(newtons(wind(replace(B, wind=1, size=20))), Fraction("8475.99012"))
         self.assertEqual(wind(B), 0)
 
     def test_j_route_seven(self):
-        self.assertEqual(transverse(B, 7), Fraction("35806.5"))
+        self.assertEqual(newtons(transverse(B, 7)), Fraction("35806.5"))
 
 
 class Forces(unittest.TestCase):
+    def test_loads_are_whole_parts_of_a_newton(self):
+        """What is divided is a multiple: the loads in parts of a newton are the paper's in fractions."""
+        half, g = Fraction(1, 2), Fraction("9.81")
+        sheet = stack(
+            replace(B, mass=30_479, a_t=1_499, a_vmax=2_999, a_vmin=997, wind=1),
+            replace(B, mass=1, a_t=1, a_vmax=1, a_vmin=1, height=2896, wind=1),
+            replace(B, mass=7_919, a_t=613, a_vmax=1_201, a_vmin=811),
+            head=replace(HEAD, route=1),
+        )
+        f = [half * tier.mass * g * Fraction(tier.a_t, 1000) * Fraction("0.87") for tier in sheet.tiers]
+        p = [half * Fraction("0.00108") * 12192 * tier.height * tier.wind for tier in sheet.tiers]
+        self.assertEqual([newtons(transverse(tier, 1)) for tier in sheet.tiers], f)
+        self.assertEqual([newtons(wind(tier)) for tier in sheet.tiers], p)
+        v = [half * tier.mass * g * Fraction(tier.a_vmax, 1000) for tier in sheet.tiers]
+        self.assertEqual([newtons(vertical(tier, tier.a_vmax)) for tier in sheet.tiers], v)
+        borne = loads(sheet)
+        self.assertEqual([newtons(load) for load in borne.greatest], [sum(v), v[1] + v[2], v[2], 0])
+        self.assertEqual(newtons(borne.least[1]), half * g * Fraction(1 + 7_919 * 811, 1000))
+        share = Fraction("0.45")
+        self.assertEqual(newtons(borne.racking[1]), share * f[1] + half * p[1] + f[2] + p[2])
+        own = f[1] * share * 2896 + p[1] * half * 2896
+        self.assertEqual(newtons(borne.moment[1]), own + f[2] * (2896 + share * 2591) + p[2] * (2896 + half * 2591))
+
     def test_the_solution_solves_the_equations(self):
         lashes = (S, replace(S, kind=SIDE, ly=700), replace(S, tier=3, hook=BOTTOM, lx=317))
         sheet = stack(B, B, replace(B, wind=1), door=lashes, closed=lashes)
         for end in (DOOR, CLOSED):
-            shift = shifts(sheet, end)[1:]
-            for row in equations(sheet, end):
+            racking = loads(sheet).racking
+            shift = shifts(sheet, end, racking)[1:]
+            for row in equations(sheet, end, racking):
                 self.assertEqual(sum(a * d for a, d in zip(row, shift)), row[-1])
 
     def test_racking_is_the_load_less_the_athwart_parts(self):

@@ -1,0 +1,79 @@
+"""The calls of the C library (include/lash_check.h), one table for all that use them."""
+
+import ctypes
+from dataclasses import dataclass
+from functools import lru_cache
+
+from lashlib.build import shared_library
+from sheets.sheet import ANSWER_ROOM
+
+# What a call takes, in its order: bytes that are lent for reading, a buffer that is written, or a number of C's.
+READ, WRITTEN = "read", "written"
+CALLS = {
+    "lash_check": (READ, WRITTEN),
+}
+POINTER_AND_LENGTH = (ctypes.c_char_p, ctypes.c_size_t)
+
+
+@dataclass(frozen=True)
+class Reply:
+    """What a call returned and what it left in its buffer."""
+
+    result: int  # the 64 bits
+    buffer: bytes = b""
+
+    @property
+    def number(self):
+        """0, or why the call was refused."""
+        return self.result & 255
+
+    @property
+    def second(self):
+        return self.result >> 8
+
+    @property
+    def answer(self):
+        """The bytes written, if the call was not refused."""
+        return self.buffer[: self.second]
+
+    @property
+    def output(self):
+        """What the program lashcheck writes for this."""
+        return b"%d %d\n" % (self.number, self.second) if self.number else self.answer
+
+
+class Library:
+    """The calls of a shared library."""
+
+    def __init__(self, path, calls=CALLS):
+        loaded = ctypes.CDLL(str(path))
+        self.calls = {name: declared(loaded[name], kinds) for name, kinds in calls.items()}
+        self.kinds = calls
+
+    def call(self, name, *given, room=ANSWER_ROOM):
+        """Calls with the bytes and numbers given, in order; the buffer is none of them, only its length is, as `room`."""
+        buffer, words, rest = ctypes.create_string_buffer(room), [], iter(given)
+        for kind in self.kinds[name]:
+            if kind == WRITTEN:
+                words += (buffer, room)
+            else:
+                value = next(rest)
+                words += (value, len(value)) if kind == READ else (value,)
+        return Reply(self.calls[name](*words), buffer.raw)
+
+    def check(self, sheet, room=ANSWER_ROOM):
+        return self.call("lash_check", sheet, room=room)
+
+
+def declared(function, kinds):
+    """A function of the library with its types set."""
+    function.restype = ctypes.c_uint64
+    types = [POINTER_AND_LENGTH if kind in (READ, WRITTEN) else (kind,) for kind in kinds]
+    function.argtypes = [each for pair in types for each in pair]
+    return function
+
+
+@lru_cache(4)
+def loaded(path=None):
+    """A library by its path, or the proved one, built if need be."""
+    return Library(path or shared_library())

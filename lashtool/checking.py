@@ -1,0 +1,46 @@
+"""A sheet checked by the library, and the answer held to the sheet before anything is said of it."""
+
+from lashlib.build import BuildFailed
+from lashlib.calls import loaded
+from sheets.answer import BadAnswer, counts, counts_due, read_answer
+from sheets.limits import findings
+from sheets.sheet import Refused, parse
+
+
+class CheckFailed(Exception):
+    """The check could not be built or run, or a file not be written, with the reason."""
+
+
+def library_check(path=None):
+    """The library's check, from a sheet's bytes to its reply; the library is the proved one, or the one at a path."""
+    try:
+        return loaded(path).check
+    except BuildFailed as reason:
+        raise CheckFailed(str(reason)) from None
+    except (OSError, AttributeError) as error:
+        raise CheckFailed(f"the library cannot be loaded: {error}") from None
+
+
+def outcome(data, reply):
+    """The sheet and the answer in a reply. A refusal is raised as Refused."""
+    if reply.number:
+        raise Refused(reply.number, reply.second)
+    try:
+        sheet, answer = parse(data), read_answer(reply.answer)
+    except Refused as refused:
+        raise CheckFailed(f"the check took a sheet that is to be refused with {refused}") from None
+    except BadAnswer as reason:
+        raise CheckFailed(f"the check wrote no answer sheet: {reason}") from None
+    if not fits(sheet, answer, reply.second):
+        raise CheckFailed("the check wrote an answer that does not fit the sheet or itself")
+    return sheet, answer
+
+
+def fits(sheet, answer, length):
+    """Whether an answer has this sheet's counts and the findings and verdict of its own figures."""
+    return (
+        all(counts(answer.ends[end]) == counts_due(sheet, end) for end in range(2))
+        and answer.findings == findings(sheet, answer.ends)
+        and answer.verdict == (1 if answer.findings else 0)
+        and answer.length == length
+    )

@@ -1,0 +1,96 @@
+"""A commented description to start from, and the table of all fields."""
+
+from lashtool.fields import GEAR_FIELDS, HEAD_FIELDS, LASH_FIELDS, LOCK_FIELDS, ROUTES, TIER_FIELDS, field
+from sheets.sheet import ROUTE_PERCENT
+
+# A stack that is accepted: what stands in the template where there is no default, and where there is.
+BOX = {"A_T": 400, "A_Vmax": 1_200, "A_Vmin": 800}
+ROD = {"LY": 2_200, "LZ": 2_500, "area": 490, "modulus": 97_000}
+MASSES = (24_000, 16_000, 8_000)
+
+
+def template():
+    """The text of a description that checks as it stands."""
+    routes = "\n".join(f"#   {number:2} {name}" for number, name in enumerate(ROUTES))
+    tiers = "\n\n".join(f"[[tier]]\nmass = {mass:_}" for mass in MASSES)
+    return f"""\
+# A container stack for ./lash. What has a default may be left out; numbers may be written 24_000.
+title = "Three tiers"
+
+{settings(HEAD_FIELDS, {})}
+# Routes:
+{routes}
+
+[lock]
+{settings(LOCK_FIELDS, {})}
+
+# What is the same in most tiers; a tier's own fields go before these.
+[box]
+{settings(shared(TIER_FIELDS, "mass"), BOX)}
+
+# The tiers, bottom first, 1 to 10.
+# mass: {remark(field(TIER_FIELDS, "mass"))}
+{tiers}
+
+# What is the same for most lashes; a lash's own fields go before these. Only lashes that resist the heel to
+# lee are entered, not their mirror images.
+[gear]
+{settings(shared(GEAR_FIELDS, "tier"), ROD)}
+
+# The lashes, at most 8 an end; each corner takes one of a kind.
+# tier: {remark(field(LASH_FIELDS, "tier"))}
+[[lash]]
+tier = 1
+hook = "top"
+
+[[lash]]
+tier = 2
+hook = "bottom"
+"""
+
+
+def shared(fields, own):
+    """The fields but the one that each entry has of its own."""
+    return [each for each in fields if each.name != own]
+
+
+def settings(fields, values):
+    return "\n".join(f"{setting(each, values):32} # {remark(each)}" for each in fields)
+
+
+def setting(field, values):
+    value = values.get(field.name, field.default)
+    if field.words:
+        return f'{field.name} = "{value if isinstance(value, str) else field.words[value]}"'
+    return f"{field.name} = {value:_}" if value >= 10_000 else f"{field.name} = {value}"
+
+
+def remark(field):
+    return f"{field.meaning} ({field.allowed()})"
+
+
+def field_table():
+    """Every field as rows of a table in Markdown."""
+    yield "| field | unit | values | default | meaning |"
+    yield "|---|---|---|---|---|"
+    yield "| `title` | | text | none | heads the report |"
+    for table, fields in (
+        ("", HEAD_FIELDS), ("lock.", LOCK_FIELDS), ("tier.", TIER_FIELDS), ("lash.", GEAR_FIELDS),
+    ):
+        for each in fields:
+            values = each.range().replace('"', "`")
+            yield f"| `{table}{each.name}` | {each.unit} | {values} | {default_words(each)} | {each.meaning} |"
+
+
+def default_words(field):
+    if field.default is None:
+        return "must be given"
+    return f"`{field.words[field.default]}`" if field.words else f"{field.default:,}"
+
+
+def route_table():
+    """The routes as rows of a table in Markdown."""
+    yield "| route | name in CR | A_T times |"
+    yield "|---|---|---|"
+    for number, (name, percent) in enumerate(zip(ROUTES, ROUTE_PERCENT)):
+        yield f"| {number} | {name} | {percent / 100:.2f} |"

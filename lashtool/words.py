@@ -1,0 +1,129 @@
+"""A stack, its figures, findings and warnings in words."""
+
+from lashtool.fields import ENDS, LOCK_FIELDS, ROUTES, lash_place, word
+from lashtool.figures import KEPT
+from lashtool.geometry import RACKING_STIFFNESS, far_feet, level_height
+from sheets.limits import (
+    COMPRESSION, CORNER, LASH_ATHWART, LASH_TENSION, LASH_VERTICAL, LOCK, RACKING, safe_working_load,
+)
+from sheets.sheet import ROUTE_PERCENT
+
+KIND_WORDS = {
+    RACKING: "racking",
+    COMPRESSION: "compression",
+    CORNER: "corner tension",
+    LOCK: "lock tension",
+    LASH_TENSION: "lash tension",
+    LASH_VERTICAL: "lash vertical part",
+    LASH_ATHWART: "lash athwart part",
+}
+PLACE_WORDS = {
+    **dict.fromkeys((RACKING,), "tier"),
+    **dict.fromkeys((COMPRESSION, CORNER, LOCK), "level"),
+    **dict.fromkeys((LASH_TENSION, LASH_VERTICAL, LASH_ATHWART), "lash"),
+}
+NOT_CHECKED = (
+    "Not covered: the ship's motion (accelerations are given), longitudinal forces and side walls, cell guides, "
+    "buttresses, blocks of joined stacks, vertical lashings, mixed lengths. No class society has certified this program."
+)
+PAD_WORDS = (
+    f"< {KEPT}: every figure is proved to be at least the exact force in size and less than {KEPT} N above it; "
+    "so small a figure may stand for no force at all."
+)
+
+
+def counted(number, noun):
+    return f"{number} {noun}" if number == 1 else f"{number} {noun}s"
+
+
+def ends_words(ends):
+    return "both" if len(ends) == len(ENDS) else ENDS[ends[0]]
+
+
+# The stack
+
+
+def stack_words(sheet):
+    mass = sum(tier.mass for tier in sheet.tiers)
+    height = level_height(sheet, len(sheet.tiers))
+    tiers = counted(len(sheet.tiers), "tier")
+    return f"{tiers} of {sheet.tiers[0].size} feet, {mass:,} kg, {height:,} mm high"
+
+
+def route_words(head):
+    return f"rule {head.rule}; route {head.route}, {ROUTES[head.route]}: A_T x {ROUTE_PERCENT[head.route] / 100:.2f}"
+
+
+def lock_safe_load(head):
+    return safe_working_load(head.lock_breaking, head.lock_material)
+
+
+def lock_words(head):
+    material = word(LOCK_FIELDS, head, "lock_material")
+    return f"locks: {material}, breaking load {head.lock_breaking:,} N, safe working load {lock_safe_load(head):,} N"
+
+
+def stiffness_words():
+    door, closed = RACKING_STIFFNESS
+    return f"racking stiffness of each box: door end {door:,} N/mm, closed end {closed:,} N/mm"
+
+
+def assumed_words(outcome):
+    return f"not given and taken as: {'; '.join(outcome.assumed)}" if outcome.assumed else ""
+
+
+# What the check says
+
+
+def verdict_words(outcome):
+    if outcome.accepted:
+        return "ACCEPTED"
+    return f"NOT ACCEPTED: {counted(len(outcome.answer.findings), 'finding')}"
+
+
+def place_words(outcome, figure):
+    """Tier, level or lash of a figure, without its end."""
+    if PLACE_WORDS[figure.kind] != "lash":
+        return f"{PLACE_WORDS[figure.kind]} {figure.index}"
+    lash = outcome.lash(figure.end, figure.index)
+    return f"lash {outcome.number(figure.end, figure.index)} ({lash_place(lash)})"
+
+
+def where(outcome, figure):
+    return f"{ENDS[figure.end]} end, {place_words(outcome, figure)}"
+
+
+def force_words(figure):
+    return f"{figure.force_text} N{way_words(figure)}"
+
+
+def way_words(figure):
+    """Which way a racking points, where that is known."""
+    if figure.kind != RACKING or figure.force_text.startswith("<"):
+        return ""
+    return " to windward" if figure.force < 0 else " to leeward"
+
+
+def limit_words(figure):
+    safe = figure.kind in (LOCK, LASH_TENSION)
+    return f"the safe working load of {figure.limit:,} N" if safe else f"{figure.limit:,} N"
+
+
+def finding_words(outcome, figure):
+    force = f"{KIND_WORDS[figure.kind]} {force_words(figure)}"
+    return f"{where(outcome, figure)}: {force} exceeds {limit_words(figure)}"
+
+
+def worst_words(outcome):
+    figure = outcome.worst()
+    force = f"{KIND_WORDS[figure.kind]}{way_words(figure)} {figure.force_text} N"
+    return f"{figure.used_text} at the {where(outcome, figure)}: {force} of {figure.limit:,} N"
+
+
+def warnings(outcome):
+    """What the check allows and a person should look at, a sentence each."""
+    return [
+        f"lash {row.number} ({lash_place(row.lash)}, {ends_words(row.ends)} end{'s' if len(row.ends) > 1 else ''}): {fault}"
+        for row in outcome.listed()
+        for fault in far_feet(outcome.sheet, row.lash)
+    ]

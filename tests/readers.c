@@ -1,0 +1,143 @@
+/* The readers of lash_check.h on one sheet: prints all that they give for its answer, tries places that the answer does not have,
+   and reads it cut short at every length, with an unreadable page right behind, and with bytes behind it counted in.
+
+   usage: readers SHEET
+   Exit status 0: done; 1: a reader gave something for a place that is not there; 2: no sheet to read, or no memory to run in. */
+#define _GNU_SOURCE
+#include "../include/lash_check.h"
+
+#include <inttypes.h>
+#include <stdio.h>
+#include <string.h>
+#include <sys/mman.h>
+#include <unistd.h>
+
+enum { TOO_MANY = 300 }; /* above any count that a byte can hold */
+
+static int absent(uint64_t r, const uint8_t *a, unsigned end, unsigned tier, unsigned level, unsigned top, unsigned lash)
+{
+    struct lash_forces f = lash_forces_of(r, a, end, lash);
+    return lash_racking(r, a, end, tier) == LASH_NONE && lash_compression(r, a, end, level) == LASH_NONE &&
+           lash_tension(r, a, end, top) == LASH_NONE && f.tension == LASH_NONE && f.athwart == LASH_NONE && f.vertical == LASH_NONE;
+}
+
+/* Whether there is nothing past each list's end, before the first tier, at a third end and behind the last finding. */
+static int bounded(uint64_t r, const uint8_t *a)
+{
+    unsigned n = lash_tiers(r, a);
+    for (unsigned end = LASH_DOOR; end <= LASH_CLOSED; end++)
+        if (!absent(r, a, end, n + 1, n + 1, n, lash_lashes(r, a, end)) || !absent(r, a, end, 0, TOO_MANY, TOO_MANY, TOO_MANY) ||
+            !absent(r, a, end, UINT32_MAX, UINT32_MAX, UINT32_MAX, UINT32_MAX))
+            return 0;
+    return absent(r, a, 2, 1, 0, 0, 0) && absent(r, a, UINT32_MAX, 1, 0, 0, 0) && lash_lashes(r, a, 2) == 0 &&
+           lash_finding_of(r, a, lash_findings(r, a)).kind == 0 && lash_finding_of(r, a, UINT32_MAX).kind == 0;
+}
+
+/* Whether a refusal that leaves this answer in the buffer is no acceptance and has no figures. */
+static int silent_when_refused(const uint8_t *a)
+{
+    for (unsigned number = LASH_SHORT; number <= LASH_ROOM; number++) {
+        uint64_t r = number | UINT64_C(834) << 8;
+        if (lash_accepted(r, a) || lash_tiers(r, a) || lash_findings(r, a) || lash_lashes(r, a, LASH_DOOR) ||
+            !absent(r, a, LASH_DOOR, 1, 0, 0, 0) || lash_finding_of(r, a, 0).kind)
+            return 0;
+    }
+    return 1;
+}
+
+static void print_all(uint64_t r, const uint8_t *a)
+{
+    unsigned n = lash_tiers(r, a);
+    printf("accepted %d\n", lash_accepted(r, a));
+    for (unsigned end = LASH_DOOR; end <= LASH_CLOSED; end++) {
+        printf("racking");
+        for (unsigned tier = 1; tier <= n; tier++)
+            printf(" %" PRId64, lash_racking(r, a, end, tier));
+        printf("\ncompression");
+        for (unsigned level = 0; level <= n; level++)
+            printf(" %" PRId64, lash_compression(r, a, end, level));
+        printf("\ntension");
+        for (unsigned level = 0; level < n; level++)
+            printf(" %" PRId64, lash_tension(r, a, end, level));
+        printf("\nlashes");
+        for (unsigned lash = 0; lash < lash_lashes(r, a, end); lash++) {
+            struct lash_forces f = lash_forces_of(r, a, end, lash);
+            printf(" %" PRId64 " %" PRId64 " %" PRId64, f.tension, f.athwart, f.vertical);
+        }
+        printf("\n");
+    }
+    printf("findings");
+    for (unsigned i = 0; i < lash_findings(r, a); i++) {
+        struct lash_found f = lash_finding_of(r, a, i);
+        printf(" %u %u %u", f.end, f.kind, f.index);
+    }
+    printf("\n");
+}
+
+static int same(int64_t cut, int64_t whole) { return cut == LASH_NONE || cut == whole; }
+
+/* Whether what is read from the first bytes of an answer is what the whole one has there, or nothing. */
+static int part_of(uint64_t r, const uint8_t *a, uint64_t whole, const uint8_t *answer)
+{
+    int kept = 1;
+    for (unsigned end = LASH_DOOR; end <= LASH_CLOSED; end++) {
+        for (unsigned i = 0; i <= lash_tiers(whole, answer); i++) {
+            kept &= same(lash_racking(r, a, end, i), lash_racking(whole, answer, end, i));
+            kept &= same(lash_compression(r, a, end, i), lash_compression(whole, answer, end, i));
+            kept &= same(lash_tension(r, a, end, i), lash_tension(whole, answer, end, i));
+        }
+        for (unsigned i = 0; i <= lash_lashes(whole, answer, end); i++) {
+            struct lash_forces f = lash_forces_of(r, a, end, i), g = lash_forces_of(whole, answer, end, i);
+            kept &= same(f.tension, g.tension) && same(f.athwart, g.athwart) && same(f.vertical, g.vertical);
+        }
+    }
+    for (unsigned i = 0; i <= lash_findings(whole, answer); i++) {
+        struct lash_found f = lash_finding_of(r, a, i), g = lash_finding_of(whole, answer, i);
+        kept &= f.kind == 0 || (f.end == g.end && f.kind == g.kind && f.index == g.index);
+        kept &= same(lash_found_force(r, a, f), lash_found_force(whole, answer, g));
+    }
+    return kept;
+}
+
+/* Whether the readers keep within the first bytes of an answer, for every number of them: an unreadable page follows. */
+static int within_cut_answers(const uint8_t *answer, size_t length)
+{
+    size_t page = (size_t)sysconf(_SC_PAGESIZE);
+    uint8_t *area = mmap(NULL, 2 * page, PROT_READ | PROT_WRITE, MAP_PRIVATE | MAP_ANONYMOUS, -1, 0);
+    int kept = 1;
+    if (area == MAP_FAILED || length > page || mprotect(area + page, page, PROT_NONE) != 0)
+        return -1;
+    for (size_t cut = 0; cut <= length; cut++) {
+        uint8_t *a = area + page - cut;
+        uint64_t r = (uint64_t)cut << 8;
+        memcpy(a, answer, cut);
+        kept &= part_of(r, a, (uint64_t)length << 8, answer);
+        if (cut == 0)
+            kept &= !lash_accepted(r, a);
+    }
+    munmap(area, 2 * page);
+    return kept;
+}
+
+int main(int argc, char **argv)
+{
+    uint8_t sheet[LASH_SHEET_SIZE + 1], answer[LASH_ANSWER_SIZE];
+    FILE *file = argc == 2 ? fopen(argv[1], "rb") : NULL;
+    if (!file) {
+        fprintf(stderr, "usage: readers SHEET, a file with the bytes of a stack sheet\n");
+        return 2;
+    }
+    size_t length = fread(sheet, 1, sizeof sheet, file);
+    fclose(file);
+    memset(answer, 0, sizeof answer); /* an old verdict: accepted */
+    uint64_t result = lash_check(sheet, length, answer, sizeof answer);
+    if (lash_number_of(result) != LASH_TAKEN) {
+        printf("refused %u %" PRIu64 "\n", lash_number_of(result), lash_second_of(result));
+        return lash_accepted(result, answer) ? 1 : 0;
+    }
+    memset(answer + lash_second_of(result), 1, sizeof answer - (size_t)lash_second_of(result));
+    print_all(result, answer);
+    int kept = within_cut_answers(answer, (size_t)lash_second_of(result));
+    int whole = bounded(result, answer) && bounded((uint64_t)sizeof answer << 8, answer);
+    return kept < 0 ? 2 : kept && whole && silent_when_refused(answer) ? 0 : 1;
+}

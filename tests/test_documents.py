@@ -1,0 +1,106 @@
+"""What docs/SHEET.md says of bytes, ranges, refusals and limits is what the code has; and packages use what they may."""
+
+import ast
+import re
+import sys
+import unittest
+from struct import calcsize
+
+from reference.judge import KEPT, expected, judge
+from sheets.answer import read_answer
+from sheets.limits import (
+    COMPRESSION_LIMIT, CORNER_LIMIT, LASH_ATHWART_LIMIT, LASH_VERTICAL_LIMIT, RACKING_LIMIT,
+)
+from sheets.sheet import (
+    ANSWER_ROOM, HEAD, HEAD_LIMITS, LASH, LASH_LIMITS, MOST_LASHES, MOST_TIERS, TIER, TIER_LIMITS, Head, Lash, Tier,
+)
+from tests.support import ROOT
+
+TEXT = (ROOT / "docs" / "SHEET.md").read_text()
+
+
+def rows(title):
+    """The cells of the table behind a heading that begins so."""
+    section = TEXT.split(f"# {title}", 1)[1]
+    lines = section[section.index("\n|") + 1 :].split("\n\n", 1)[0].splitlines()
+    return [[cell.strip() for cell in line.strip("|").split("|")] for line in lines[2:]]
+
+
+def hex_of(begin):
+    """The bytes of an example's block, the words beside them left out."""
+    block = TEXT.split(begin, 1)[1].split("\n\n", 2)[1]
+    return bytes.fromhex("".join(re.match(r"    ((?:[0-9a-f]{2} )*[0-9a-f]{2})", line)[1] for line in block.splitlines()))
+
+
+class SheetDocument(unittest.TestCase):
+    def test_fields(self):
+        for title, layout, kind, limits in (
+            ("Head, 8 bytes", HEAD, Head, HEAD_LIMITS),
+            ("Tier, 12 bytes", TIER, Tier, TIER_LIMITS),
+            ("Lash, 20 bytes", LASH, Lash, LASH_LIMITS),
+        ):
+            place, found = 0, rows(title)
+            names = list(kind.__dataclass_fields__)
+            self.assertEqual(len(found), len(names))
+            for (offset, size, _, values), code, name in zip(found, layout.format.strip("<"), names):
+                with self.subTest(title, field=name):
+                    self.assertEqual((int(offset), int(size)), (place, calcsize(f"<{code}")))
+                    place += int(size)
+                    if name in limits:
+                        least, most = limits[name]
+                        self.assertEqual(values, f"{least:,} to {most:,}")
+            self.assertEqual(place, layout.size)
+
+    def test_sizes(self):
+        longest = HEAD.size + 3 + MOST_TIERS * TIER.size + 2 * MOST_LASHES * LASH.size
+        self.assertIn(f"{longest} for ten tiers with eight lashes an end", TEXT)
+        header = (ROOT / "include" / "lash_check.h").read_text()
+        self.assertIn(f"#define LASH_SHEET_SIZE {longest}\n", header)
+        self.assertIn(f"#define LASH_ANSWER_SIZE {ANSWER_ROOM}\n", header)
+        self.assertIn(f"less than {KEPT} N above it", TEXT)
+
+    def test_refusals_are_the_headers(self):
+        header = (ROOT / "include" / "lash_check.h").read_text()
+        enum = header.split("enum lash_number")[1].split("};")[0]
+        listed = re.findall(r"LASH_\w+ = (\d+),? +/\* ([^:*]+): (.*?) \*/", enum)
+        self.assertEqual([int(number) for number, *_ in listed], list(range(1, 14)))
+        self.assertEqual([tuple(row) for row in rows("Refusals")], listed)
+
+    def test_limits(self):
+        kinds = re.findall(r"^\| (\d) \| [^|]* \| [^|]* \| ([^|]*) \|$", TEXT.split("## Answer sheet")[1], re.M)
+        due = (RACKING_LIMIT, COMPRESSION_LIMIT, CORNER_LIMIT, None, None, LASH_VERTICAL_LIMIT, LASH_ATHWART_LIMIT)
+        self.assertEqual([int(kind) for kind, _ in kinds], list(range(1, 8)))
+        for (_, limit), number in zip(kinds, due):
+            self.assertEqual(limit, f"{number:,}" if number else limit)
+            self.assertEqual("safe working load" in limit, number is None)
+
+    def test_example(self):
+        sheet, answer = hex_of("23 bytes:"), hex_of("Its answer, 42 bytes")
+        self.assertEqual((len(sheet), len(answer)), (23, 42))
+        self.assertEqual(judge(expected(sheet), answer).faults, [])
+        self.assertEqual(read_answer(answer).ends[0].compression, (98_895, 4))
+
+
+# What each package may use of the others. The second program knows neither the library nor the tool.
+ALLOWED = {
+    "sheets": {"sheets"},
+    "reference": {"reference", "sheets"},
+    "lashlib": {"lashlib", "sheets"},
+    "lashtool": {"lashtool", "lashlib", "sheets"},
+}
+
+
+class Packages(unittest.TestCase):
+    def test_imports(self):
+        for package, allowed in ALLOWED.items():
+            for path in sorted((ROOT / package).glob("*.py")):
+                for node in ast.walk(ast.parse(path.read_text())):
+                    names = [alias.name for alias in node.names] if isinstance(node, ast.Import) else []
+                    names += [node.module] if isinstance(node, ast.ImportFrom) else []
+                    for name in names:
+                        top = name.split(".")[0]
+                        self.assertTrue(top in allowed or top in sys.stdlib_module_names, f"{path}: {name}")
+
+
+if __name__ == "__main__":
+    unittest.main()

@@ -1,0 +1,73 @@
+"""The examples: each gives the verdict and the findings that it says, by the second program's exact forces."""
+
+import unittest
+from dataclasses import replace
+
+from lashtool.description import describe
+from lashtool.template import template
+from reference.stack import exact
+from sheets.limits import (
+    COMPRESSION, CORNER, LASH_TENSION, LOCK, RACKING, checks, findings,
+)
+from tests.support import EXAMPLES
+
+BOTH = (0, 1)
+
+# What each shows: the words of its comment, and its findings (end, kind, index).
+SHOWN = {
+    "box-b": ("accepted", []),
+    "rod-s": ("accepted", []),
+    "eight-high": ("accepted", []),
+    "three-high": ("accepted", []),
+    "route": ("accepted", []),
+    "racking": ("unacceptable racking", [(end, RACKING, 1) for end in BOTH]),
+    "pulled-back": ("unacceptable racking, to windward", [(0, RACKING, 6)]),
+    "stack-weight": ("unacceptable stack weight", [(end, COMPRESSION, 1) for end in BOTH]),
+    "corner-tension": ("unacceptable corner tension", [(end, CORNER, 0) for end in BOTH]),
+    "lock": ("unacceptable tension in the locks", [(end, LOCK, 0) for end in BOTH]),
+    "lash-force": ("unacceptable lash force", [(0, LASH_TENSION, 0)]),
+}
+
+
+def sheet_of(name):
+    return describe((EXAMPLES / f"{name}.toml").read_bytes()).sheet
+
+
+class Examples(unittest.TestCase):
+    def test_every_example_is_known_and_says_what_it_shows(self):
+        self.assertEqual({path.stem for path in EXAMPLES.glob("*.toml")}, set(SHOWN))
+        for name, (words, _) in SHOWN.items():
+            text = (EXAMPLES / f"{name}.toml").read_text()
+            self.assertRegex(text, f"(?m)^# Shows: {words}[.,: ]")
+
+    def test_each_has_the_findings_that_it_says(self):
+        """None of the exact forces lies so close to its limit that the last 100 N decide."""
+        for name, (words, due) in SHOWN.items():
+            with self.subTest(name):
+                sheet = sheet_of(name)
+                ends = exact(sheet)
+                self.assertEqual(findings(sheet, ends), due)
+                self.assertEqual(words.startswith("accepted"), not due)
+                self.assertFalse([c for c in checks(sheet, ends) if c.limit - 100 < c.size <= c.limit])
+
+    def test_the_cases_that_a_class_asks_for(self):
+        """CR Appendix 2, 2.3: stack weight (post compression), lash forces, racking; beside them corner tension."""
+        kinds = {kind for _, found in SHOWN.values() for _, kind, _ in found}
+        self.assertLessEqual({RACKING, COMPRESSION, CORNER, LASH_TENSION}, kinds)
+
+    def test_pulled_back_points_to_windward(self):
+        self.assertLess(exact(sheet_of("pulled-back"))[0].racking[5], -150_000)
+        self.assertLess(exact(sheet_of("rod-s"))[0].racking[1], 0)
+
+    def test_the_route_decides(self):
+        sheet = sheet_of("route")
+        unrestricted = replace(sheet, head=replace(sheet.head, route=0))
+        self.assertEqual(findings(unrestricted, exact(unrestricted)), [(1, CORNER, 0), (1, LOCK, 0)])
+
+    def test_the_template_is_accepted(self):
+        sheet = describe(template().encode()).sheet
+        self.assertEqual(findings(sheet, exact(sheet)), [])
+
+
+if __name__ == "__main__":
+    unittest.main()
