@@ -15,8 +15,9 @@ use statics::Figures;
 use statics::LoadRule;
 
 mod loads; // loads.rt: the loads on the levels and the weights above them
+mod tier_springs; // tier_springs.rt: the springs of an end's tiers
 
-// K of a tier at the door end and at the closed end, N/mm (CR Table 2-4).
+// K of a box at its door end and at its closed end, N/mm (CR Table 2-4).
 const DOOR_SPRING: u64 = 3730;
 
 const CLOSED_SPRING: u64 = 15690;
@@ -85,8 +86,8 @@ pub fn figures_by(s: Sheet, rule: LoadRule) -> Figures
     let mut vmax = [0u64; 11];
     let mut vmin = [0u64; 11];
     loads::loads_of(n, tiers, rule, &mut loads, &mut vmax, &mut vmin);
-    let k = [DOOR_SPRING; 10];
-    let h = [CLOSED_SPRING; 10];
+    let k = tier_springs::springs_of(n, tiers, DOOR_SPRING, CLOSED_SPRING);
+    let h = tier_springs::springs_of(n, tiers, CLOSED_SPRING, DOOR_SPRING);
     Figures {
         door: end_figures(n, &k, tiers, door, s.ndoor, &loads, &vmax, &vmin),
         closed: end_figures(n, &h, tiers, closed, s.nclosed, &loads, &vmax, &vmin),

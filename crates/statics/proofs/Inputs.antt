@@ -15,7 +15,7 @@ use Rattle.sheet.specs.declared.Sheet.{Sheet}
 use Rattle.statics.specs.declared.LoadRule.{LoadRule}
 use Rattle.statics.specs.Loads.{Rule, StandsFor}
 use Rattle.statics.specs.Ends.{springOf, endTiers, endLashes}
-use Rattle.sheet.specs.Ends.{End, door, closed, tiersOf, lashesOf}
+use Rattle.sheet.specs.Ends.{End, tiersOf, lashesOf}
 use Rattle.statics.specs.inner.WholeNumbers.{levelStiffness, levelLoad}
 use Rattle.statics.specs.inner.Computed.{springsOf, stiffnessesOf, loadsOf}
 use Rattle.sheet.specs.inner.Limits.{SheetLimits}

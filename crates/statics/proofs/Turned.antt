@@ -1,10 +1,7 @@
 -- A box that stands turned: its springs change ends, and nothing else of it changes.
-use mathlib.Core.Bool.{true, false}
-use mathlib.Core.Path.{_≡_, refl, ap}
-use Rattle.springs.specs.Equations.{given}
-use Rattle.sheet.specs.declared.Tier.{Tier}
+use mathlib.Core.Path.{refl}
 use Rattle.statics.specs.Loads.{weight, transverse, verticalForce, boxLength, wind}
-use Rattle.statics.specs.Theorems.{OwnSprings, SameBox, SpringsSwapped, TurnSwapsSprings, SameForces, TurnKeepsForces}
+use Rattle.statics.specs.Theorems.{OwnSprings, TurnSwapsSprings, TurnKeepsForces}
 
 pub own-springs : OwnSprings
 own-springs t e = rw e (refl, refl)
