@@ -45,6 +45,11 @@ LASH_LIMITS = {
 }
 
 
+def wind_code(exposed, turned):
+    """A tier's wind byte."""
+    return int(exposed) + 2 * int(turned)
+
+
 @dataclass(frozen=True)
 class Head:
     rule: int
