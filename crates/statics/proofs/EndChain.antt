@@ -78,20 +78,15 @@ chain-stiff (l ∷ ls) f zero h = stiffness-above l (each-first f)
 chain-stiff (l ∷ ls) f (suc j) h = chain-stiff ls (each-rest f) j (omega arith)
 
 -- what holds of a box's two springs holds of the one that an end shows
-pub spring-either : (P : ℕ → Type 0) → P S.doorSpring → P S.closedSpring → (e : End) (u : Tier) → P (springOf e u)
-spring-either P p q door u = either (turned u)
-  where
-    either : (b : Bool) → P (cond b S.closedSpring S.doorSpring)
-    either true = q
-    either false = p
-spring-either P p q closed u = either (turned u)
-  where
-    either : (b : Bool) → P (cond b S.doorSpring S.closedSpring)
-    either true = p
-    either false = q
+pub either : (P : ℕ → Type 0) (b : Bool) {x y : ℕ} → P x → P y → P (cond b x y)
+either P true p q = p
+either P false p q = q
 
 spring-above : (e : End) (u : Tier) → nat 0 ⊏ nat (springOf e u)
-spring-above = spring-either (λ k. nat 0 ⊏ nat k) (record { cross = record { lt = tt } }) (record { cross = record { lt = tt } })
+spring-above door u =
+    either (λ k. nat 0 ⊏ nat k) (turned u) (record { cross = record { lt = tt } }) (record { cross = record { lt = tt } })
+spring-above closed u =
+    either (λ k. nat 0 ⊏ nat k) (turned u) (record { cross = record { lt = tt } }) (record { cross = record { lt = tt } })
 
 pub end-each : (e : End) {t : Sheet} → SheetLimits t → Each (t .ntiers) (lashesOf e t)
 end-each e f = record { at = f .ends e .each }
