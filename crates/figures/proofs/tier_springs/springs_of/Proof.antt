@@ -50,8 +50,8 @@ loop-again c =
     let inside = c .before .before .loop-test .taken in (
       omega arith,
       rw (add-one (l .i))
-      (springs-more (a .own) (a .other) (take (a .n) (a .t2)) (omega (arith, inside, b .pre))
-      (rw (getD-take (a .n) (a .t2) (l .i) blankTier inside) (c .spring-of .ensures)) (l .inv .1)),
+          (springs-more (a .own) (a .other) (take (a .n) (a .t2)) (omega (arith, inside, b .pre))
+          (rw (getD-take (a .n) (a .t2) (l .i) blankTier inside) (c .spring-of .ensures)) (l .inv .1)),
     )
 
 returns : tie.Need-returns Inv-loop μ-loop
