@@ -17,11 +17,6 @@ use statics::LoadRule;
 mod loads; // loads.rt: the loads on the levels and the weights above them
 mod tier_springs; // tier_springs.rt: the springs of an end's tiers
 
-// K of a box at its door end and at its closed end, N/mm (CR Table 2-4).
-const DOOR_SPRING: u64 = 3730;
-
-const CLOSED_SPRING: u64 = 15690;
-
 // The share of F that a tier's own top takes by the class rule, in twentieths: 0.45.
 const CLASS_SHARE: u64 = 9;
 
@@ -86,8 +81,9 @@ pub fn figures_by(s: Sheet, rule: LoadRule) -> Figures
     let mut vmax = [0u64; 11];
     let mut vmin = [0u64; 11];
     loads::loads_of(n, tiers, rule, &mut loads, &mut vmax, &mut vmin);
-    let k = tier_springs::springs_of(n, tiers, DOOR_SPRING, CLOSED_SPRING);
-    let h = tier_springs::springs_of(n, tiers, CLOSED_SPRING, DOOR_SPRING);
+    let mut k = [tier_springs::DOOR_SPRING; 10];
+    let mut h = [tier_springs::CLOSED_SPRING; 10];
+    tier_springs::springs_of(n, tiers, &mut k, &mut h);
     Figures {
         door: end_figures(n, &k, tiers, door, s.ndoor, &loads, &vmax, &vmin),
         closed: end_figures(n, &h, tiers, closed, s.nclosed, &loads, &vmax, &vmin),

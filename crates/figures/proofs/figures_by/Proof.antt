@@ -14,11 +14,11 @@ use Rattle.figures.proofs.figures_by.Tie as tie
 abbrev entered : tie.After-loads-of → tie.Start
 entered c = c .before .before .before .before .before .before .before
 
-abbrev sprung : tie.After-vmin3 → tie.After-springs-of2
-sprung c = c .before .before .before .before
+abbrev sprung : tie.After-vmin3 → tie.After-springs-of
+sprung c = c .before .before .before .before .before .before
 
-abbrev loaded : tie.After-springs-of2 → tie.After-loads-of
-loaded c = c .before .before .before .before .before
+abbrev loaded : tie.After-springs-of → tie.After-loads-of
+loaded c = c .before .before .before .before .before .before
 
 slice-aggregate-loads-of : tie.Need-slice-aggregate-loads-of
 slice-aggregate-loads-of c = search needs
@@ -34,11 +34,14 @@ loads-of-requires c κs =
     let p = c .before .before .before .before .before .before .pre in
     ((p .0 .few, p .1, p .2), (sheet-limits (p .0) .each, (refl, refl, refl)))
 
+slice-aggregate-springs-of : tie.Need-slice-aggregate-springs-of
+slice-aggregate-springs-of c = search needs
+
+slice-aggregate-springs-of-2 : tie.Need-slice-aggregate-springs-of-2
+slice-aggregate-springs-of-2 c = search needs
+
 springs-of-requires : tie.Need-springs-of-requires
 springs-of-requires c κs = search needs
-
-springs-of-requires-2 : tie.Need-springs-of-requires-2
-springs-of-requires-2 c κs = search needs
 
 slice-aggregate-end-figures : tie.Need-slice-aggregate-end-figures
 slice-aggregate-end-figures c = search needs
@@ -59,7 +62,7 @@ end-figures-requires c κs =
     let p = entered l .pre .0 in
     let e = l .loads-of .ensures in
     let long = l .loads-of .kept .1 .1 .1 in
-    rw (k .before .springs-of .ensures) (
+    rw (k .springs-of .ensures .0) (
       workable (sheet-limits p) door _ _ _ _ _ (p .door .few) (e .0) (e .1),
       (springs-long door (tiersOf (entered l .args .s)), long .0, long .1 .0, long .1 .1 .0),
     )
@@ -83,7 +86,7 @@ end-figures-requires-2 c κs =
     let p = entered l .pre .0 in
     let e = l .loads-of .ensures in
     let long = l .loads-of .kept .1 .1 .1 in
-    rw (k .springs-of2 .ensures) (
+    rw (k .springs-of .ensures .1) (
       workable (sheet-limits p) closed _ _ _ _ _ (p .closed .few) (e .0) (e .1),
       (springs-long closed (tiersOf (entered l .args .s)), long .0, long .1 .0, long .1 .1 .0),
     )
@@ -98,8 +101,8 @@ returns c =
     let t = b .args .s in
     let rule = b .args .rule in
     let ω = l .loads-of .ensures .0 .named in
-    let door-end = d .end-figures .ensures ∙ ap₂ (endFigures door t) (k .before .springs-of .ensures) ω in
-    let closed-end = c .end-figures2 .ensures ∙ ap₂ (endFigures closed t) (k .springs-of2 .ensures) ω in
+    let door-end = d .end-figures .ensures ∙ ap₂ (endFigures door t) (k .springs-of .ensures .0) ω in
+    let closed-end = c .end-figures2 .ensures ∙ ap₂ (endFigures closed t) (k .springs-of .ensures .1) ω in
     ap₂ {C = Figures} (λ (x y : EndFigures). record { door = x; closed = y }) door-end closed-end
 
 pub figures-by-spec : {M : Type 1} → statement M
@@ -110,8 +113,9 @@ figures-by-spec =
     slice-aggregate-loads-of-2
     slice-aggregate-loads-of-3
     loads-of-requires
+    slice-aggregate-springs-of
+    slice-aggregate-springs-of-2
     springs-of-requires
-    springs-of-requires-2
     slice-aggregate-end-figures
     slice-aggregate-end-figures-2
     slice-aggregate-end-figures-3
