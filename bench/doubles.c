@@ -41,7 +41,7 @@ static int tier_fits(const struct tier *t)
 {
     int height = t->size == 20 ? t->height == 2438 || t->height == 2591
                                : t->size == 40 && (t->height == 2591 || t->height == 2896);
-    return height && t->wind <= 1 && t->mass >= 1 && t->mass <= 30480 && t->at <= 1500 && t->avmax <= 3000 && t->avmin <= 1000
+    return height && t->wind <= 3 && t->mass >= 1 && t->mass <= 30480 && t->at <= 1500 && t->avmax <= 3000 && t->avmin <= 1000
         && t->avmin <= t->avmax;
 }
 
@@ -138,7 +138,7 @@ static void find_loads(const struct sheet *t, struct loads *w)
         const struct tier *b = &t->tier[i];
         double W = b->mass * 9.81, length = b->size == 20 ? 6.058 : 12.192;
         w->F[i] = 0.5 * W * b->at / 1000 * route_percent[t->route] / 100;
-        w->P[i] = b->wind ? 0.5 * 1080 * length * b->height / 1000 : 0;
+        w->P[i] = b->wind % 2 ? 0.5 * 1080 * length * b->height / 1000 : 0;
         w->Q[i] = 0.45 * w->F[i] + 0.5 * w->P[i] + above;
         above += w->F[i] + w->P[i];
         w->half_max[i] = w->half_max[i + 1] + 0.25 * W * b->avmax / 1000;
@@ -146,18 +146,18 @@ static void find_loads(const struct sheet *t, struct loads *w)
     }
 }
 
-static void solve(int n, double K, const double *k, const double *Q, double *D)
+static void solve(int n, const double *K, const double *k, const double *Q, double *D)
 {
     double stiff[TIERS + 1], load[TIERS + 1], under = 0, carried = 0;
     for (int i = n; i >= 1; i--) {
-        stiff[i] = K + k[i] + under;
+        stiff[i] = K[i - 1] + k[i] + under;
         load[i] = Q[i - 1] - (i < n ? Q[i] : 0) + carried;
-        under = K * (k[i] + under) / stiff[i];
-        carried = K * load[i] / stiff[i];
+        under = K[i - 1] * (k[i] + under) / stiff[i];
+        carried = K[i - 1] * load[i] / stiff[i];
     }
     D[0] = 0;
     for (int i = 1; i <= n; i++)
-        D[i] = (load[i] + K * D[i - 1]) / stiff[i];
+        D[i] = (load[i] + K[i - 1] * D[i - 1]) / stiff[i];
 }
 
 static double least_length(const struct lash *l)
@@ -170,8 +170,10 @@ static double up(double x) { return x > 0 ? ceil(x) : 0; }
 static void find_end(const struct sheet *t, const struct loads *w, int end, struct figures *f)
 {
     int n = t->tiers, m = t->lashes[end];
-    double K = spring[end], k[TIERS + 1] = {0}, D[TIERS + 1], length[LASHES], stiffness[LASHES];
+    double K[TIERS], k[TIERS + 1] = {0}, D[TIERS + 1], length[LASHES], stiffness[LASHES];
     double lee[TIERS + 1] = {0}, windward[TIERS + 1] = {0}, moment = 0, cross = 0, side = 0, R[TIERS];
+    for (int i = 0; i < n; i++)
+        K[i] = spring[end ^ t->tier[i].wind / 2];
     for (int j = 0; j < m; j++) {
         const struct lash *l = &t->lash[end][j];
         double L = length[j] = least_length(l);
@@ -180,7 +182,7 @@ static void find_end(const struct sheet *t, const struct loads *w, int end, stru
     }
     solve(n, K, k, w->Q, D);
     for (int i = 0; i < n; i++) {
-        R[i] = K * (D[i + 1] - D[i]);
+        R[i] = K[i] * (D[i + 1] - D[i]);
         f->racking[i] = (int32_t)(R[i] < 0 ? -ceil(-R[i]) : ceil(R[i]));
     }
     for (int j = 0; j < m; j++) {

@@ -14,9 +14,9 @@
 extern "C" {
 #endif
 
-/* The version of the header and of the library built beside it; the text is LASH_VERSION, as "0.1.0". */
+/* The version of the header and of the library built beside it; the text is LASH_VERSION, as "0.2.0". */
 #define LASH_VERSION_MAJOR 0
-#define LASH_VERSION_MINOR 1
+#define LASH_VERSION_MINOR 2
 #define LASH_VERSION_PATCH 0
 #define LASH_TEXT_(number) #number
 #define LASH_TEXT(number) LASH_TEXT_(number)
@@ -37,7 +37,7 @@ enum lash_number {
     LASH_ROUTE = 4,       /* 1: route above 12 */
     LASH_LOCK = 5,        /* 2: lock material above 2, or its breaking load outside the limits */
     LASH_TIER_COUNT = 6,  /* 8: tier count 0 or above 10 */
-    LASH_TIER = 7,        /* offset of the tier: a tier field outside its codes or limits */
+    LASH_TIER = 7,        /* offset of the tier: a tier field outside its codes or limits; wind codes are 0 to 3 */
     LASH_SIZE = 8,        /* offset of the tier: size differs from tier 1 */
     LASH_LASH_COUNT = 9,  /* offset of the count: lash count above 8 */
     LASH_LASH = 10,       /* offset of the lash: hook, kind, material or a measure outside codes or limits */

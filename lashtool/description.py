@@ -10,7 +10,7 @@ from lashtool.fields import (
     lash_place,
 )
 from sheets.sheet import (
-    HEIGHTS, MOST_LASHES, MOST_TIERS, Head, Lash, Sheet, Tier, sheet_order,
+    HEIGHTS, MOST_LASHES, MOST_TIERS, Head, Lash, Sheet, Tier, sheet_order, wind_code,
 )
 
 
@@ -142,6 +142,10 @@ def checked(where, field, value):
         if value not in field.words:
             raise BadDescription(f"{where}: {field.name} is {shown(value)}; it has to be {field.allowed()}")
         return field.words.index(value)
+    if field.flag:
+        if type(value) is not bool:
+            raise BadDescription(f"{where}: {field.name} is {shown(value)}; it has to be {field.allowed()}")
+        return value
     if type(value) is not int:
         raise BadDescription(f"{where}: {field.name} is {shown(value)}; it has to be a whole number")
     if field.choices:
@@ -175,7 +179,8 @@ def read_tiers(reader, tables, box):
     for number, table in enumerate(tables, 1):
         where = f"tier {number}"
         check_names(where, table, names(TIER_FIELDS))
-        tier = Tier(**reader.values("box", TIER_FIELDS, [(where, table), ("[box]", box)]))
+        values = reader.values("box", TIER_FIELDS, [(where, table), ("[box]", box)])
+        tier = Tier(wind=wind_code(values.pop("exposed"), values.pop("turned")), **values)
         check_box(where, tier)
         if tiers and tier.size != tiers[0].size:
             raise BadDescription(f"{where}: size {tier.size} feet differs from tier 1, which has {tiers[0].size}")

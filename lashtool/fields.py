@@ -14,18 +14,23 @@ class Field:
     limits: tuple = None  # least and greatest
     choices: tuple = ()  # the only numbers allowed
     words: tuple = ()  # by code
+    flag: bool = False  # true or false
     unit: str = ""
 
     def shown(self, value):
         """A sheet's value as a person reads it."""
         if self.words:
             return self.words[value] if value < len(self.words) else f"code {value}"
+        if self.flag:
+            return "true" if value else "false"
         return f"{value:,} {self.unit}".rstrip()
 
     def range(self):
         """The values allowed, without their unit."""
         if self.words:
             return " or ".join(f'"{word}"' for word in self.words)
+        if self.flag:
+            return "true or false"
         if self.choices:
             return " or ".join(f"{choice:,}" for choice in self.choices)
         least, greatest = self.limits
@@ -51,7 +56,8 @@ LOCK_FIELDS = (
 )
 TIER_FIELDS = (
     Field("size", "size", "nominal length, the same in every tier", 40, choices=tuple(HEIGHTS), unit="feet"),
-    Field("wind", "wind", "whether the wind reaches the box's side", 1, words=("sheltered", "exposed")),
+    Field("wind", "exposed", "whether the wind reaches the box's side", 1, words=("sheltered", "exposed")),
+    Field("turned", "turned", "whether the box's closed end stands at the door end of the stack", False, flag=True),
     Field("height", "height", "outer height; 2,438 only at 20 feet, 2,896 only at 40", 2591,
           choices=ALL_HEIGHTS, unit="mm"),
     Field("mass", "mass", "gross mass of the box", None, TIER_LIMITS["mass"], unit="kg"),
@@ -102,6 +108,8 @@ MEANT = {
     "gross": "mass",
     "length": "size",
     "corner": "hook",
+    "doors": "turned",
+    "reversed": "turned",
     "type": "kind",
     "strength": "breaking_load",
     "mbl": "breaking_load",

@@ -4,7 +4,7 @@ from lashtool.fields import (
     ENDS, HEAD_FIELDS, LASH_FIELDS, LOCK_FIELDS, TIER_FIELDS, field, lash_place,
 )
 from sheets.sheet import (
-    HEAD, HEAD_LIMITS, HEIGHTS, LASH, MOST_LASHES, MOST_TIERS, TIER, Head, Lash, Refused, Tier,
+    HEAD, HEAD_LIMITS, HEIGHTS, LASH, MOST_LASHES, MOST_TIERS, TIER, TIER_LIMITS, Head, Lash, Refused, Tier,
     lash_faults, outside, parse, sheet_order, tier_faults,
 )
 
@@ -108,6 +108,8 @@ def tier_fields(data, tier, place):
 def tier_fault(tier, attribute):
     if attribute == "size":
         return f"size {tier.size} is not 20 or 40 feet"
+    if attribute == "wind":
+        return f"wind has code {tier.wind}; codes are 0 to {TIER_LIMITS['wind'][1]}"
     if attribute == "height":
         low, high = HEIGHTS[tier.size]
         return f"height {tier.height:,} is not {low:,} or {high:,} mm, the heights at {tier.size} feet"

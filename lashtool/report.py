@@ -81,7 +81,7 @@ def checked(outcome):
     """What was checked, as the check read it."""
     sheet = outcome.sheet
     words = (
-        stack_words(sheet), route_words(sheet.head), lock_words(sheet.head), stiffness_words(), assumed_words(outcome),
+        stack_words(sheet), route_words(sheet.head), lock_words(sheet.head), stiffness_words(sheet), assumed_words(outcome),
     )
     return [
         *bulleted("CHECKED", [line for line in words if line]),
@@ -96,8 +96,8 @@ def tier_rows(sheet):
     yield ("tier", "height, mm", "mass, kg", "wind", "A_T, g", "A_Vmax, g", "A_Vmin, g")
     for number, tier in enumerate(sheet.tiers, 1):
         accelerations = (f"{value / 1000:.3f}" for value in (tier.a_t, tier.a_vmax, tier.a_vmin))
-        wind = word(TIER_FIELDS, tier, "wind")
-        yield (str(number), f"{tier.height:,}", f"{tier.mass:,}", wind, *accelerations)
+        wind = word(TIER_FIELDS, tier, "exposed")
+        yield (f"{number} turned" if tier.turned else str(number), f"{tier.height:,}", f"{tier.mass:,}", wind, *accelerations)
 
 
 def lash_rows(outcome):

@@ -94,7 +94,7 @@ def draw_head(drawing, outcome, width):
     head = outcome.sheet.head
     drawing.text(MARGIN, 68, f"Worst use of a limit: {worst_words(outcome)}", **{"font-size": 14, "font-weight": "bold"})
     drawing.text(MARGIN, 88, f"{stack_words(outcome.sheet)}; {route_words(head)}", **{"font-size": 13})
-    drawing.text(MARGIN, 106, f"{lock_words(head)}; {stiffness_words()}", **{"font-size": 13})
+    drawing.text(MARGIN, 106, f"{lock_words(head)}; {stiffness_words(outcome.sheet)}", **{"font-size": 13})
     fill, colour = (PAPER, INK) if outcome.accepted else (BARS[OVER], PAPER)
     badge = 300
     name, edge = ("verdict", INK) if outcome.accepted else ("verdict over", BARS[OVER])
@@ -152,11 +152,13 @@ def draw_box(drawing, panel, racking):
 
 
 def draw_box_words(drawing, panel, tier, racking):
-    """The tier's number, its mass and its wind, in the corner that cross lashes leave free."""
+    """The tier's number, its mass, its wind and whether it stands turned, in the corner that cross lashes leave free."""
     left, row = panel.stack_left + 8, panel.level(racking.index) + 18
     rows = [(f"tier {racking.index}", "tier", {}), (f"{tier.mass:,} kg", "mass", BOLD)]
-    if tier.wind:
-        rows.append((word(TIER_FIELDS, tier, "wind"), "wind", {}))
+    if tier.exposed:
+        rows.append((word(TIER_FIELDS, tier, "exposed"), "wind", {}))
+    if tier.turned:
+        rows.append(("turned", "turned", {}))
     drawing.rect(left - 4, row - 13, WORDS_WIDTH, len(rows) * LINE, BOXES[racking.state], opacity=0.8)
     for number, (words, name, more) in enumerate(rows):
         drawing.text(left, row + number * LINE, words, ink(racking), "start", name, **more)

@@ -34,7 +34,7 @@ def draw_tables(drawing, outcome, left, top, width):
 
 def draw_table(drawing, left, top, columns, rows):
     for row in rows:
-        ink = INK if row[0].isdigit() else FAINT
+        ink = INK if row[0][:1].isdigit() else FAINT
         for (x, anchor), words in zip(columns, row):
             if words:
                 drawing.text(left + x, top, words, ink, anchor, "checked")

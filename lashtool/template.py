@@ -62,6 +62,8 @@ def setting(field, values):
     value = values.get(field.name, field.default)
     if field.words:
         return f'{field.name} = "{value if isinstance(value, str) else field.words[value]}"'
+    if field.flag:
+        return f"{field.name} = {field.shown(value)}"
     return f"{field.name} = {value:_}" if value >= 10_000 else f"{field.name} = {value}"
 
 
@@ -78,14 +80,16 @@ def field_table():
         ("", HEAD_FIELDS), ("lock.", LOCK_FIELDS), ("tier.", TIER_FIELDS), ("lash.", GEAR_FIELDS),
     ):
         for each in fields:
-            values = each.range().replace('"', "`")
+            values = "`true` or `false`" if each.flag else each.range().replace('"', "`")
             yield f"| `{table}{each.name}` | {each.unit} | {values} | {default_words(each)} | {each.meaning} |"
 
 
 def default_words(field):
     if field.default is None:
         return "must be given"
-    return f"`{field.words[field.default]}`" if field.words else f"{field.default:,}"
+    if field.words or field.flag:
+        return f"`{field.shown(field.default)}`"
+    return f"{field.default:,}"
 
 
 def route_table():

@@ -63,9 +63,10 @@ def lock_words(head):
     return f"locks: {material}, breaking load {head.lock_breaking:,} N, safe working load {lock_safe_load(head):,} N"
 
 
-def stiffness_words():
+def stiffness_words(sheet):
     door, closed = RACKING_STIFFNESS
-    return f"racking stiffness of each box: door end {door:,} N/mm, closed end {closed:,} N/mm"
+    turned = "; the other way round where a box stands turned" if any(tier.turned for tier in sheet.tiers) else ""
+    return f"racking stiffness of each box: door end {door:,} N/mm, closed end {closed:,} N/mm{turned}"
 
 
 def assumed_words(outcome):

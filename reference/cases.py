@@ -1,5 +1,5 @@
 #!/usr/bin/env python3
-"""Prints named sheets and what must come out of each: document 01's list and its plausible slips.
+"""Prints named sheets and what must come out of each: document 01's list and its plausible slips, and 02's turned boxes (P1).
 
 A case is a block of lines, ended by an empty one:
 
@@ -157,7 +157,23 @@ ORDER = [
     Case("longest-and-one", "a byte more", stack([B] * 10, rods(8), rods(8)) + b"\0"),
 ]
 
-CASES = RUN_BY_A_PROGRAM + FIGURES + SLIPS + ORDER
+TURNED_B = box(wind=2)
+TURNED = [
+    Case("turned-d", "B turned with S at level 1", stack([TURNED_B], [rod()], [rod()])),
+    Case("turned-mixture", "B turned below, a light box above", stack([TURNED_B, box(mass=2_000)], [rod(2)], [rod(2)])),
+    Case("turned-upper", "the light box turned", stack([B, box(mass=2_000, wind=2)], [rod(2)], [rod(2)])),
+    Case("turned-exposed", "wind on turned boxes", stack([box(wind=3), box(wind=3)], [rod()], [rod()])),
+    Case(
+        "turned-eight-high",
+        "every other box turned",
+        stack([replace(tier, wind=1 + 2 * (i % 2)) for i, tier in enumerate(EIGHT_HIGH)], rods(4), rods(4)),
+    ),
+    Case("wind-3", "the greatest wind byte", stack([B, box(wind=3)])),
+    Case("wind-4", "one more", stack([B, box(wind=4)])),
+    Case("wind-255", "the greatest number of a byte", stack([B, box(wind=255)])),
+]
+
+CASES = RUN_BY_A_PROGRAM + FIGURES + SLIPS + ORDER + TURNED
 
 
 def reported_range(kind, force):

@@ -69,6 +69,8 @@ def head_edges():
 def tier_edges(index):
     for name, value in limit_values(TIER_LIMITS):
         yield f"tier {name} {value}", lambda s, n=name, v=value: edit_tier(s, index, **{n: v})
+    for wind in (1, 2):
+        yield f"tier wind {wind}", lambda s, v=wind: edit_tier(s, index, wind=v)
     for size in (0, 20, 21, 39, 40, 41, 255):
         yield f"tier size {size}", lambda s, v=size: edit_tier(s, index, size=v)
     heights = sorted({h + d for pair in HEIGHTS.values() for h in pair for d in (-1, 0, 1)})
@@ -130,7 +132,7 @@ def order_of_tests():
     yield "3 before 5", lambda s: edit_head(s, rule=2, lock_material=3)
     yield "4 before 5", lambda s: edit_head(s, route=13, lock_breaking=0)
     other = {20: 40, 40: 20}
-    for name, value in (("mass", 0), ("wind", 2), ("a_t", 1_501), ("height", 2_895)):
+    for name, value in (("mass", 0), ("wind", 4), ("a_t", 1_501), ("height", 2_895)):
         yield "7 before 8", lambda s, n=name, v=value: edit_tier(
             s, LAST, **{"size": other[s.tiers[0].size], "height": 2_591, n: v}
         )

@@ -26,6 +26,12 @@ def hooks(tier_count):
     ]
 
 
+def turns(random, count):
+    """For each tier 2 where its box stands turned, else 0: none, all, every other one, or any of them."""
+    mixed = [random.choice((0, 2)) for _ in range(count)]
+    return random.choice(([0] * count, [2] * count, [2 * (index % 2) for index in range(count)], mixed, mixed))
+
+
 # Realistic
 
 
@@ -46,10 +52,10 @@ def realistic_tiers(random, size, count):
     a_t, step = random.randint(250, 600), random.randint(0, 25)
     a_vmax, a_vmin = random.randint(1_050, 1_600), random.randint(400, 950)
     tiers = []
-    for index in range(count):
+    for index, turn in enumerate(turns(random, count)):
         most = heaviest if random.random() < 0.1 else heaviest * (count - index) // count
         mass = random.randint(min(2_200, most), most)
-        wind = 1 if index >= sheltered else 0
+        wind = turn + (1 if index >= sheltered else 0)
         height = random.choice(HEIGHTS[size])
         tiers.append(Tier(size, wind, height, mass, a_t + index * step, a_vmax, a_vmin))
     return tuple(tiers)
@@ -98,7 +104,7 @@ def extreme_tier(random, size):
     a_vmax = corner(random, TIER_LIMITS, "a_vmax")
     return Tier(
         size,
-        random.randint(0, 1),
+        random.randint(*TIER_LIMITS["wind"]),
         random.choice(HEIGHTS[size]),
         corner(random, TIER_LIMITS, "mass"),
         corner(random, TIER_LIMITS, "a_t"),
@@ -197,8 +203,8 @@ def heavy(random):
     count = random.randint(2, 8)
     a_t, a_vmax, a_vmin = random.randint(600, 1_500), random.randint(1_500, 3_000), random.randint(0, 300)
     tiers = [
-        Tier(size, 0, random.choice(HEIGHTS[size]), random.randint(15_000, 30_480), a_t, a_vmax, a_vmin)
-        for _ in range(count)
+        Tier(size, turn, random.choice(HEIGHTS[size]), random.randint(15_000, 30_480), a_t, a_vmax, a_vmin)
+        for turn in turns(random, count)
     ]
     tiers[0] = replace(tiers[0], a_t=random.randint(20, 60), a_vmax=60, a_vmin=random.randint(0, 60))
     lashes = random.choice((realistic_lashes, lambda random, tiers: extreme_lashes(random, len(tiers))))

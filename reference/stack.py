@@ -1,4 +1,4 @@
-"""One stack in fractions: loads, springs and forces as document 01 writes them."""
+"""One stack in fractions: loads, springs and forces as document 01 writes them, with 02's turned boxes (P1)."""
 
 from dataclasses import dataclass
 from fractions import Fraction
@@ -13,7 +13,7 @@ WIND_PRESSURE = 1080  # N/m²
 SQUARE_METRE = 1_000_000  # mm²
 BOX_LENGTH = {20: 6058, 40: 12192}  # mm, by feet
 SHARE_TO_TOP = 45  # percent of F to the box's own top; the centre's height in the box
-RACKING_STIFFNESS = {DOOR: 3730, CLOSED: 15690}  # K, N/mm
+RACKING_STIFFNESS = {DOOR: 3730, CLOSED: 15690}  # K of a box at its door end and its closed end, N/mm
 POST_SPACING = 2259  # mm
 
 
@@ -37,7 +37,7 @@ def vertical(tier, thousandths):
 
 def wind(tier):
     """P = 0.5 × 1,080 N/m² × length × height if exposed, else 0."""
-    return UNIT * WIND_PRESSURE * BOX_LENGTH[tier.size] * tier.height * tier.wind // (2 * SQUARE_METRE)
+    return UNIT * WIND_PRESSURE * BOX_LENGTH[tier.size] * tier.height * tier.exposed // (2 * SQUARE_METRE)
 
 
 @dataclass(frozen=True)
@@ -94,17 +94,23 @@ def lash_forces(lash, shift):
     return LashForces(tension, tension * Fraction(lash.ly, length), tension * Fraction(lash.lz, length))
 
 
+def spring(tier, end):
+    """K of a tier: a turned box shows its closed end at the door end of the sheet, and the other way round."""
+    other = CLOSED if end == DOOR else DOOR
+    return RACKING_STIFFNESS[other if tier.turned else end]
+
+
 def equations(sheet, end, racking_loads):
     """One row a tier: the factors of D of levels 1 to n, then the right side.
 
     K × (D of level i − D of level i−1) + athwart parts of lashes at level i or above = Q of tier i
     """
     count = len(sheet.tiers)
-    stiffness = Fraction(RACKING_STIFFNESS[end])
     athwart = [(lash.level, lash_forces(lash, 1).athwart) for lash in sheet.lashes(end)]
     rows = []
     for number in range(1, count + 1):
         row = [Fraction(0)] * (count + 1)
+        stiffness = Fraction(spring(sheet.tiers[number - 1], end))
         row[number - 1] = stiffness
         if number > 1:
             row[number - 2] = -stiffness
@@ -204,13 +210,13 @@ def tension(held, v, m, level):
 def exact_end(sheet, end, borne=None):
     """Every exact force of one end."""
     borne = borne or loads(sheet)
-    count, stiffness, heights = len(sheet.tiers), RACKING_STIFFNESS[end], level_heights(sheet)
+    count, heights = len(sheet.tiers), level_heights(sheet)
     shift = shifts(sheet, end, borne.racking)
     lashes = tuple(lash_forces(lash, shift[lash.level]) for lash in sheet.lashes(end))
     held = hooked(sheet.lashes(end), lashes)
     m = [moment(heights, borne.moment, held, level) for level in range(count + 1)]
     return End(
-        tuple(stiffness * (shift[i] - shift[i - 1]) for i in range(1, count + 1)),
+        tuple(spring(tier, end) * (shift[i] - shift[i - 1]) for i, tier in enumerate(sheet.tiers, 1)),
         tuple(compression(held, borne.greatest[level], m[level], level) for level in range(count + 1)),
         tuple(tension(held, borne.least[level], m[level], level) for level in range(count)),
         lashes,

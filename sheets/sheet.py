@@ -26,7 +26,7 @@ ROUTE_PERCENT = (100, 87, 96, 95, 94, 100, 95, 73, 86, 90, 90, 73, 87)
 # Least and greatest value of each field that has a range.
 HEAD_LIMITS = {"route": (0, 12), "lock_material": (0, 2), "lock_breaking": (1, 2_000_000)}
 TIER_LIMITS = {
-    "wind": (0, 1),
+    "wind": (0, 3),
     "mass": (1, 30_480),
     "a_t": (0, 1_500),
     "a_vmax": (0, 3_000),
@@ -45,6 +45,11 @@ LASH_LIMITS = {
 }
 
 
+def wind_code(exposed, turned):
+    """A tier's wind byte."""
+    return int(exposed) + 2 * int(turned)
+
+
 @dataclass(frozen=True)
 class Head:
     rule: int
@@ -57,12 +62,21 @@ class Head:
 @dataclass(frozen=True)
 class Tier:
     size: int  # feet
-    wind: int  # 0 sheltered, 1 exposed
+    wind: int  # 0 sheltered, 1 exposed, and 2 more where the box stands turned
     height: int  # mm
     mass: int  # kg
     a_t: int  # A_T, A_Vmax, A_Vmin in thousandths of g
     a_vmax: int
     a_vmin: int
+
+    @property
+    def exposed(self):
+        return self.wind % 2 == 1
+
+    @property
+    def turned(self):
+        """Whether its closed end stands at the door end of the sheet."""
+        return self.wind // 2 == 1
 
 
 @dataclass(frozen=True)

@@ -25,6 +25,8 @@ REFUSED = {
     "order-2-13": "2 23",
     "order-11-bottom": "11 22",
     "longest-and-one": "2 451",
+    "wind-4": "7 21",
+    "wind-255": "7 21",
 }
 
 

@@ -13,7 +13,7 @@ import unittest
 from fractions import Fraction
 from pathlib import Path
 
-from reference.cases import CASES, SLIPS
+from reference.cases import CASES, SLIPS, TURNED
 from reference.faults import EDGES
 from reference.judge import KEPT, MARGIN, expected, figure_fault, judge
 from reference.making import KINDS, make
@@ -52,6 +52,7 @@ class StandIn:
     most_bytes = 452
     tests = staticmethod(list)
     heights = {20: (2438, 2591), 40: (2591, 2896)}
+    greatest_wind = 3
     greatest_mass = 30_480
     greatest_a_vmin = 1_000
     most_tiers = 10
@@ -69,7 +70,7 @@ class StandIn:
         size, wind = data[place], data[place + 1]
         height, _, _, a_vmax, a_vmin = struct.unpack_from("<5H", data, place + 2)
         limits = ((2, 1, self.greatest_mass), (2, 0, 1500), (2, 0, 3000), (2, 0, self.greatest_a_vmin))
-        fits = size in self.heights and height in self.heights[size] and wind < 2
+        fits = size in self.heights and height in self.heights[size] and wind <= self.greatest_wind
         return not (fits and within(data, place + 4, limits) and a_vmin <= a_vmax)
 
     def bad_lash(self, data, place):
@@ -122,10 +123,22 @@ class StandIn:
     share = 0.45
     spacing = 2259
     springs = (3730, 15690)
+    turned_ends = (0, 1)  # where a turned box shows its other spring
     posts = (0, 1)  # the kind of lash on the lee post and on the windward post
     route_on_vertical = False
     route_on_wind = False
     percents = (100, 87, 96, 95, 94, 100, 95, 73, 86, 90, 90, 73, 87)
+
+    def exposed(self, wind):
+        return wind & 1
+
+    def turned(self, wind):
+        return wind >> 1
+
+    def end_springs(self, data, end):
+        """K of each tier at an end."""
+        turned = [end in self.turned_ends and self.turned(data[10 + 12 * tier]) for tier in range(data[8])]
+        return [self.springs[end ^ 1 if each else end] for each in turned]
 
     def level(self, tier, hook):
         return tier - hook
@@ -146,7 +159,7 @@ class StandIn:
         for tier in range(data[8]):
             size, wind, height, mass, *a = struct.unpack_from("<BBHHHHH", data, 9 + 12 * tier)
             half_weight = mass * 9.81 / 2
-            pressed = wind * 1080e-6 / 2 * {20: 6058, 40: 12192}[size] * height
+            pressed = self.exposed(wind) * 1080e-6 / 2 * {20: 6058, 40: 12192}[size] * height
             pressed *= factor if self.route_on_wind else 1
             half_up = half_weight / 1000 * (factor if self.route_on_vertical else 1)
             pushed = half_weight * a[0] / 1000 * factor
@@ -170,7 +183,7 @@ class StandIn:
             ends.append(found)
         return ends
 
-    def shifts(self, loads, lashes, spring):
+    def shifts(self, loads, lashes, springs):
         """Shifts of levels 0 to n: each level's stiffness and load handed down, then upward again."""
         count = len(loads)
         own = [sum(lash[2] for lash in lashes if lash[0] == level) for level in range(count + 1)]
@@ -180,16 +193,16 @@ class StandIn:
             pull[level] += self.share * f + p / 2
             pull[level - 1] += (1 - self.share) * f + p / 2
         for level in range(count, 0, -1):
-            part = spring / (spring + own[level])
+            part = springs[level - 1] / (springs[level - 1] + own[level])
             own[level - 1] += part * own[level]
             pull[level - 1] += part * pull[level]
         shift = [0.0]
-        for level in range(1, count + 1):
+        for level, spring in enumerate(springs, 1):
             shift.append((pull[level] + spring * shift[-1]) / (spring + own[level]))
         return shift
 
-    def racking(self, shift, spring):
-        return [spring * (b - a) for a, b in zip(shift, shift[1:])]
+    def racking(self, shift, springs):
+        return [spring * (b - a) for spring, a, b in zip(springs, shift, shift[1:])]
 
     def post(self, level, loads, racking, lashes, parts, field, counted):
         """The lee and the windward sum at a level."""
@@ -201,11 +214,11 @@ class StandIn:
         )
         return half_v + pair + lee, half_v - pair + windward
 
-    def end(self, loads, lashes, spring):
+    def end(self, loads, lashes, springs):
         """Racking, compression, tension and lash forces of one end."""
         count = len(loads)
-        shift = self.shifts(loads, lashes, spring)
-        racking = self.racking(shift, spring)
+        shift = self.shifts(loads, lashes, springs)
+        racking = self.racking(shift, springs)
         athwart = [lash[2] * shift[lash[0]] for lash in lashes]
         parts = [a * lash[4] for a, lash in zip(athwart, lashes)]
         given = (loads, racking, lashes, parts)
@@ -264,8 +277,8 @@ class StandIn:
             return self.refusal_text.format(*refusal).encode()
         loads, lashes = self.loads(data), self.lashes(data)
         ends = []
-        for own, spring in zip(lashes, self.springs):
-            *lists, forces = self.end(loads, own, spring)
+        for end, own in enumerate(lashes):
+            *lists, forces = self.end(loads, own, self.end_springs(data, end))
             figures = [[self.figure(force) for force in forces_] for forces_ in lists]
             ends.append((*figures, [tuple(self.figure(force) for force in row) for row in forces]))
         findings = self.listed(self.findings(data, lashes, ends))
@@ -285,8 +298,8 @@ def nearest(force):
     return math.floor(force + 0.5)
 
 
-def copied_upward(self, shift, spring):
-    return [spring * shift[1]] * (len(shift) - 1)
+def copied_upward(self, shift, springs):
+    return [springs[0] * shift[1]] * (len(shift) - 1)
 
 
 @staticmethod
@@ -310,6 +323,14 @@ SLIPS_CAUGHT = {
     "lowest tier copied upward": ({"racking": copied_upward}, ""),
     "door spring at both ends": ({"springs": (3730, 3730)}, ""),
     "ends exchanged": ({"springs": (15690, 3730)}, ""),
+    "turned boxes as the others": ({"turned_ends": ()}, ""),
+    "turned at the door end only": ({"turned_ends": (0,)}, ""),
+    "turned at the closed end only": ({"turned_ends": (1,)}, ""),
+    "turn read from the wrong bit": ({"turned": lambda s, wind: wind & 1}, ""),
+    "wind lost on a turned box": ({"exposed": lambda s, wind: wind == 1}, "below"),
+    "wind twice on a turned box": ({"exposed": lambda s, wind: wind}, "100 N or more"),
+    "7 from wind 3 on": ({"greatest_wind": 2}, "refusal"),
+    "7 from wind 5 on": ({"greatest_wind": 4}, "refusal"),
     "centre at half height": ({"share": 0.5}, ""),
     "spacing of the width": ({"spacing": 2438}, "below"),
     "length rounded down": ({"length": lambda s, *sides: math.isqrt(sum(x * x for x in sides))}, ""),
@@ -357,6 +378,18 @@ SHOWN_BY = {
     "slip-route-wind": "route on wind",
     "slip-copied-tier": "lowest tier copied upward",
     "slip-every-kind": "no findings",
+}
+
+# And which slips of 02's turned boxes.
+TURNED_SHOWS = {
+    "turned-d": ("turned boxes as the others", "turned at the door end only", "turned at the closed end only"),
+    "turned-mixture": ("turned at the door end only", "turned at the closed end only", "turn read from the wrong bit"),
+    "turned-upper": ("turned at the door end only", "turned at the closed end only", "turn read from the wrong bit"),
+    "turned-exposed": ("wind lost on a turned box", "wind twice on a turned box"),
+    "turned-eight-high": ("turned at the door end only", "wind lost on a turned box"),
+    "wind-3": ("7 from wind 3 on",),
+    "wind-4": ("7 from wind 5 on",),
+    "wind-255": (),
 }
 
 
@@ -408,12 +441,14 @@ class Comparison(unittest.TestCase):
                 self.assertTrue(fault.startswith(begins), fault)
 
     def test_named_cases_show_their_slips(self):
-        self.assertEqual({case.name for case in SLIPS}, set(SHOWN_BY))
-        for case in SLIPS:
-            with self.subTest(case.name):
-                due = expected(case.data)
-                self.assertEqual(judge(due, StandIn()(case.data)).faults, [])
-                self.assertTrue(judge(due, slipped(SHOWN_BY[case.name])(case.data)).faults)
+        shown = {name: (slip,) for name, slip in SHOWN_BY.items()} | TURNED_SHOWS
+        self.assertEqual({case.name for case in SLIPS + TURNED}, set(shown))
+        for case in SLIPS + TURNED:
+            due = expected(case.data)
+            self.assertEqual(judge(due, StandIn()(case.data)).faults, [])
+            for slip in shown[case.name]:
+                with self.subTest(case.name, slip=slip):
+                    self.assertTrue(judge(due, slipped(slip)(case.data)).faults)
 
     def test_a_limit_one_newton_off_is_caught(self):
         """Stacks near a limit, with pads that lead their figures over it newton by newton."""

@@ -55,7 +55,7 @@ class Data(unittest.TestCase):
         self.assertEqual(stack["lock"], lock)
         self.assertEqual(stack["racking_stiffness"], {"door": 3730, "closed": 15690})
         self.assertEqual((stack["mass"], stack["height"]), (82_480, 15_546))
-        tier = {"tier": 5, "size": 40, "wind": "sheltered", "height": 2591, "mass": 30_480}
+        tier = {"tier": 5, "size": 40, "wind": "sheltered", "turned": False, "height": 2591, "mass": 30_480}
         self.assertEqual(stack["tiers"][4], {**tier, "A_T": 800, "A_Vmax": 1000, "A_Vmin": 1000})
         self.assertEqual(
             stack["lashes"][1],

@@ -73,7 +73,7 @@ class Defaults(unittest.TestCase):
             description.assumed,
             [
                 "rule 1", "route 0", "lock material higher strength", "lock breaking_load 500,000 N",
-                "box size 40 feet", "box wind exposed", "box height 2,591 mm", "lash end both",
+                "box size 40 feet", "box wind exposed", "box turned false", "box height 2,591 mm", "lash end both",
                 "lash hook top", "lash kind cross", "lash material higher strength rod", "lash LX 0 mm",
                 "lash breaking_load 490,000 N",
             ],
@@ -84,6 +84,15 @@ class Defaults(unittest.TestCase):
         sheet = sheet_of(text + "hook = 'top'\n")
         self.assertEqual([(tier.mass, tier.wind) for tier in sheet.tiers], [(20_000, 1), (7, 0)])
         self.assertEqual([lash.hook for lash in sheet.door], [0])
+
+    def test_turned(self):
+        for wind, exposed in (("sheltered", 0), ("exposed", 1)):
+            text = LEAST.replace("[box]", f"[box]\nwind = '{wind}'")
+            self.assertEqual([tier.wind for tier in sheet_of(text).tiers], [exposed] * 2)
+            all_turned = text.replace("[box]", "[box]\nturned = true")
+            self.assertEqual([tier.wind for tier in sheet_of(all_turned).tiers], [exposed + 2] * 2)
+            one_not = all_turned.replace("[gear]", "turned = false\n[gear]")
+            self.assertEqual([tier.wind for tier in sheet_of(one_not).tiers], [exposed + 2, exposed])
 
     def test_words(self):
         for word, code in (("ordinary steel", 0), ("higher strength", 1), ("nodular iron", 2)):
@@ -150,6 +159,9 @@ WRONG = (
     ("[box]", "[box]\nheight = 2590", "[box]: height 2590 has to be 2,438 or 2,591 or 2,896 mm"),
     ("[box]", "[box]\nheight = 2438", "tier 1: height 2,438 has to be 2,591 or 2,896 mm at 40 feet"),
     ("[box]", "[box]\nwind = 1", '[box]: wind is 1; it has to be "sheltered" or "exposed"'),
+    ("[box]", "[box]\nturned = 1", "[box]: turned is 1; it has to be true or false"),
+    ("[gear]", "turned = 'yes'\n[gear]", 'tier 2: turned is "yes"; it has to be true or false'),
+    ("[box]", "[box]\nreversed = true", '[box]: unknown field "reversed"; did you mean "turned"?'),
     ("[box]", "route = 13\n[box]", "the stack: route 13 is outside 0 to 12"),
     ("[box]", "lock.material = 'tin'\n[box]", '[lock]: material is "tin"; it has to be "ordinary steel" '
      'or "higher strength" or "nodular iron"'),

@@ -20,6 +20,7 @@ SHOWN = {
     "eight-high": ("accepted", []),
     "three-high": ("accepted", []),
     "route": ("accepted", []),
+    "turned": ("accepted", []),
     "racking": ("unacceptable racking", [(end, RACKING, 1) for end in BOTH]),
     "pulled-back": ("unacceptable racking, to windward", [(0, RACKING, 6)]),
     "stack-weight": ("unacceptable stack weight", [(end, COMPRESSION, 1) for end in BOTH]),
@@ -63,6 +64,14 @@ class Examples(unittest.TestCase):
         sheet = sheet_of("route")
         unrestricted = replace(sheet, head=replace(sheet.head, route=0))
         self.assertEqual(findings(unrestricted, exact(unrestricted)), [(1, CORNER, 0), (1, LOCK, 0)])
+
+    def test_the_turn_decides(self):
+        """With no box turned it is the stack of lash-force; with all of them the wire at the other end is overloaded."""
+        sheet = sheet_of("turned")
+        for turn, due in ((0, [(0, LASH_TENSION, 0)]), (2, [(1, LASH_TENSION, 0)])):
+            alike = replace(sheet, tiers=tuple(replace(tier, wind=tier.wind % 2 + turn) for tier in sheet.tiers))
+            self.assertEqual(findings(alike, exact(alike)), due)
+            self.assertEqual(alike == sheet_of("lash-force"), turn == 0)
 
     def test_the_template_is_accepted(self):
         sheet = describe(template().encode()).sheet

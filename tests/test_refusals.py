@@ -38,8 +38,8 @@ MEANINGS = (
     (stack(()), (6, 8), "the tier count (byte 8) is 0; a stack has 1 to 10 tiers"),
     (stack(tiers(mass=40_000)), (7, 21),
      "tier 2 (bytes 21 to 32): mass 40,000 is outside 1 to 30,480 kg"),
-    (stack(tiers(wind=2, a_t=2_000)), (7, 21),
-     "tier 2 (bytes 21 to 32): wind has code 2; codes are 0 to 1, "
+    (stack(tiers(wind=4, a_t=2_000)), (7, 21),
+     "tier 2 (bytes 21 to 32): wind has code 4; codes are 0 to 3, "
      "A_T 2,000 is outside 0 to 1,500 thousandths of g"),
     (stack(tiers(size=30)), (7, 21), "tier 2 (bytes 21 to 32): size 30 is not 20 or 40 feet"),
     (stack(tiers(height=2438)), (7, 21),

@@ -117,6 +117,16 @@ class Table(unittest.TestCase):
         self.assertTrue(text.endswith("\n\nNOT ACCEPTED: 8 findings\n"))
         self.assertNotIn("< 9", text)
 
+    def test_turned_boxes_are_marked(self):
+        end = ((1_000, 1_000), (1_000,) * 3, (1_000, 1_000), ())
+        for winds, tiers, other_way in (((3, 0), ["1 turned", "2"], True), ((1, 2), ["1", "2 turned"], True), ((0, 1), ["1", "2"], False)):
+            sheet = Sheet(HEAD, tuple(replace(BOX_B, wind=wind) for wind in winds), (), ())
+            text = table(result("", sheet, read_answer(answer_bytes(end, end)), []))
+            rows = [line.split("  ")[1:] for line in text.splitlines() if " 2,591 " in line]
+            self.assertEqual([row[0] for row in rows], tiers)
+            self.assertEqual(["exposed" in row for row in rows], [wind % 2 == 1 for wind in winds])
+            self.assertEqual("the other way round where a box stands turned" in " ".join(text.split()), other_way)
+
     def test_a_lash_at_both_ends_is_listed_once_and_keeps_its_number(self):
         """Lashes 2 and 3 of this description change places in the sheet."""
         posts = ((1_000,) * 8, (1_000,) * 9, (1_000,) * 8)

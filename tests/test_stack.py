@@ -69,6 +69,38 @@ class Figures(unittest.TestCase):
         self.assertEqual(newtons(transverse(B, 7)), Fraction("35806.5"))
 
 
+class Turned(unittest.TestCase):
+    """Document 02, P1; K is 15,690 at the door end of a turned box, S 7,200 N/mm, Q 22,072.5 N, or 26,977.5 and 2,207.25."""
+
+    def shifts(self, sheet, end=DOOR):
+        return shifts(sheet, end, loads(sheet).racking)[1:]
+
+    def test_a_turned_box_with_a_rod(self):
+        sheet = stack(replace(B, wind=2), door=[S], closed=[S])
+        self.assertEqual(self.shifts(sheet), [Fraction("22072.5") / 22_890])
+        self.assertEqual(self.shifts(sheet, CLOSED), [Fraction("22072.5") / 10_930])
+
+    def test_a_mixture(self):
+        """K1 D1 + S D2 = Q1 and K2 (D2 - D1) + S D2 = Q2, by Cramer's rule."""
+        rods, light = [replace(S, tier=2)], replace(B, mass=2_000)
+        below = stack(replace(B, wind=2), light, door=rods, closed=rods)
+        above = stack(B, replace(light, wind=2), door=rods, closed=rods)
+        q1, q2, s = Fraction("26977.5"), Fraction("2207.25"), 7_200
+        for k1, k2, cases in ((15_690, 3_730, ((below, DOOR), (above, CLOSED))), (3_730, 15_690, ((below, CLOSED), (above, DOOR)))):
+            bottom = k1 * (k2 + s) + s * k2
+            due = [(q1 * (k2 + s) - s * q2) / bottom, (k1 * q2 + k2 * q1) / bottom]
+            for sheet, end in cases:
+                self.assertEqual(self.shifts(sheet, end), due)
+        self.assertEqual(self.shifts(below), [Fraction(3_719_625, 2_644_636), Fraction(18_034_377, 26_446_360)])
+
+    def test_nothing_else_changes(self):
+        plain = stack(B, replace(B, wind=1), replace(B, mass=9_000), door=[S], closed=[S])
+        turned = replace(plain, tiers=tuple(replace(tier, wind=tier.wind + 2) for tier in plain.tiers))
+        self.assertEqual(loads(turned), loads(plain))
+        self.assertEqual([wind(tier) for tier in turned.tiers], [wind(tier) for tier in plain.tiers])
+        self.assertEqual(exact(turned), exact(plain)[::-1])
+
+
 class Forces(unittest.TestCase):
     def test_loads_are_whole_parts_of_a_newton(self):
         """What is divided is a multiple: the loads in parts of a newton are the paper's in fractions."""
@@ -195,7 +227,7 @@ class Refusals(unittest.TestCase):
 
     def test_7_tier_fields(self):
         for change, due in (
-            ({"size": 30}, 7), ({"size": 0}, 7), ({"wind": 1}, None), ({"wind": 2}, 7),
+            ({"size": 30}, 7), ({"size": 0}, 7), ({"wind": 1}, None), ({"wind": 3}, None), ({"wind": 4}, 7), ({"wind": 255}, 7),
             ({"height": 2896}, None), ({"height": 2438}, 7), ({"height": 2592}, 7),
             ({"mass": 0}, 7), ({"mass": 1}, None), ({"mass": 30_480}, None), ({"mass": 30_481}, 7),
             ({"a_t": 0}, None), ({"a_t": 1_500}, None), ({"a_t": 1_501}, 7),

@@ -169,6 +169,19 @@ class Drawn(unittest.TestCase):
         for row in (tier, [*rod, "130,000", "490,000"]):
             self.assertIn(row, [checked[i : i + len(row)] for i in range(len(checked))])
 
+    def test_turned_boxes_are_marked(self):
+        sheet = Sheet(HEAD, tuple(replace(BOX_B, wind=wind) for wind in (0, 1, 2, 3)), (), ())
+        picture = drawn_sheet(sheet, quiet_answer(sheet))
+        self.assertEqual(picture.texts("wind"), ["exposed"] * 4)
+        self.assertEqual(picture.texts("turned"), ["turned"] * 4)
+        tops = [top for _, top, _, _ in picture.boxes()]
+        marked = [float(shape.get("y")) for shape in picture.named("turned")]
+        for top, y in zip((tops[2], tops[3]) * 2, marked, strict=True):
+            self.assertLess(top, y)
+            self.assertLess(y, top + picture.boxes()[0][3])
+        self.assertEqual([row for row in picture.texts("checked") if row.startswith(("1", "2", "3", "4")) and len(row) > 7],
+                         ["3 turned", "4 turned"])
+
     def test_what_was_not_given_keeps_its_letters(self):
         sheet = describe((EXAMPLES / "three-high.toml").read_bytes()).sheet
         text = " ".join(drawn(EXAMPLES / "three-high.toml", output=quiet_answer(sheet)).texts())

@@ -1,5 +1,7 @@
 -- Theorems for the reader and for the crates above.
 pub mod Table
+pub mod Turned
+pub mod Solutions
 pub mod Accepted
 pub mod ReadBack
 pub mod Longest

@@ -8,22 +8,20 @@ use lib.Dec.{lit≤}
 use Rattle.sheet.specs.Lashings.{levelOf}
 use Rattle.arith.specs.Fractions.{Frac, nat, _/q_, recip, sumq, _≈_, _⊏_}
 use Rattle.arith.specs.Lists.{from}
-use Rattle.arith.proofs.FractionLaws.{≈-trans, ≈⊑}
-use Rattle.arith.proofs.OrderedField.{⊑-⊏-trans}
 use Rattle.arith.specs.inner.Roots.{Least}
 use Rattle.sheet.specs.declared.Sheet.{Sheet}
 use Rattle.statics.specs.Loads.{weight, transverse, verticalForce, boxLength, wind, load, classRule}
 use Rattle.statics.specs.Lashes.{lashLength, pull, athwartPart}
 use Rattle.springs.specs.Equations as S
-use Rattle.springs.specs.Theorems.{Agree}
 use Rattle.springs.specs.Equations.{shift}
-use Rattle.springs.proofs.OneSolution.{handedStiffness, handedLoad, shiftOf, solution, exists, unique, same-racking}
-use Rattle.statics.specs.Ends.{chainTiers, chainLash, chainLashes, EndSolved, OneSolution}
+use Rattle.springs.proofs.OneSolution.{handedStiffness, handedLoad, shiftOf, solution}
+use Rattle.statics.specs.Ends.{chainTiers, chainLash, chainLashes, endLashes}
 use Rattle.sheet.specs.Ends.{door, tiersOf, lashesOf}
 use Rattle.statics.specs.Posts.{levelHeight, turning, moment, atMost, tension}
 use Rattle.statics.proofs.LashLength.{length-is}
 use Rattle.answer.specs.Limits.{safeLoad}
 use Rattle.answer.specs.Table.{boxB, rodS, rodOf, exposedBox, sheetWith, alone, pair, lashed, lashedAbove, doorTiers, lowestLoad, Table}
+use Rattle.answer.proofs.Solutions.{one, every-shift, every-racking}
 
 -- (a), (b)
 figure-a : lowestLoad alone ≈ nat 220725 /q nat 10
@@ -50,7 +48,7 @@ least-root s r enough below = record { enough = enough; least = λ k h. omega (a
     clash : (k : ℕ) → s ≤ k * k → k ≤ r → ⊥
     clash k h l = omega (arith, mul-le-mul l l)
 
-length-S : (tier : ℕ) → lashLength (rodS tier) ≡ 3250
+pub length-S : (tier : ℕ) → lashLength (rodS tier) ≡ 3250
 length-S tier = sym (length-is (rodS tier) 3250 (least-root 10562500 3249 (lit≤ tt) (lit≤ tt)))
 
 figure-h-wider : lashLength (rodOf 1 1) ≡ 3251
@@ -83,38 +81,14 @@ stiffness : (tier : ℕ) → athwartPart (rodS tier) (nat 1) ≈ nat 7200
 unfolding athwartPart pull recip
 stiffness tier = rw (length-S tier) (record { cross = refl })
 
--- (d), (e): the solution by elimination, which every other agrees with
+-- (d), (e)
 abbrev doorLashes : Sheet → List S.Lash
-doorLashes t = chainLashes (lashesOf door t)
+doorLashes t = endLashes door t
 
 abbrev solved : Sheet → List Frac
 solved t = solution (doorTiers t) (doorLashes t)
 
-module _ (t : Sheet) (stiff : S.Stiff (doorTiers t) (doorLashes t)) where
-  agree : (Ds Es : List Frac) → EndSolved (classRule t) door t Ds → EndSolved (classRule t) door t Es → Agree Ds Es
-  agree Ds Es s r = unique (doorTiers t) (doorLashes t) Ds Es stiff (s .solves) (r .solves)
-
-  there : EndSolved (classRule t) door t (solved t)
-  there = record { solves = exists (doorTiers t) (doorLashes t) stiff }
-
-  one : OneSolution (classRule t) door t
-  one = record { shifts = solved t; exists = there; unique = λ Ds Es s r. agree Ds Es s r .same }
-
-  every-shift : (i : ℕ) (x : Frac) → shift (solved t) i ≈ x → (Ds : List Frac) → EndSolved (classRule t) door t Ds → shift Ds i ≈ x
-  every-shift i x e Ds s = ≈-trans (shift Ds i) (shift (solved t) i) x (agree Ds (solved t) s there .same i) e
-
-  every-racking :
-      (i : ℕ) (x : Frac) →
-      S.racking (doorTiers t) (solved t) i ⊏ x →
-      (Ds : List Frac) →
-      EndSolved (classRule t) door t Ds →
-      S.racking (doorTiers t) Ds i ⊏ x
-  every-racking i x e Ds s =
-      ⊑-⊏-trans (S.racking (doorTiers t) Ds i) (S.racking (doorTiers t) (solved t) i) x
-      (≈⊑ (S.racking (doorTiers t) Ds i) (S.racking (doorTiers t) (solved t) i)
-      (same-racking (doorTiers t) Ds (solved t) (agree Ds (solved t) s there) i)) e
-
-stiff-rod : (tier j : ℕ) → j < 1 → nat 0 ⊏ S.lashAt (chainLashes (rodS tier ∷ [])) j .stiffness
+pub stiff-rod : (tier j : ℕ) → j < 1 → nat 0 ⊏ S.lashAt (chainLashes (rodS tier ∷ [])) j .stiffness
 unfolding chainLash athwartPart pull recip
 stiff-rod tier zero h = rw (length-S tier) (record { cross = record { lt = tt } })
 stiff-rod tier (suc j) h = absurd (omega arith)
@@ -159,11 +133,11 @@ table =
       b = figure-b;
       c-moment = figure-c-moment;
       c-tension = figure-c-tension;
-      d-one = one lashed stiff-d;
-      d = every-shift lashed stiff-d 1 (nat 220725 /q nat 10 /q nat 10930) solved-d;
-      e-one = one lashedAbove stiff-e;
-      e-shift = every-shift lashedAbove stiff-e 2 (nat 2918475 /q nat 100 /q nat 18130) solved-e;
-      e-racking = every-racking lashedAbove stiff-e 1 (nat 0) racked-e;
+      d-one = one (classRule lashed) door lashed stiff-d;
+      d = every-shift (classRule lashed) door lashed stiff-d 1 (nat 220725 /q nat 10 /q nat 10930) solved-d;
+      e-one = one (classRule lashedAbove) door lashedAbove stiff-e;
+      e-shift = every-shift (classRule lashedAbove) door lashedAbove stiff-e 2 (nat 2918475 /q nat 100 /q nat 18130) solved-e;
+      e-racking = every-racking (classRule lashedAbove) door lashedAbove stiff-e 1 (nat 0) racked-e;
       f = figure-f;
       g = figure-g;
       h = length-S 1;

@@ -17,6 +17,7 @@ use Rattle.answer.specs.Checked.{AnswerTo, Checked, kept, demanded}
 use Rattle.answer.specs.Consequences.{AnswerSays}
 use Rattle.answer.specs.Places.{ReadBack}
 use Rattle.answer.specs.Table.{Table}
+use Rattle.answer.specs.Turned.{Turned}
 use Rattle.answer.specs.inner.Named.{answerBy, returned, written}
 
 -- demand 3, of a sheet t and the bytes s that begin with its answer: each end's equations have exactly one solution in fractions; every
@@ -53,3 +54,5 @@ pub record Theorems : Type 0 where
       DemandThree (sheetOf s) after
   -- document 01's figures (a) to (j)
   pub table : Table
+  -- document 02's turned boxes
+  pub turned : Turned

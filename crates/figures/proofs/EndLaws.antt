@@ -8,7 +8,7 @@ use native.Mathlib.Omega.{arith}
 use borrow.Author.Tests.{le-leb, lt-leb, eq-eqb, ne-eqb}
 use lib.Dec.{leb, eqb}
 use lib.IntN.{ℤ, pos}
-use lib.ListN.{length, getD, take, drop, replicate}
+use lib.ListN.{length, getD, take, drop}
 use lib.Seq.{ext-getD}
 use Rattle.sheet.specs.Layout.{blankLash, blankTier}
 use Rattle.sheet.proofs.Limits.{lash-wider}
@@ -23,14 +23,14 @@ use Rattle.statics.specs.declared.EndFigures.{EndFigures}
 use Rattle.sheet.specs.inner.Limits.{LashLimits, SheetLimits}
 use Rattle.statics.specs.declared.LoadRule.{LoadRule}
 use Rattle.statics.specs.Ends.{springOf}
-use Rattle.sheet.specs.Ends.{End, door, closed, tiersOf, lashesOf}
+use Rattle.sheet.specs.Ends.{End, tiersOf, lashesOf}
 use Rattle.statics.specs.inner.WholeNumbers.{Filled, levelStiffness, upward, upwards, leePart, windwardPart, rackingPart, rackingFigure}
 use Rattle.statics.specs.inner.WholeNumbers.{momentPart, compressionFigure, tensionFigure, pullFigure, athwartFigure, verticalFigure}
 use Rattle.statics.specs.inner.Computed.{springsOf, stiffnessesOf, figuresAt}
 use Rattle.figures.specs.inner.Ends.{Loaded, Weighed, Workable}
 use Rattle.figures_levels.specs.inner.Levels.{total, LevelInputs, LevelsFigured}
 use Rattle.figures_lashes.specs.inner.Lashes.{LevelStiffnesses, LashesFigured, VerticalsOn}
-use Rattle.arith.specs.Lists.{from, below}
+use Rattle.arith.specs.Lists.{below}
 use Rattle.arith.proofs.Arrays.{length-entries}
 use Rattle.statics.proofs.Arrays.{entry-at, filled-padded}
 use Rattle.statics.proofs.Inputs.{spring-least, spring-most}
@@ -204,14 +204,8 @@ module _ {t : Sheet} (f : SheetLimits t) (e : End) where
       spring-at : (i : ℕ) → i < t .ntiers → getD (springsOf e (tiersOf t)) i 0 ≡ springOf e (tier i)
       spring-at i h = entry-at (λ i. springOf e (tier i)) 0 10 i (omega (arith, f .few))
 
--- today's springs do not depend on the tier
-pub door-springs : (ts : List Tier) → replicate 10 3730 ≡ springsOf door ts
-unfolding from
-door-springs ts = refl
-
-pub closed-springs : (ts : List Tier) → replicate 10 15690 ≡ springsOf closed ts
-unfolding from
-closed-springs ts = refl
+pub springs-long : (e : End) (ts : List Tier) → length (springsOf e ts) ≡ 10
+springs-long e ts = length-entries (λ i. springOf e (getD ts i blankTier)) 0 10
 
 -- the figures of an end of a sheet, from its springs and loads
 abbrev pub endFigures : End → Sheet → List ℕ → List ℕ → EndFigures

@@ -1,3 +1,4 @@
 -- Loads and weights, and the figures of an end put together.
 pub mod LoadLaws
+pub mod SpringLaws
 pub mod EndLaws

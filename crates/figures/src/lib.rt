@@ -15,11 +15,7 @@ use statics::Figures;
 use statics::LoadRule;
 
 mod loads; // loads.rt: the loads on the levels and the weights above them
-
-// K of a tier at the door end and at the closed end, N/mm (CR Table 2-4).
-const DOOR_SPRING: u64 = 3730;
-
-const CLOSED_SPRING: u64 = 15690;
+mod tier_springs; // tier_springs.rt: the springs of an end's tiers
 
 // The share of F that a tier's own top takes by the class rule, in twentieths: 0.45.
 const CLASS_SHARE: u64 = 9;
@@ -85,8 +81,9 @@ pub fn figures_by(s: Sheet, rule: LoadRule) -> Figures
     let mut vmax = [0u64; 11];
     let mut vmin = [0u64; 11];
     loads::loads_of(n, tiers, rule, &mut loads, &mut vmax, &mut vmin);
-    let k = [DOOR_SPRING; 10];
-    let h = [CLOSED_SPRING; 10];
+    let mut k = [tier_springs::DOOR_SPRING; 10];
+    let mut h = [tier_springs::CLOSED_SPRING; 10];
+    tier_springs::springs_of(n, tiers, &mut k, &mut h);
     Figures {
         door: end_figures(n, &k, tiers, door, s.ndoor, &loads, &vmax, &vmin),
         closed: end_figures(n, &h, tiers, closed, s.nclosed, &loads, &vmax, &vmin),

@@ -18,6 +18,10 @@ abbrev box : ℕ → ℕ → ℕ → ℕ → List ℕ
 box size height mass aVmin =
     tierBytes (record { size = size; wind = 0; height = height; mass = mass; aT = 500; aVmax = 1500; aVmin = aVmin })
 
+-- B with a wind byte
+abbrev windy : ℕ → List ℕ
+windy wind = tierBytes (record { size = 40; wind = wind; height = 2591; mass = 20000; aT = 500; aVmax = 1500; aVmin = 800 })
+
 abbrev B : List ℕ
 B = box 40 2591 20000 800
 
@@ -78,6 +82,10 @@ cases =
     ∷ (head ++ (1 ∷ box 40 2591 30481 800) ++ bares gives Refused 7 9)
     ∷ (head ++ (1 ∷ box 40 2591 20000 1000) ++ bares gives Taken)
     ∷ (head ++ (1 ∷ box 40 2591 20000 1001) ++ bares gives Refused 7 9)
+    -- wind bytes 3 and 4, and the greatest
+    ∷ (head ++ (2 ∷ windy 2 ++ windy 3) ++ bares gives Taken)
+    ∷ (head ++ (2 ∷ windy 3 ++ windy 4) ++ bares gives Refused 7 21)
+    ∷ (head ++ (1 ∷ windy 255) ++ bares gives Refused 7 9)
     -- a height is judged by the box's own size, 7, before the size is held against tier 1, 8
     ∷ (head ++ (2 ∷ B ++ box 20 2896 20000 800) ++ bares gives Refused 7 21)
     ∷ (head ++ (2 ∷ B ++ box 20 2591 20000 800) ++ bares gives Refused 8 21)

@@ -1,5 +1,5 @@
 -- The tests of a tier and of a lash give their limits in numbers.
-use Prim.Native.Nat.{ℕ, zero, suc, _-_, _≤_}
+use Prim.Native.Nat.{ℕ, zero, suc, _-_, _/_, _%_, _≤_}
 use mathlib.Core.Bool.{Bool, true, false, _&&_, _||_, true≢false}
 use mathlib.Core.Logic.{_⊎_, inl, inr, ⊎-elim}
 use mathlib.Core.Path.{_≡_, refl, sym, _∙_}
@@ -8,9 +8,10 @@ use borrow.Author.Tests.{ltb-false, leb-true, eqb-true, eqb-false, eq-eqb}
 use lib.Dec.{leb, ltb, eqb}
 use Rattle.sheet.specs.declared.Tier.{Tier}
 use Rattle.sheet.specs.declared.Lash.{Lash}
-use Rattle.sheet.specs.Layout.{within, upTo, tierFits, breakingFits, lashFits}
+use Rattle.sheet.specs.Layout.{within, upTo, windCode, tierFits, breakingFits, lashFits}
 use Rattle.sheet.specs.Refusals.{offTiers}
 use Rattle.sheet.specs.Lashings.{levelOf}
+use Rattle.sheet.specs.Theorems.{WindCodes}
 use Rattle.sheet.specs.inner.Limits.{BreakingLimits, Box, TierFilled, LashLimits}
 use Rattle.sheet.proofs.Bools.{and-true, or-true, or-false}
 
@@ -63,6 +64,17 @@ tier-filled t e =
       mass = least 1 30480 _ (mass .1);
       order = leb-true _ _ (order .1);
     }
+
+-- the four codes of the wind byte
+code-of : (w : ℕ) → w ≤ 3 → w ≡ windCode (eqb (w % 2) 1) (eqb (w / 2) 1)
+code-of zero h = refl
+code-of (suc zero) h = refl
+code-of (suc (suc zero)) h = refl
+code-of (suc (suc (suc zero))) h = refl
+code-of (suc (suc (suc (suc w)))) h = absurd (omega (arith, h))
+
+pub wind-codes : WindCodes
+wind-codes t e = code-of (t .wind) (tier-filled t e .wind)
 
 -- a hook or kind is 0 or 1
 pub code : (x : ℕ) → x ≤ 1 → (x ≡ 0) ⊎ (x ≡ 1)

@@ -1,7 +1,7 @@
 -- Document 01, "The stack sheet": where each field lies, the codes and limits of the fields, and what a sheet holds.
 -- A byte past the end reads 0, so that each field has a value on any bytes; the refusals say when the bytes are too few.
-use Prim.Native.Nat.{ℕ, zero, suc, _+_, _*_, _-_}
-use mathlib.Core.Bool.{Bool, _&&_, _||_}
+use Prim.Native.Nat.{ℕ, zero, suc, _+_, _*_, _-_, _/_, _%_}
+use mathlib.Core.Bool.{Bool, cond, _&&_, _||_}
 use mathlib.Core.List.{List, [], _∷_, _++_, map}
 use lib.Dec.{leb, ltb, eqb}
 use lib.ListN.{length, getD, replicate}
@@ -99,22 +99,28 @@ upTo hi x = leb x hi
 abbrev pub within : ℕ → ℕ → ℕ → Bool
 within lo hi x = leb lo x && leb x hi
 
--- heights 2438 or 2591 for 20 feet, 2591 or 2896 for 40 feet; wind 0 or 1; mass 1 to 30,480; A_T 0 to 1,500; A_Vmax 0 to 3,000;
+-- the wind byte is 0 where a box is sheltered and 1 where it is exposed, and gains 2 where the box stands turned (document 02, P1)
+abbrev pub windCode : Bool → Bool → ℕ
+windCode e t = cond e 1 0 + cond t 2 0
+
+abbrev pub exposed : Tier → Bool
+exposed t = t .wind % 2 is 1
+
+abbrev pub turned : Tier → Bool
+turned t = t .wind / 2 is 1
+
+-- heights 2438 or 2591 for 20 feet, 2591 or 2896 for 40 feet; wind codes 0 to 3; mass 1 to 30,480; A_T 0 to 1,500; A_Vmax 0 to 3,000;
 -- A_Vmin 0 to 1,000 and not above A_Vmax
 unfoldable pub tierFits : Tier → Bool
 tierFits t =
     (t .size is 20 && (t .height is 2438 || t .height is 2591)
     || t .size is 40 && (t .height is 2591 || t .height is 2896))
-    && upTo 1 (t .wind)
+    && upTo 3 (t .wind)
     && within 1 30480 (t .mass)
     && upTo 1500 (t .aT)
     && upTo 3000 (t .aVmax)
     && upTo 1000 (t .aVmin)
     && upTo (t .aVmax) (t .aVmin)
-
--- wind: 0 sheltered, 1 exposed
-abbrev pub exposed : Tier → Bool
-exposed t = t .wind is 1
 
 -- breaking loads, of the lock and of a lash: 1 to 2,000,000
 unfoldable pub breakingFits : ℕ → Bool

@@ -3,7 +3,7 @@
 
 ghost use mathlib.Core.Path.{_≡_};
 ghost use Prim.Native.Nat.{_<_, _≤_};
-ghost use Rattle.sheet.specs.Layout.{exposed};
+ghost use Rattle.sheet.specs.Layout.{exposed, turned};
 ghost use Rattle.sheet.specs.Lashings.{lashingOf};
 ghost use Rattle.sheet.specs.Routes.{routePercent};
 
@@ -19,8 +19,8 @@ pub struct Head {
     pub lockBreakingLoad: u32,
 }
 
-// A tier: size in feet, wind (0 sheltered, 1 exposed), height in mm, mass in kg; A_T, A_Vmax and A_Vmin in thousandths
-// of g.
+// A tier: size in feet, wind (0 sheltered, 1 exposed, and 2 more where the box stands turned), height in mm, mass in kg; A_T,
+// A_Vmax and A_Vmin in thousandths of g.
 pub struct Tier {
     pub size: u8,
     pub wind: u8,
@@ -61,7 +61,14 @@ pub struct Sheet {
 pub fn exposed(t: Tier) -> bool
     ensures { λ r. ⌜ r ≡ exposed t ⌝ }
 {
-    t.wind == 1
+    t.wind % 2 == 1
+}
+
+// Whether a tier's box stands turned, its closed end at the door end of the sheet.
+pub fn turned(t: Tier) -> bool
+    ensures { λ r. ⌜ r ≡ turned t ⌝ }
+{
+    t.wind / 2 == 1
 }
 
 // What comes of reading: the sheet is taken, or refused with a number of the table and its second number.

@@ -22,7 +22,7 @@ fn tier_fits(t: Tier) -> bool
 {
     (((t.size == 20) & ((t.height == 2438) | (t.height == 2591)))
         | ((t.size == 40) & ((t.height == 2591) | (t.height == 2896))))
-        & (t.wind <= 1)
+        & (t.wind <= 3)
         & ((1 <= t.mass) & (t.mass <= 30480))
         & (t.aT <= 1500)
         & (t.aVmax <= 3000)

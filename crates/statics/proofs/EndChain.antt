@@ -1,4 +1,5 @@
 -- The exact chain of an end of a taken sheet: its springs and lashes are stiffer than zero, its level loads those of the whole numbers.
+use mathlib.Core.Bool.{Bool, true, false, cond}
 use mathlib.Core.Path.{_≡_, refl, sym, ap, subst, _∙_}
 use mathlib.Core.List.{List, [], _∷_}
 use Prim.Native.Nat.{ℕ, zero, suc, _*_, _-_, _^_, _≤_, _<_}
@@ -6,7 +7,7 @@ use native.Mathlib.Decide.{decLt}
 use native.Mathlib.Omega.{arith}
 use lib.ListN.{getD, length, List·getD-eq-default}
 use lib.IntN.{pos}
-use Rattle.sheet.specs.Layout.{blankTier}
+use Rattle.sheet.specs.Layout.{turned, blankTier}
 use Rattle.arith.specs.Fractions.{nat, recip, _/q_, _⊏_}
 use Rattle.springs.specs.Equations as S
 use Rattle.springs.specs.Equations.{loadAt}
@@ -76,9 +77,16 @@ chain-stiff [] f j h = absurd (off h)
 chain-stiff (l ∷ ls) f zero h = stiffness-above l (each-first f)
 chain-stiff (l ∷ ls) f (suc j) h = chain-stiff ls (each-rest f) j (omega arith)
 
+-- what holds of a box's two springs holds of the one that an end shows
+pub either : (P : ℕ → Type 0) (b : Bool) {x y : ℕ} → P x → P y → P (cond b x y)
+either P true p q = p
+either P false p q = q
+
 spring-above : (e : End) (u : Tier) → nat 0 ⊏ nat (springOf e u)
-spring-above door u = record { cross = record { lt = tt } }
-spring-above closed u = record { cross = record { lt = tt } }
+spring-above door u =
+    either (λ k. nat 0 ⊏ nat k) (turned u) (record { cross = record { lt = tt } }) (record { cross = record { lt = tt } })
+spring-above closed u =
+    either (λ k. nat 0 ⊏ nat k) (turned u) (record { cross = record { lt = tt } }) (record { cross = record { lt = tt } })
 
 pub end-each : (e : End) {t : Sheet} → SheetLimits t → Each (t .ntiers) (lashesOf e t)
 end-each e f = record { at = f .ends e .each }

@@ -3,8 +3,9 @@ use mathlib.Core.Path.{_≡_, sym, subst}
 use mathlib.Core.List.{List}
 use Prim.Native.Nat.{ℕ, suc, _*_, _≤_, _<_}
 use native.Mathlib.Omega.{arith}
+use lib.Dec.{lit≤}
 use lib.ListN.{getD, length}
-use Rattle.sheet.specs.Layout.{blankTier}
+use Rattle.sheet.specs.Layout.{turned, blankTier}
 use Rattle.arith.specs.Fractions.{nat, _≈_}
 use Rattle.arith.proofs.FractionLaws.{≈-refl}
 use Rattle.springs.specs.inner.Promise.{Near, Solvable, mostHeld, mostLoaded}
@@ -21,15 +22,15 @@ use Rattle.sheet.specs.inner.Limits.{SheetLimits}
 use Rattle.statics.proofs.Arrays.{entry-at, padded-at}
 use Rattle.statics.proofs.LevelStiffness.{level-most, level-rounded}
 use Rattle.statics.proofs.LevelLoads.{load-most}
-use Rattle.statics.proofs.EndChain.{tier-limits, end-each, end-length, end-spring, end-stiff, end-loaded}
+use Rattle.statics.proofs.EndChain.{tier-limits, either, end-each, end-length, end-spring, end-stiff, end-loaded}
 
 pub spring-least : (e : End) (u : Tier) → 3730 ≤ springOf e u
-spring-least door u = omega arith
-spring-least closed u = omega arith
+spring-least door u = either (λ k. 3730 ≤ k) (turned u) (lit≤ tt) (lit≤ tt)
+spring-least closed u = either (λ k. 3730 ≤ k) (turned u) (lit≤ tt) (lit≤ tt)
 
 pub spring-most : (e : End) (u : Tier) → springOf e u ≤ 15690
-spring-most door u = omega arith
-spring-most closed u = omega arith
+spring-most door u = either (λ k. k ≤ 15690) (turned u) (lit≤ tt) (lit≤ tt)
+spring-most closed u = either (λ k. k ≤ 15690) (turned u) (lit≤ tt) (lit≤ tt)
 
 module _ {rule : Rule} {c : LoadRule} (stands : StandsFor c rule) (e : End) {t : Sheet} (f : SheetLimits t) where
   abbrev tier : ℕ → Tier

@@ -10,6 +10,7 @@ pub mod LevelLoads
 pub mod LoadsGrow
 pub mod EndChain
 pub mod Inputs
+pub mod Turned
 pub mod OneSolution
 -- Bounds of the exact forces.
 pub mod Within

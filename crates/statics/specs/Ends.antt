@@ -1,7 +1,9 @@
 -- Document 01, "The springs": the equations of one end of a decoded sheet.
+use mathlib.Core.Bool.{cond}
 use mathlib.Core.List.{List, [], _∷_, map}
 use Prim.Native.Nat.{ℕ}
 use Rattle.sheet.specs.Ends.{End, door, closed, tiersOf, lashesOf}
+use Rattle.sheet.specs.Layout.{turned}
 use Rattle.sheet.specs.Lashings.{levelOf}
 use Rattle.arith.specs.Fractions.{Frac, nat, _≈_}
 use Rattle.springs.specs.Equations as S
@@ -11,10 +13,11 @@ use Rattle.sheet.specs.declared.Sheet.{Sheet}
 use Rattle.statics.specs.Loads.{Rule, load}
 use Rattle.statics.specs.Lashes.{athwartPart}
 
--- K of a tier at an end, N/mm (CR Table 2-4)
+-- K of a tier at an end of the sheet, N/mm (CR Table 2-4): that of the box's door end or of its closed end. A turned box shows its
+-- closed end at the door end of the sheet, and the other way round (document 02, P1)
 abbrev pub springOf : End → Tier → ℕ
-springOf door t = S.doorSpring
-springOf closed t = S.closedSpring
+springOf door t = cond (turned t) S.closedSpring S.doorSpring
+springOf closed t = cond (turned t) S.doorSpring S.closedSpring
 
 -- each tier's spring and load
 unfoldable pub chainTiers : Rule → End → List Tier → List S.Tier

@@ -1,4 +1,5 @@
 -- What holds of the loads and of the equations of an end, for any share from 0 to 1 and any factor not below zero. Proved in proofs/.
+use mathlib.Core.Bool.{true, false}
 use mathlib.Core.Path.{_≡_}
 use mathlib.Core.List.{List, [], _∷_}
 use Prim.Native.Nat.{ℕ, suc, _≤_}
@@ -8,11 +9,11 @@ use Rattle.springs.specs.Equations.{shift, racking, loadAt}
 use Rattle.sheet.specs.declared.Tier.{Tier}
 use Rattle.sheet.specs.declared.Lash.{Lash}
 use Rattle.sheet.specs.declared.Sheet.{Sheet}
-use Rattle.sheet.specs.Layout.{blankTier}
-use Rattle.statics.specs.Loads.{Rule}
-use Rattle.statics.specs.Ends.{chainTiers, EndSolved}
+use Rattle.sheet.specs.Layout.{exposed, turned, blankTier}
+use Rattle.statics.specs.Loads.{transverse, wind, verticalForce, Rule}
+use Rattle.statics.specs.Ends.{springOf, chainTiers, EndSolved}
 use Rattle.statics.specs.Posts.{moment}
-use Rattle.sheet.specs.Ends.{End}
+use Rattle.sheet.specs.Ends.{End, door, closed}
 
 pub record Proper (rule : Rule) : Type 0 where
   pub share-least : nat 0 ⊑ rule .share
@@ -48,3 +49,34 @@ HeavierTiers ts us = (i : ℕ) → HeavierTier (getD ts i blankTier) (getD us i 
 -- under heavier boxes no level's load is less
 abbrev pub LoadsGrow : Rule → End → List Tier → List Tier → Type 0
 LoadsGrow rule e ts us = (i : ℕ) → loadAt (chainTiers rule e ts) i ⊑ loadAt (chainTiers rule e us) i
+
+-- Turned boxes (proofs/Turned)
+
+-- K of a box that is not turned: 3,730 N/mm at the door end, 15,690 at the closed end
+abbrev pub OwnSprings : Type 0
+OwnSprings = (t : Tier) → turned t ≡ false → (springOf door t ≡ 3730) × (springOf closed t ≡ 15690)
+
+-- u is the box t, which may stand the other way
+pub record SameBox (t u : Tier) : Type 0 where
+  pub same :
+      u ≡ record { size = t .size; wind = u .wind; height = t .height; mass = t .mass; aT = t .aT; aVmax = t .aVmax; aVmin = t .aVmin }
+  pub as-exposed : exposed u ≡ exposed t
+
+-- where one of the two is turned, each end shows the other's spring
+pub record SpringsSwapped (t u : Tier) : Type 0 where
+  pub at-door : springOf door u ≡ springOf closed t
+  pub at-closed : springOf closed u ≡ springOf door t
+
+abbrev pub TurnSwapsSprings : Type 0
+TurnSwapsSprings = (t u : Tier) → turned t ≡ false → turned u ≡ true → SpringsSwapped t u
+
+-- and all else with which a box enters the loads and the posts is the same
+pub record SameForces (t u : Tier) : Type 0 where
+  pub transverse-same : (factor : Frac) → transverse factor u ≡ transverse factor t
+  pub wind-same : wind u ≡ wind t
+  pub most-same : verticalForce (λ t. t .aVmax) u ≡ verticalForce (λ t. t .aVmax) t
+  pub least-same : verticalForce (λ t. t .aVmin) u ≡ verticalForce (λ t. t .aVmin) t
+  pub height-same : u .height ≡ t .height
+
+abbrev pub TurnKeepsForces : Type 0
+TurnKeepsForces = (t u : Tier) → SameBox t u → SameForces t u

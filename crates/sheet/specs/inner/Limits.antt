@@ -40,7 +40,7 @@ pub record TierFilled (t : Tier) : Type 0 where
   pub limits : TierLimits t
   pub box : Box (t .size) (t .height)
   pub height : 2438 ≤ t .height
-  pub wind : t .wind ≤ 1
+  pub wind : t .wind ≤ 3
   pub mass : 1 ≤ t .mass
   pub order : t .aVmin ≤ t .aVmax
 
