@@ -20,7 +20,8 @@ use Rattle.sheet.specs.Ends.{door, tiersOf, lashesOf}
 use Rattle.statics.specs.Posts.{levelHeight, turning, moment, atMost, tension}
 use Rattle.statics.proofs.LashLength.{length-is}
 use Rattle.answer.specs.Limits.{safeLoad}
-use Rattle.answer.specs.Table.{boxB, rodS, rodOf, exposedBox, sheetWith, alone, pair, lashed, lashedAbove, doorTiers, lowestLoad, Table}
+use Rattle.answer.specs.Table.{boxB, rodS, rodOf, exposedBox, sheetWith, alone, pair, lashed, lashedAbove}
+use Rattle.answer.specs.Table.{doorTiers, lowestLoad, Table}
 use Rattle.answer.proofs.Solutions.{one, every-shift, every-racking}
 
 -- (a), (b)

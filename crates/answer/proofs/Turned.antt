@@ -82,7 +82,9 @@ turned =
       wind-same = wind-same;
       lashed-one = one (classRule lashedTurned) door lashedTurned stiff-door;
       lashed-door = every-shift (classRule lashedTurned) door lashedTurned stiff-door 1 (nat 220725 /q nat 10 /q nat 22890) solved-door;
-      lashed-closed = every-shift (classRule lashedTurned) closed lashedTurned stiff-closed 1 (nat 220725 /q nat 10 /q nat 3730) solved-closed;
+      lashed-closed =
+          every-shift (classRule lashedTurned) closed lashedTurned stiff-closed 1
+          (nat 220725 /q nat 10 /q nat 3730) solved-closed;
       mixed-one = one (classRule mixed) door mixed stiff-mixed;
       mixed-lower = every-shift (classRule mixed) door mixed stiff-mixed 1 (nat 3719625 /q nat 2644636) solved-lower;
       mixed-upper = every-shift (classRule mixed) door mixed stiff-mixed 2 (nat 18034377 /q nat 26446360) solved-upper;

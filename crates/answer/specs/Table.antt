@@ -91,7 +91,10 @@ pub record Table : Type 0 where
   pub d-one : OneSolution (classRule lashed) door lashed
   pub d : (Ds : List Frac) → EndSolved (classRule lashed) door lashed Ds → S.shift Ds 1 ≈ nat 220725 /q nat 10 /q nat 10930
   pub e-one : OneSolution (classRule lashedAbove) door lashedAbove
-  pub e-shift : (Ds : List Frac) → EndSolved (classRule lashedAbove) door lashedAbove Ds → S.shift Ds 2 ≈ nat 2918475 /q nat 100 /q nat 18130
+  pub e-shift :
+      (Ds : List Frac) →
+      EndSolved (classRule lashedAbove) door lashedAbove Ds →
+      S.shift Ds 2 ≈ nat 2918475 /q nat 100 /q nat 18130
   pub e-racking : (Ds : List Frac) → EndSolved (classRule lashedAbove) door lashedAbove Ds → S.racking (doorTiers lashedAbove) Ds 1 ⊏ nat 0
   pub f : safeLoad 1 490000 ≡ 293413
   pub g : safeLoad 1 500000 ≡ 299401

@@ -32,7 +32,10 @@ pub record Turned : Type 0 where
   pub wind-same : wind exposedTurned ≈ nat 1906633728 /q nat 100000
   -- D = 22,072.5 / 22,890 mm at the door end, with S and the closed end's spring; 22,072.5 / 3,730 at the closed end, which is bare
   pub lashed-one : OneSolution (classRule lashedTurned) door lashedTurned
-  pub lashed-door : (Ds : List Frac) → EndSolved (classRule lashedTurned) door lashedTurned Ds → S.shift Ds 1 ≈ nat 220725 /q nat 10 /q nat 22890
+  pub lashed-door :
+      (Ds : List Frac) →
+      EndSolved (classRule lashedTurned) door lashedTurned Ds →
+      S.shift Ds 1 ≈ nat 220725 /q nat 10 /q nat 22890
   pub lashed-closed :
       (Ds : List Frac) → EndSolved (classRule lashedTurned) closed lashedTurned Ds → S.shift Ds 1 ≈ nat 220725 /q nat 10 /q nat 3730
   -- D of levels 1 and 2 of the mixture, at the door end

@@ -156,5 +156,10 @@ module _ (t : Sheet) (f : Figures) (s : Sized t) (lock : ℕ)
         ∙ ap₂ (λ (a b : List ℕ). a ++ b) (p .stored) (zeros ∙ ap (λ (n : ℕ). replicate (387 - n) 0) l)
         ∙ ap (λ (b : List ℕ). padded 387 0 b) both-bytes
 
-    pub found-is : {r : Found} {after : List ℕ} → r .bytes ≡ after → r .count ≡ q / 3 → after ≡ sets held q (0 ∷ 0 ∷ 0 ∷ []) → r ≡ found t f
+    pub found-is :
+        {r : Found} {after : List ℕ} →
+        r .bytes ≡ after →
+        r .count ≡ q / 3 →
+        after ≡ sets held q (0 ∷ 0 ∷ 0 ∷ []) →
+        r ≡ found t f
     found-is b c e = λ i. record { bytes = (b ∙ bytes-are e) i; count = (c ∙ count-is) i }

@@ -96,7 +96,13 @@ errors-add p a q b e f h l =
     up : (p a q b e f x y : ℚ) → p -ℚ a ≤ℚ x → q -ℚ b ≤ℚ y → x ≤ℚ e → y ≤ℚ f → p +ℚ q -ℚ (a +ℚ b) ≤ℚ e +ℚ f
     up = ∀₈ ℚR _ λ ρ. simp qq λ s t h l. by-cert (to s ⊞ to t ⊞ to h ⊞ to l) tt
 
-    down : (p a q b e f x y : ℚ) → negℚ (p -ℚ a) ≤ℚ x → negℚ (q -ℚ b) ≤ℚ y → x ≤ℚ e → y ≤ℚ f → negℚ (p +ℚ q -ℚ (a +ℚ b)) ≤ℚ e +ℚ f
+    down :
+        (p a q b e f x y : ℚ) →
+        negℚ (p -ℚ a) ≤ℚ x →
+        negℚ (q -ℚ b) ≤ℚ y →
+        x ≤ℚ e →
+        y ≤ℚ f →
+        negℚ (p +ℚ q -ℚ (a +ℚ b)) ≤ℚ e +ℚ f
     down = ∀₈ ℚR _ λ ρ. simp qq λ s t h l. by-cert (to s ⊞ to t ⊞ to h ⊞ to l) tt
 
 -- statements in fractions, through ℚ

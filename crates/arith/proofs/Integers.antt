@@ -4,7 +4,8 @@ use mathlib.Core.Bool.{Bool, true, false, cond}
 use Prim.Native.Nat.{ℕ, zero, suc, _+_, _-_, _*_, _≤_}
 use native.Mathlib.Omega.{arith}
 use lib.Dec.{T, leb→le, le→leb, ltb}
-use lib.IntN.{ℤ, pos, negsuc, predℤ, negℤ, natAbs, one, _+ℤ_, _-ℤ_, _*ℤ_, +ℤ-idl, +ℤ-idr, +ℤ-assoc, +ℤ-comm, +ℤ-invr, +ℤ-invl, sucℤ-+ℤ}
+use lib.IntN.{ℤ, pos, negsuc, predℤ, negℤ, natAbs, one, _+ℤ_, _-ℤ_, _*ℤ_, +ℤ-idl, +ℤ-idr, +ℤ-assoc, +ℤ-comm}
+use lib.IntN.{+ℤ-invr, +ℤ-invl, sucℤ-+ℤ}
 use lib.IntN.{predℤ-+ℤ, sucℤ-*ℤ, predℤ-*ℤ, zero-*ℤ, *ℤ-comm, *ℤ-one, negℤ-+ℤ, +ℤ-negℤ-cancel, negℤ-negℤ}
 use lib.Signed.{_≤ℤ_, leZ, yes-nonNeg, pos-natAbs, ≤ℤ-refl}
 use Rattle.arith.proofs.Rings.{ORing}
@@ -53,7 +54,12 @@ mul-addℤ c m k = *ℤ-comm c (m +ℤ k) ∙ add-mulℤ m k c ∙ ap (λ x. x +
 
 -- a number whose sum with x is 0 is -x
 pub neg-unique : (x y : ℤ) → x +ℤ y ≡ pos zero → y ≡ negℤ x
-neg-unique x y h = sym (+ℤ-idl y) ∙ ap (λ z. z +ℤ y) (sym (+ℤ-invl x)) ∙ +ℤ-assoc (negℤ x) x y ∙ ap (λ z. negℤ x +ℤ z) h ∙ +ℤ-idr (negℤ x)
+neg-unique x y h =
+    sym (+ℤ-idl y)
+    ∙ ap (λ z. z +ℤ y) (sym (+ℤ-invl x))
+    ∙ +ℤ-assoc (negℤ x) x y
+    ∙ ap (λ z. negℤ x +ℤ z) h
+    ∙ +ℤ-idr (negℤ x)
 
 pub neg-mulℤ : (m c : ℤ) → negℤ m *ℤ c ≡ negℤ (m *ℤ c)
 neg-mulℤ m c = neg-unique (m *ℤ c) (negℤ m *ℤ c) (sym (add-mulℤ m (negℤ m) c) ∙ ap (λ z. z *ℤ c) (+ℤ-invr m) ∙ zero-*ℤ c)

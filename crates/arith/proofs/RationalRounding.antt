@@ -10,7 +10,8 @@ use Rattle.arith.proofs.Rings.{∀₃, ∀₄, ∀₅, by-cert, to, tim
 use Rattle.arith.proofs.Integers.{ℤR, _≼_}
 use Rattle.arith.proofs.IntegerTerms.{zq}
 use Rattle.arith.proofs.IntegerOmega.{nat-le}
-use Rattle.arith.proofs.Rationals.{ℚR, ℚ, int, _+ℚ_, _*ℚ_, _/ℚ_, recipℚ, _≤ℚ_, _<ℚ_, <→≤, recip-times, recip-nn, int-plus, int-times}
+use Rattle.arith.proofs.Rationals.{ℚR, ℚ, int, _+ℚ_, _*ℚ_, _/ℚ_, recipℚ, _≤ℚ_, _<ℚ_, <→≤, recip-times}
+use Rattle.arith.proofs.Rationals.{recip-nn, int-plus, int-times}
 use Rattle.arith.proofs.RationalTerms.{qq}
 use Rattle.arith.proofs.RationalOrder.{lt-of, div-le, le-div, div-lt}
 use Rattle.arith.proofs.Signs.{le-int}
@@ -59,7 +60,13 @@ module _ {x c r : ℤ} (c0 : int (pos 0) <ℚ int c) where
       lt-of (int r) (int x /ℚ int c +ℚ int (pos 1))
       (go (int x) (int c) (recipℚ (int c)) (int r) (recip-times (int c) c0) (<→≤ c0) (up-high u))
     where
-      go : (x c q r : ℚ) → c *ℚ q ≡ int (pos 1) → int (pos 0) ≤ℚ c → c *ℚ r +ℚ int (pos 1) ≤ℚ x +ℚ c → x *ℚ q +ℚ int (pos 1) ≤ℚ r → ⊥
+      go :
+          (x c q r : ℚ) →
+          c *ℚ q ≡ int (pos 1) →
+          int (pos 0) ≤ℚ c →
+          c *ℚ r +ℚ int (pos 1) ≤ℚ x +ℚ c →
+          x *ℚ q +ℚ int (pos 1) ≤ℚ r →
+          ⊥
       go = ∀₄ ℚR _ λ ρ. simp qq λ e c0 h l. contra (to c0 ⊠ to l ⊞ to h ⊞ times (v 0) e) tt
 
 -- the library's division rounds down, and the roundings of specs/Rounding go up

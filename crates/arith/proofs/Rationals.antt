@@ -35,13 +35,23 @@ eq₁ f g h p = ind₁ (λ p. f p ≡ g p) (λ p. Quot-set (f p) (g p)) h p
 pub eq₂ : (f g : ℚ → ℚ → ℚ) → ((x y : Frac) → f (mk x) (mk y) ≡ g (mk x) (mk y)) → (p q : ℚ) → f p q ≡ g p q
 eq₂ f g h p q = eq₁ (λ p. f p q) (λ p. g p q) (λ x. eq₁ (f (mk x)) (g (mk x)) (h x) q) p
 
-pub eq₃ : (f g : ℚ → ℚ → ℚ → ℚ) → ((x y z : Frac) → f (mk x) (mk y) (mk z) ≡ g (mk x) (mk y) (mk z)) → (p q r : ℚ) → f p q r ≡ g p q r
+pub eq₃ :
+    (f g : ℚ → ℚ → ℚ → ℚ) →
+    ((x y z : Frac) → f (mk x) (mk y) (mk z) ≡ g (mk x) (mk y) (mk z)) →
+    (p q r : ℚ) →
+    f p q r ≡ g p q r
 eq₃ f g h p q r = eq₁ (λ p. f p q r) (λ p. g p q r) (λ x. eq₂ (f (mk x)) (g (mk x)) (h x) q r) p
 
 abbrev lift₁ : (f : Frac → Frac) → ((x y : Frac) → x ≈ y → f x ≈ f y) → ℚ → ℚ
 lift₁ f c p = Quot·lift Quot-set (λ x. mk (f x)) (λ x y h. same (c x y h)) p
 
-abbrev lift₂ : (f : Frac → Frac → Frac) → ((x y z : Frac) → x ≈ y → f x z ≈ f y z) → ((x y z : Frac) → x ≈ y → f z x ≈ f z y) → ℚ → ℚ → ℚ
+abbrev lift₂ :
+    (f : Frac → Frac → Frac) →
+    ((x y z : Frac) → x ≈ y → f x z ≈ f y z) →
+    ((x y z : Frac) → x ≈ y → f z x ≈ f z y) →
+    ℚ →
+    ℚ →
+    ℚ
 lift₂ f c d p q =
     Quot·lift Quot-set (λ x. lift₁ (f x) (λ y z h. d y z x h) q)
     (λ x y h. eq₁ (lift₁ (f x) (λ u w h. d u w x h)) (lift₁ (f y) (λ u w h. d u w y h)) (λ z. same (c x y z h)) q) p

@@ -369,7 +369,11 @@ module _ (R : ORing) where
   unfolding X
   ∀₃ P f a b c = f (a ∷ b ∷ c ∷ [])
 
-  pub ∀₄ : (P : C → C → C → C → Type 0) → ((ρ : List C) → P (X ρ (v 0)) (X ρ (v 1)) (X ρ (v 2)) (X ρ (v 3))) → (a b c d : C) → P a b c d
+  pub ∀₄ :
+      (P : C → C → C → C → Type 0) →
+      ((ρ : List C) → P (X ρ (v 0)) (X ρ (v 1)) (X ρ (v 2)) (X ρ (v 3))) →
+      (a b c d : C) →
+      P a b c d
   unfolding X
   ∀₄ P f a b c d = f (a ∷ b ∷ c ∷ d ∷ [])
 
@@ -544,7 +548,12 @@ module _ {R : ORing} where
   contra {ρ} {e} c t = R .one-pos (leq-cert R ρ (kp 1) (kp 0) e (c .nn) t)
 
   -- the goal times a factor m that is above 0
-  pub over : {ρ : List (R .C)} {a b e : E} (m : E) → ¬ (Le R ρ m (kp 0)) → Cert R ρ e → T (isC (norm (m ⊗ (b ⊖ a) ⊖ kp 0 ⊖ e))) → Le R ρ a b
+  pub over :
+      {ρ : List (R .C)} {a b e : E} (m : E) →
+      ¬ (Le R ρ m (kp 0)) →
+      Cert R ρ e →
+      T (isC (norm (m ⊗ (b ⊖ a) ⊖ kp 0 ⊖ e))) →
+      Le R ρ a b
   over {ρ} {a} {b} {e} m h c t = record { ineq = cancel-cert R ρ m a b e (λ l. h (record { ineq = l })) (c .nn) t }
 
   pub over-eq :

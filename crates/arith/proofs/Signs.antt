@@ -9,7 +9,8 @@ use Rattle.arith.proofs.Rings.{ORing, ∀₁, ∀₂, ∀₃, ∀₄, b
 use Rattle.arith.proofs.Integers.{ℤR, _≼_, antisym}
 use Rattle.arith.proofs.IntegerTerms.{zq}
 use Rattle.arith.proofs.IntegerOrder.{abs, abs-nn, abs-ge, abs-ge-neg}
-use Rattle.arith.proofs.Rationals.{ℚR, ℚ, _+ℚ_, _-ℚ_, _*ℚ_, _/ℚ_, negℚ, recipℚ, int, _≤ℚ_, _<ℚ_, leℚ, flip, recip-times, absℚ, to-⊑}
+use Rattle.arith.proofs.Rationals.{ℚR, ℚ, _+ℚ_, _-ℚ_, _*ℚ_, _/ℚ_, negℚ, recipℚ, int, _≤ℚ_, _<ℚ_, leℚ}
+use Rattle.arith.proofs.Rationals.{flip, recip-times, absℚ, to-⊑}
 use Rattle.arith.proofs.Rationals.{of-⊑}
 use Rattle.arith.specs.Fractions as F
 use Rattle.arith.proofs.RationalTerms.{qq}

@@ -13,7 +13,7 @@ use Rattle.sheet.specs.Refusals.{decoded}
 use Rattle.sheet.specs.Fits.{Fits, Padded}
 use Rattle.sheet.specs.Written.{written}
 
--- a taken sheet is within the limits (proofs/Taken)
+-- a taken sheet is within the limits (proofs/TakenSheets)
 abbrev pub TakenWithinLimits : Type 0
 TakenWithinLimits = (s : List ℕ) → decoded s .reading ≡ Taken → Fits (decoded s .sheet) × Padded (decoded s .sheet)
 

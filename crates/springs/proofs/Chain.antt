@@ -66,7 +66,13 @@ sumBelow-rest f (suc i) m =
     ∙ ap (λ n. sumℚ f (below n)) (add-suc i m ∙ sym (suc-add i m))
 
 -- the same shifts up to level n need the same loads, where no tier stands on it
-pub load-same : (K k d e : ℕ → ℚ) (n : ℕ) → K n ≡ natℚ 0 → ((i : ℕ) → i ≤ n → d i ≡ e i) → (i : ℕ) → i < n → load K k d i ≡ load K k e i
+pub load-same :
+    (K k d e : ℕ → ℚ) (n : ℕ) →
+    K n ≡ natℚ 0 →
+    ((i : ℕ) → i ≤ n → d i ≡ e i) →
+    (i : ℕ) →
+    i < n →
+    load K k d i ≡ load K k e i
 load-same K k d e n top h i l =
     ap₂ (λ f x. f +ℚ k i *ℚ x) (ap₂ _-ℚ_ (ap₂ (λ x y. K i *ℚ (x -ℚ y)) (h (suc i) l) (h i (omega arith))) (over (decLe (suc (suc i)) n)))
     (h (suc i) l)
@@ -124,7 +130,13 @@ module _ (K k e : ℕ → ℚ) (n : ℕ) (stiff : (i : ℕ) → natℚ 0 ≤ℚ 
       (b (e (suc i))))
       (bound (suc i) m (omega arith) (sgq (e (suc i))) (hit-q (e (suc i))) (low-q (e (suc i))))
     where
-      grow : (e p s t a b : ℚ) → s *ℚ e ≡ a → t *ℚ p ≡ b → s *ℚ p ≤ℚ b → t *ℚ e ≤ℚ a → natℚ 0 ≤ℚ (s -ℚ t) *ℚ (e -ℚ p)
+      grow :
+          (e p s t a b : ℚ) →
+          s *ℚ e ≡ a →
+          t *ℚ p ≡ b →
+          s *ℚ p ≤ℚ b →
+          t *ℚ e ≤ℚ a →
+          natℚ 0 ≤ℚ (s -ℚ t) *ℚ (e -ℚ p)
       grow = ∀₆ ℚR _ λ ρ. simp qq λ x y h l. by-cert (to h ⊞ to l ⊞ times (kp 1) x ⊞ times (kp 1) y) tt
 
       step :
@@ -183,10 +195,22 @@ module _ (K k e : ℕ → ℚ) (n : ℕ) (stiff : (i : ℕ) → natℚ 0 ≤ℚ 
     pull-up i zero h l = subst (λ z. z ≤ℚ natℚ 0) (sym (top-force i h s)) (nn-int 0)
     pull-up i (suc m) h l = go (pull-up (suc i) m (omega arith)) (total (s *ℚ e (suc i)) (s *ℚ e i))
       where
-        back : (s K d e g G : ℚ) → natℚ 0 ≤ℚ K → s *ℚ d ≤ℚ s *ℚ e → natℚ 0 ≤ℚ g → natℚ 0 ≤ℚ G → s *ℚ (K *ℚ (d -ℚ e)) ≤ℚ g +ℚ G
+        back :
+            (s K d e g G : ℚ) →
+            natℚ 0 ≤ℚ K →
+            s *ℚ d ≤ℚ s *ℚ e →
+            natℚ 0 ≤ℚ g →
+            natℚ 0 ≤ℚ G →
+            s *ℚ (K *ℚ (d -ℚ e)) ≤ℚ g +ℚ G
         back = ∀₆ ℚR _ λ ρ. simp qq λ a b c d. by-cert (to a ⊠ to b ⊞ to c ⊞ to d) tt
 
-        onward : (s f F k d g G : ℚ) → s *ℚ (f -ℚ F +ℚ k *ℚ d) ≤ℚ g → s *ℚ F ≤ℚ G → natℚ 0 ≤ℚ k → natℚ 0 ≤ℚ s *ℚ d → s *ℚ f ≤ℚ g +ℚ G
+        onward :
+            (s f F k d g G : ℚ) →
+            s *ℚ (f -ℚ F +ℚ k *ℚ d) ≤ℚ g →
+            s *ℚ F ≤ℚ G →
+            natℚ 0 ≤ℚ k →
+            natℚ 0 ≤ℚ s *ℚ d →
+            s *ℚ f ≤ℚ g +ℚ G
         onward = ∀₇ ℚR _ λ ρ. simp qq λ a b c d. by-cert (to a ⊞ to b ⊞ to c ⊠ to d) tt
 
         go :

@@ -100,7 +100,9 @@ module _ (K k q : ℕ → ℚ) where
           go :
               (K k x q y p r : ℚ) →
               (K +ℚ (k +ℚ x)) *ℚ r ≡ natℚ 1 →
-              K *ℚ ((q +ℚ y +ℚ K *ℚ p) *ℚ r -ℚ p) -ℚ (y -ℚ x *ℚ ((q +ℚ y +ℚ K *ℚ p) *ℚ r)) +ℚ k *ℚ ((q +ℚ y +ℚ K *ℚ p) *ℚ r) ≡ q
+              K *ℚ ((q +ℚ y +ℚ K *ℚ p) *ℚ r -ℚ p) -ℚ (y -ℚ x *ℚ ((q +ℚ y +ℚ K *ℚ p) *ℚ r)) +ℚ k *ℚ
+              ((q +ℚ y +ℚ K *ℚ p) *ℚ r) ≡
+              q
           go = ∀₇ ℚR _ λ ρ. simp qq λ e. by-eqs (mul-eq (v 3 ⊕ v 4 ⊕ v 0 ⊗ v 5) e) tt
 
       -- a solution is the one that elimination gives

@@ -125,7 +125,11 @@ module _ (g : ℕ → ℚ) where
         go = ∀₂ ℚR _ λ ρ. simp qq (by-ring tt)
 
 -- lashes stiffer than 0 hold
-pub lashesOn-nn : (ls : List Lash) → ((j : ℕ) → j < length ls → natℚ 0 ≤ℚ mk (lashAt ls j .stiffness)) → (i : ℕ) → natℚ 0 ≤ℚ lashesOn ls i
+pub lashesOn-nn :
+    (ls : List Lash) →
+    ((j : ℕ) → j < length ls → natℚ 0 ≤ℚ mk (lashAt ls j .stiffness)) →
+    (i : ℕ) →
+    natℚ 0 ≤ℚ lashesOn ls i
 unfolding sumℚ
 lashesOn-nn [] h i = nn-int 0
 lashesOn-nn (l ∷ ls) h i =

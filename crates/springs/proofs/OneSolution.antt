@@ -16,7 +16,8 @@ use Rattle.springs.specs.Equations.{Tier, Lash, tierAt, shift, athwart, 
 use Rattle.springs.specs.Theorems.{Agree, OneSolution, Heavier}
 use Rattle.springs.proofs.Chain.{load-same}
 use Rattle.springs.proofs.Elimination as E
-use Rattle.springs.proofs.Levels.{springs, lashes, loads, shifts, mk-stiffness, mk-load, mk-racking, no-spring, spring-pos, spring-nn, lashes-nn, solves}
+use Rattle.springs.proofs.Levels.{springs, lashes, loads, shifts, mk-stiffness, mk-load, mk-racking}
+use Rattle.springs.proofs.Levels.{no-spring, spring-pos, spring-nn, lashes-nn, solves}
 use Rattle.springs.proofs.Growth.{growth}
 
 -- elimination from the top down: what m tiers from tier i + 1 on, with the lashes over them, hand down to level i, stiffness and load

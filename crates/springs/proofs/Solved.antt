@@ -1,7 +1,7 @@
 -- What the solver returns, by its name `solved`: it is as near to the exact shifts as specs/Promise says, has 11 entries, and depends on
 -- the first n springs, lashes and loads alone.
 use mathlib.Core.Path.{_≡_, refl, sym, ap, subst, fun-ext, _∙_}
-use mathlib.Core.List.{List, map}
+use mathlib.Core.List.{List}
 use Prim.Native.Nat.{ℕ, zero, suc, _+_, _*_, _-_, _≤_, _<_}
 use native.Mathlib.Nat.{max-le}
 use native.Mathlib.Numerals.{add-one}
@@ -9,7 +9,6 @@ use native.Mathlib.Omega.{arith}
 use native.Mathlib.Decide.{decLe}
 use lib.Dec.{lit<}
 use lib.IntN.{pos}
-use lib.ListN.{length, getD}
 use borrow.Author.Tests.{lt-ltb, le-ltb}
 use Rattle.arith.specs.Fractions.{Frac, nat, _-q_, _*q_, _/q_, absq, _⊑_, sumq}
 use Rattle.arith.specs.Lists.{from, below}
@@ -21,19 +20,9 @@ use Rattle.arith.proofs.RationalOrder.{nat-q, above-0}
 use Rattle.arith.proofs.FractionsInRationals.{sumℚ, toℚ}
 use Rattle.arith.proofs.FractionLaws.{⊑-trans}
 use Rattle.springs.specs.Equations.{closedSpring, Tier, Lash, tierAt, shift, racking, Solves}
-use Rattle.springs.specs.inner.Promise.{
-  stiffnessScale,
-  farthest,
-  shiftScale,
-  found,
-  Near,
-  Solvable,
-  errorHundredths,
-  lashError,
-  rackingError,
-  Promised,
-}
-use Rattle.springs.specs.inner.Elimination.{stiffnessTo, loadTo, shiftAt, solved}
+use Rattle.springs.specs.inner.Promise.{stiffnessScale, farthest, shiftScale, found, Near}
+use Rattle.springs.specs.inner.Promise.{Solvable, errorHundredths, lashError, rackingError, Promised}
+use Rattle.springs.specs.inner.Elimination.{solved}
 use Rattle.springs.specs.inner.Bound.{springAt, levelError, summedError, shiftBy}
 use Rattle.springs.proofs.Chain.{natℚ}
 use Rattle.springs.proofs.Recursion as R
@@ -82,7 +71,11 @@ module _ (n : ℕ) (k κ ω : List ℕ) (s : Solvable n k κ ω) where
       (nat-q (levelError n k κ ω i) mostLevelError (level-most i (omega arith)))
       (errors-most (suc i) m (omega arith)))
     where
-      more : (a t m : ℚ) → a ≤ℚ natℚ mostLevelError → t ≤ℚ m *ℚ natℚ mostLevelError → a +ℚ t ≤ℚ (m +ℚ natℚ 1) *ℚ natℚ mostLevelError
+      more :
+          (a t m : ℚ) →
+          a ≤ℚ natℚ mostLevelError →
+          t ≤ℚ m *ℚ natℚ mostLevelError →
+          a +ℚ t ≤ℚ (m +ℚ natℚ 1) *ℚ natℚ mostLevelError
       more = ∀₃ ℚR _ λ ρ. simp qq λ h l. by-cert (to h ⊞ to l) tt
 
   summed-most : summedError n k κ ω ⊑ lashError
@@ -152,51 +145,3 @@ module _ (n : ℕ) (k κ ω : List ℕ) (s : Solvable n k κ ω) where
           (⊑-trans (rackingErrorAt (shiftBy n k κ ω) ts Ds i) (summedError n k κ ω) rackingError
           (summed-bound n k κ ω ts ls Ds near sol .rackings i h)
           summed-most)
-
-pub solved-length : (n : ℕ) (k κ ω : List ℕ) → length (solved n k κ ω) ≡ 11
-solved-length n k κ ω = R.length-solved n k κ ω
-
-module _
-    (n : ℕ)
-    (k κ ω k' κ' ω' : List ℕ)
-    (springs : (i : ℕ) → i < n → getD k i 0 ≡ getD k' i 0)
-    (lashes : (i : ℕ) → i < n → getD κ i 0 ≡ getD κ' i 0)
-    (loads : (i : ℕ) → i < n → getD ω i 0 ≡ getD ω' i 0)
-  where
-    same-stiffness : (i m : ℕ) → i + m ≡ n → stiffnessTo k κ i m ≡ stiffnessTo k' κ' i m
-    unfolding stiffnessTo
-    same-stiffness i zero h = refl
-    same-stiffness i (suc m) h =
-        let l : i < n = omega arith in
-        rw (springs i l, lashes i l, same-stiffness (suc i) m (omega arith))
-
-    same-load : (i m : ℕ) → i + m ≡ n → loadTo k κ ω i m ≡ loadTo k' κ' ω' i m
-    unfolding loadTo
-    same-load i zero h = refl
-    same-load i (suc m) h =
-        let l : i < n = omega arith in
-        let e : suc i + m ≡ n = omega arith in
-        rw (springs i l, lashes i l, loads i l, same-stiffness (suc i) m e, same-load (suc i) m e)
-
-    same-shift : (i : ℕ) → shiftAt n k κ ω i ≡ shiftAt n k' κ' ω' i
-    same-shift zero = R.shift-deck n k κ ω ∙ sym (R.shift-deck n k' κ' ω')
-    same-shift (suc i) = go (same-shift i) (decLe (suc i) n)
-      where
-        go : shiftAt n k κ ω i ≡ shiftAt n k' κ' ω' i → Dec (suc i ≤ n) → shiftAt n k κ ω (suc i) ≡ shiftAt n k' κ' ω' (suc i)
-        go under (yes l) =
-            let e : suc i + (n - suc i) ≡ n = omega arith in
-            rw (
-              R.shift-step n k κ ω i l,
-              R.shift-step n k' κ' ω' i l,
-              springs i l,
-              lashes i l,
-              loads i l,
-              same-stiffness (suc i) (n - suc i) e,
-              same-load (suc i) (n - suc i) e,
-              under,
-            )
-        go under (no l) = R.shift-behind n k κ ω (suc i) (omega arith) ∙ sym (R.shift-behind n k' κ' ω' (suc i) (omega arith))
-
-    pub solved-same : solved n k κ ω ≡ solved n k' κ' ω'
-    unfolding solved
-    solved-same = ap (λ g. map g (below 11)) (fun-ext same-shift)

@@ -127,7 +127,9 @@ module _ (F P : Tier → ℚ) (part : Lash → ℚ) (s w : ℚ) where
       ∙ go (leb (suc i) (levelOf l)) (natℚ (t .height)) (Q t ts) (held ls (suc i)) (racked ls ts (suc i)) (part l)
       (heightTo (suc (suc i)) (levelOf l) ts)
     where
-      go : (b : Bool) (h q A r a c : ℚ) → h *ℚ (q -ℚ (givenℚ b a +ℚ A)) +ℚ (r -ℚ a *ℚ c) ≡ h *ℚ (q -ℚ A) +ℚ r -ℚ a *ℚ (givenℚ b h +ℚ c)
+      go :
+          (b : Bool) (h q A r a c : ℚ) →
+          h *ℚ (q -ℚ (givenℚ b a +ℚ A)) +ℚ (r -ℚ a *ℚ c) ≡ h *ℚ (q -ℚ A) +ℚ r -ℚ a *ℚ (givenℚ b h +ℚ c)
       go true = ∀₆ ℚR _ λ ρ. simp qq (by-ring tt)
       go false = ∀₆ ℚR _ λ ρ. simp qq (by-ring tt)
 

@@ -104,7 +104,14 @@ module _ {e X : ℚ} (n p : ℕ) (o : Off e (newtons (pos n)) X) (pad : e ≤ℚ
             (share-nn N y y0) (share-most N y y0 42 Ny) (off-nn o) (newtons-nn p) (o .above) lift first-close (ceil-high m);
       }
     where
-      enough : (e X n p q m s : ℚ) → natℚ 0 ≤ℚ q → X ≤ℚ n +ℚ e → e ≤ℚ p → (n +ℚ p) *ℚ q ≤ℚ m → m ≤ℚ s → X *ℚ q ≤ℚ s
+      enough :
+          (e X n p q m s : ℚ) →
+          natℚ 0 ≤ℚ q →
+          X ≤ℚ n +ℚ e →
+          e ≤ℚ p →
+          (n +ℚ p) *ℚ q ≤ℚ m →
+          m ≤ℚ s →
+          X *ℚ q ≤ℚ s
       enough = ∀₇ ℚR _ λ ρ. simp qq λ z o h f l. by-cert (to z ⊠ to o ⊞ to z ⊠ to h ⊞ to f ⊞ to l) tt
 
       back :

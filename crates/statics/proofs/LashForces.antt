@@ -73,7 +73,9 @@ module _ (l : Lash) (long : 0 < lashLength l) (wide : 0 < l .ly) where
           L *ℚ r ≡ natℚ 1 →
           y *ℚ q ≡ natℚ 1 →
           E *ℚ y *ℚ D *ℚ s ≡ E *ℚ y *ℚ natℚ 1 *ℚ s *ℚ y *ℚ r *ℚ D *ℚ (L *ℚ q)
-      go = ∀₇ ℚR _ λ ρ. simp qq λ a b. by-eqs (mul-eq (⊖ (v 0 ⊗ v 1 ⊗ v 2 ⊗ v 3 ⊗ v 1 ⊗ v 6)) a ⊹ mul-eq (⊖ (v 0 ⊗ v 1 ⊗ v 2 ⊗ v 3)) b) tt
+      go =
+          ∀₇ ℚR _ λ ρ. simp qq λ a b. by-eqs
+          (mul-eq (⊖ (v 0 ⊗ v 1 ⊗ v 2 ⊗ v 3 ⊗ v 1 ⊗ v 6)) a ⊹ mul-eq (⊖ (v 0 ⊗ v 1 ⊗ v 2 ⊗ v 3)) b) tt
 
   pub vertical-is : (D : Frac) → mk (verticalPart l D) ≡ stiffness l *ℚ mk D *ℚ (natℚ (l .lz) /ℚ natℚ (l .ly))
   vertical-is D =
@@ -81,7 +83,10 @@ module _ (l : Lash) (long : 0 < lashLength l) (wide : 0 < l .ly) where
       ∙ go (E l) (natℚ (l .ly)) (mk D) (per-square l) (natℚ (l .lz)) (per-length l) (recipℚ (natℚ (l .ly))) (recip-nat (l .ly) wide)
       ∙ ap (λ k. k *ℚ mk D *ℚ (natℚ (l .lz) /ℚ natℚ (l .ly))) (sym (stiffness-q l))
     where
-      go : (E y D s z r q : ℚ) → y *ℚ q ≡ natℚ 1 → E *ℚ y *ℚ D *ℚ s *ℚ z *ℚ r ≡ E *ℚ y *ℚ natℚ 1 *ℚ s *ℚ y *ℚ r *ℚ D *ℚ (z *ℚ q)
+      go :
+          (E y D s z r q : ℚ) →
+          y *ℚ q ≡ natℚ 1 →
+          E *ℚ y *ℚ D *ℚ s *ℚ z *ℚ r ≡ E *ℚ y *ℚ natℚ 1 *ℚ s *ℚ y *ℚ r *ℚ D *ℚ (z *ℚ q)
       go = ∀₇ ℚR _ λ ρ. simp qq λ b. by-eqs (mul-eq (⊖ (v 0 ⊗ v 1 ⊗ v 2 ⊗ v 3 ⊗ v 4 ⊗ v 5)) b) tt
 
 -- the stiffness that the check computes with, in 2^-22 N/mm, is k rounded down
@@ -128,7 +133,11 @@ module _ (l : Lash) (long : 0 < lashLength l) where
       ∙ go (E l) (natℚ (l .ly)) (natℚ (lashLength l)) (per-length l) (per-square l) (unit-length l long) unit-square
       ∙ sym numerator-is)
     where
-      go : (E y l r s : ℚ) → l *ℚ r ≡ natℚ 1 → l *ℚ l *ℚ s ≡ natℚ 1 → E *ℚ y *ℚ natℚ 1 *ℚ s *ℚ y *ℚ r *ℚ (l *ℚ l *ℚ l) ≡ E *ℚ (y *ℚ y)
+      go :
+          (E y l r s : ℚ) →
+          l *ℚ r ≡ natℚ 1 →
+          l *ℚ l *ℚ s ≡ natℚ 1 →
+          E *ℚ y *ℚ natℚ 1 *ℚ s *ℚ y *ℚ r *ℚ (l *ℚ l *ℚ l) ≡ E *ℚ (y *ℚ y)
       go = ∀₅ ℚR _ λ ρ. simp qq λ a b. by-eqs (mul-eq (v 0 ⊗ v 1 ⊗ v 1 ⊗ v 2 ⊗ v 2 ⊗ v 4) a ⊹ mul-eq (v 0 ⊗ v 1 ⊗ v 1) b) tt
 
   pub stiffness-low : natℚ (stiffnessOf l) ≤ℚ natℚ (2 ^ 22) *ℚ stiffness l

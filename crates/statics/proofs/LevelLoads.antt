@@ -118,7 +118,11 @@ module _ (rule : Rule) where
       ∙ law (mk (rule .share)) (mk (transverse (rule .factor) blankTier)) (mk half) (mk (wind blankTier))
       (no-transverse (rule .factor)) no-wind
     where
-      law : (S F h P : ℚ) → F ≡ natℚ 0 → P ≡ natℚ 0 → natℚ 0 -ℚ natℚ 0 ≡ S *ℚ F +ℚ h *ℚ P +ℚ (F +ℚ P -ℚ (S *ℚ F +ℚ h *ℚ P))
+      law :
+          (S F h P : ℚ) →
+          F ≡ natℚ 0 →
+          P ≡ natℚ 0 →
+          natℚ 0 -ℚ natℚ 0 ≡ S *ℚ F +ℚ h *ℚ P +ℚ (F +ℚ P -ℚ (S *ℚ F +ℚ h *ℚ P))
       law = ∀₄ ℚR _ λ ρ. simp qq λ e f. by-eqs (mul-eq (kn 0) e ⊹ mul-eq (kn 0) f) tt
   load-between e (t ∷ []) zero =
       mk-sub (load rule t []) (nat 0)

@@ -35,5 +35,7 @@ pub mod EndReported
 pub mod Margins
 -- From the promise to the figures.
 pub mod Figured
+-- What a reader is told.
+pub mod Theorems
 -- Arrays that loops fill.
 pub mod Arrays

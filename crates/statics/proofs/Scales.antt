@@ -157,5 +157,9 @@ module _ (N y : ℕ) (y0 : 0 < y) where
         go (natℚ x) (natℚ N) (recipℚ (natℚ y)) (natℚ (roundedUp (x * N) y)) per per-nn
         (rw (int-times (pos x) (pos N)) at (<→≤ (up-lt (above-0 y y0) (ceil-up (x * N) y y0))))
       where
-        go : (x N r m h : ℚ) → natℚ 0 ≤ℚ h → m ≤ℚ x *ℚ N *ℚ r +ℚ natℚ 1 → m *ℚ h ≤ℚ x *ℚ h *ℚ (N *ℚ r) +ℚ natℚ 1 *ℚ h
+        go :
+            (x N r m h : ℚ) →
+            natℚ 0 ≤ℚ h →
+            m ≤ℚ x *ℚ N *ℚ r +ℚ natℚ 1 →
+            m *ℚ h ≤ℚ x *ℚ h *ℚ (N *ℚ r) +ℚ natℚ 1 *ℚ h
         go = ∀₅ ℚR _ λ ρ. simp qq λ h0 l. by-cert (to h0 ⊠ to l) tt

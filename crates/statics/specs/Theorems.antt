@@ -1,20 +1,23 @@
--- What holds of the loads and of the equations of an end, for any share from 0 to 1 and any factor not below zero. Proved in proofs/.
+-- What holds of the loads and of the equations of an end; proofs/Theorems shows it.
 use mathlib.Core.Bool.{true, false}
 use mathlib.Core.Path.{_≡_}
 use mathlib.Core.List.{List, [], _∷_}
 use Prim.Native.Nat.{ℕ, suc, _≤_}
 use lib.ListN.{getD, drop}
 use Rattle.arith.specs.Fractions.{Frac, nat, _+q_, _*q_, _≈_, _⊑_}
-use Rattle.springs.specs.Equations.{shift, racking, loadAt}
+use Rattle.springs.specs.Equations.{shift, racking, Solves, loadAt}
 use Rattle.sheet.specs.declared.Tier.{Tier}
 use Rattle.sheet.specs.declared.Lash.{Lash}
 use Rattle.sheet.specs.declared.Sheet.{Sheet}
+use Rattle.sheet.specs.Fits.{Fits}
 use Rattle.sheet.specs.Layout.{exposed, turned, blankTier}
-use Rattle.statics.specs.Loads.{transverse, wind, verticalForce, Rule}
-use Rattle.statics.specs.Ends.{springOf, chainTiers, EndSolved}
+use Rattle.statics.specs.declared.LoadRule.{LoadRule}
+use Rattle.statics.specs.Loads.{transverse, wind, verticalForce, Rule, StandsFor}
+use Rattle.statics.specs.Ends.{springOf, chainTiers, chainLashes, EndSolved, OneSolution}
 use Rattle.statics.specs.Posts.{moment}
 use Rattle.sheet.specs.Ends.{End, door, closed}
 
+-- any share from 0 to 1, and any factor not below zero
 pub record Proper (rule : Rule) : Type 0 where
   pub share-least : nat 0 ⊑ rule .share
   pub share-most : rule .share ⊑ nat 1
@@ -80,3 +83,22 @@ pub record SameForces (t u : Tier) : Type 0 where
 
 abbrev pub TurnKeepsForces : Type 0
 TurnKeepsForces = (t u : Tier) → SameBox t u → SameForces t u
+
+pub record Theorems : Type 0 where
+  -- for any rule: exactly one solution at each end of a sheet within the limits, and M by the rackings
+  pub one-solution : (rule : Rule) (e : End) (t : Sheet) → Fits t → OneSolution rule e t
+  pub moment-by-rackings :
+      (rule : Rule) (e : End) (ts : List Tier) (ls : List Lash) (Ds : List Frac) →
+      Solves (chainTiers rule e ts) (chainLashes ls) Ds →
+      (i : ℕ) →
+      MomentByRackings rule e ts ls Ds i
+  -- for any share from 0 to 1 and any factor not below zero: no load and no shift to windward, and loads that grow with the masses
+  pub no-windward-load : (rule : Rule) → Proper rule → (e : End) (ts : List Tier) → NoWindwardLoad rule e ts
+  pub no-windward-shift : (rule : Rule) → Proper rule → (e : End) (t : Sheet) → Fits t → NoWindwardShift rule e t
+  pub loads-grow : (rule : Rule) → Proper rule → (e : End) (ts us : List Tier) → HeavierTiers ts us → LoadsGrow rule e ts us
+  -- a rule that whole numbers stand for is such a rule
+  pub stands-proper : (c : LoadRule) (rule : Rule) → StandsFor c rule → Proper rule
+  -- turned boxes
+  pub own-springs : OwnSprings
+  pub turn-swaps-springs : TurnSwapsSprings
+  pub turn-keeps-forces : TurnKeepsForces
