@@ -17,7 +17,8 @@ from reference.cases import CASES, KILONEWTONS, SLIPS, TURNED
 from reference.faults import EDGES
 from reference.judge import KEPT, MARGIN, expected, figure_fault, judge
 from reference.making import KINDS, make
-from sheets.sheet import ANSWER_ROOM
+from sheets.limits import HIGHER_STRENGTH
+from sheets.sheet import ANSWER_ROOM, CLOSED, DOOR, parse
 
 ROOT = Path(__file__).resolve().parent.parent
 
@@ -482,6 +483,16 @@ class Comparison(unittest.TestCase):
             for slip in shown[case.name]:
                 with self.subTest(case.name, slip=slip):
                     self.assertTrue(judge(due, slipped(slip)(case.data)).faults)
+
+    def test_gear_of_no_safe_load_is_drawn(self):
+        sheets = [parse(make(seed).data) for seed in seeds("near a limit", range(80))]
+        lashes = [lash for sheet in sheets for end in (DOOR, CLOSED) for lash in sheet.lashes(end)]
+        least = {HIGHER_STRENGTH: 1_670}  # of a whole kilonewton; 2,000 for all else
+        self.assertTrue(any(sheet.head.lock_breaking < least.get(sheet.head.lock_material, 2_000) for sheet in sheets))
+        for material in range(4):
+            with self.subTest(material=material):
+                drawn = [lash.breaking for lash in lashes if lash.material == material]
+                self.assertTrue(any(breaking < least.get(material, 2_000) for breaking in drawn))
 
     def test_a_limit_one_newton_off_is_caught(self):
         """Stacks near a limit, with pads that lead their figures over it newton by newton."""
