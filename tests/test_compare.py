@@ -485,7 +485,7 @@ class Comparison(unittest.TestCase):
                     self.assertTrue(judge(due, slipped(slip)(case.data)).faults)
 
     def test_gear_of_no_safe_load_is_drawn(self):
-        sheets = [parse(make(seed).data) for seed in seeds("near a limit", range(80))]
+        sheets = [parse(make(seed).data) for seed in seeds("near a limit", range(240))]
         lashes = [lash for sheet in sheets for end in (DOOR, CLOSED) for lash in sheet.lashes(end)]
         least = {HIGHER_STRENGTH: 1_670}  # of a whole kilonewton; 2,000 for all else
         self.assertTrue(any(sheet.head.lock_breaking < least.get(sheet.head.lock_material, 2_000) for sheet in sheets))
