@@ -237,7 +237,10 @@ static uint8_t *put_end(uint8_t *p, const struct sheet *t, int end, const struct
     return p;
 }
 
-static uint32_t safe_load(int material, uint32_t breaking) { return material == 1 ? breaking * 100 / 167 : breaking / 2; }
+static uint32_t safe_load(int material, uint32_t breaking)
+{
+    return material == 1 ? breaking / 1670 * 1000 : breaking / 2000 * 1000;
+}
 
 static uint8_t *put_finding(uint8_t *p, int end, int kind, int index)
 {

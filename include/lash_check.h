@@ -14,9 +14,9 @@
 extern "C" {
 #endif
 
-/* The version of the header and of the library built beside it; the text is LASH_VERSION, as "0.2.0". */
+/* The version of the header and of the library built beside it; the text is LASH_VERSION, as "0.3.0". */
 #define LASH_VERSION_MAJOR 0
-#define LASH_VERSION_MINOR 2
+#define LASH_VERSION_MINOR 3
 #define LASH_VERSION_PATCH 0
 #define LASH_TEXT_(number) #number
 #define LASH_TEXT(number) LASH_TEXT_(number)
@@ -48,7 +48,7 @@ enum lash_number {
 
 enum lash_end { LASH_DOOR = 0, LASH_CLOSED = 1 };
 
-/* Kinds of finding, and what the index of each is. */
+/* Kinds of finding, and what the index of each is. Safe working loads are rounded down to whole kilonewtons. */
 enum lash_finding {
     LASH_OVER_RACKING = 1,     /* tier, from 1 */
     LASH_OVER_COMPRESSION = 2, /* level: 0 is the deck, i the top of tier i */

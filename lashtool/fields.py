@@ -52,7 +52,8 @@ HEAD_FIELDS = (
 LOCK_FIELDS = (
     Field("material", "lock_material", "of the locks: factor of safety 1.67 for higher strength, else 2", 1,
           words=("ordinary steel", "higher strength", "nodular iron")),
-    Field("breaking_load", "lock_breaking", "of a lock", 500_000, HEAD_LIMITS["lock_breaking"], unit="N"),
+    Field("breaking_load", "lock_breaking", "of a lock; over the factor, in whole kN, its safe load", 500_000,
+          HEAD_LIMITS["lock_breaking"], unit="N"),
 )
 TIER_FIELDS = (
     Field("size", "size", "nominal length, the same in every tier", 40, choices=tuple(HEIGHTS), unit="feet"),
@@ -81,7 +82,8 @@ LASH_FIELDS = (
     Field("area", "area", "cross-section", None, LASH_LIMITS["area"], unit="mm2"),
     Field("modulus", "modulus", "modulus of elasticity of the whole lash with its tensioner", None,
           LASH_LIMITS["modulus"], unit="N/mm2"),
-    Field("breaking_load", "breaking", "of the whole lash", 490_000, LASH_LIMITS["breaking"], unit="N"),
+    Field("breaking_load", "breaking", "of the whole lash; over the factor, in whole kN, its safe load", 490_000,
+          LASH_LIMITS["breaking"], unit="N"),
 )
 GEAR_FIELDS = (END_FIELD, *LASH_FIELDS)
 

@@ -1,5 +1,5 @@
 #!/usr/bin/env python3
-"""Prints named sheets and what must come out of each: document 01's list and its plausible slips, and 02's turned boxes (P1).
+"""Prints named sheets and what must come out of each: document 01's list and its plausible slips, 02's safe loads (P3) and turned boxes (P1).
 
 A case is a block of lines, ended by an empty one:
 
@@ -157,6 +157,25 @@ ORDER = [
     Case("longest-and-one", "a byte more", stack([B] * 10, rods(8), rods(8)) + b"\0"),
 ]
 
+PULLED_UP = box(a_t=1_000, a_vmin=0)
+KILONEWTONS = [
+    Case("kn-lash", "24,600 N are 24 kN: its pull of 24,233 N is a finding", stack([B], [rod(breaking=41_082)])),
+    Case("kn-lock", "50,900 N are 50 kN", stack([PULLED_UP], lock_material=0, lock_breaking=101_800)),
+    Case("kn-reached", "41,750 N are 25 kN at factor 1.67", stack([B], [rod(breaking=41_750)])),
+    Case("kn-one-newton-less", "41,749 N are 24 kN", stack([B], [rod(breaking=41_749)])),
+    Case("kn-none", "1,669 N are less than one", stack([box(mass=500)], [rod(breaking=1_669)])),
+    Case(
+        "kn-no-lock",
+        "1,999 N at factor 2 are less than one",
+        stack([replace(PULLED_UP, mass=200)], lock_material=0, lock_breaking=1_999),
+    ),
+    Case(
+        "kn-table-2-3",
+        "the limits of CR Table 2-3 stay",
+        stack([box(a_t=1_200, a_vmin=0)] * 2, [rod(2)], [rod(2)]),
+    ),
+]
+
 TURNED_B = box(wind=2)
 TURNED = [
     Case("turned-d", "B turned with S at level 1", stack([TURNED_B], [rod()], [rod()])),
@@ -173,7 +192,7 @@ TURNED = [
     Case("wind-255", "the greatest number of a byte", stack([B, box(wind=255)])),
 ]
 
-CASES = RUN_BY_A_PROGRAM + FIGURES + SLIPS + ORDER + TURNED
+CASES = RUN_BY_A_PROGRAM + FIGURES + SLIPS + ORDER + KILONEWTONS + TURNED
 
 
 def reported_range(kind, force):

@@ -2,7 +2,6 @@
 
 from dataclasses import replace
 from fractions import Fraction
-from math import ceil
 
 from reference.stack import exact, exact_end
 from sheets.limits import (
@@ -132,6 +131,7 @@ def extreme_lash(random, place, steep):
 
 # Close to a limit
 
+KILONEWTON = 1_000
 LIMITED = {
     "racking": RACKING_LIMIT,
     "compression": COMPRESSION_LIMIT,
@@ -139,17 +139,19 @@ LIMITED = {
     "vertical": LASH_VERTICAL_LIMIT,
     "athwart": LASH_ATHWART_LIMIT,
 }
+GEAR = ("lock", "lash")
 ATTEMPTS = 20
 
 
 def near(random, turn):
     """A stack with a force within some newtons of its limit."""
-    names = (*LIMITED, "gear")
+    names = (*LIMITED, *GEAR, "every gear")
     name = names[turn % len(names)]
-    if name == "gear":
+    if name == "every gear":
         return near_gear(random)
+    draw = near_safe_load if name in GEAR else near_force
     for _ in range(ATTEMPTS):
-        sheet = near_force(random, name)
+        sheet = draw(random, name)
         if sheet:
             return sheet
     return extreme(random)
@@ -161,27 +163,55 @@ def aim(random):
 
 
 def sizes(end, name):
-    """The sizes of the forces of one name that are checked."""
+    """The sizes of the forces of one name that are checked; a lock's are the stack's tensions."""
     if name in ("vertical", "athwart"):
         return [getattr(forces, name) for forces in end.lashes]
+    if name == "lash":
+        return [forces.tension for forces in end.lashes]
+    name = "tension" if name == "lock" else name
     return [abs(force) for force in getattr(end, name)[1 if name == "compression" else 0 :]]
 
 
 def near_force(random, name):
-    """Forces without wind grow with the masses: scale them to the limit, then trim one light box."""
+    """A force close to its limit in CR Table 2-3."""
     sheet = heavy(random)
     end = random.choice((DOOR, CLOSED))
     target = LIMITED[name] + Fraction(aim(random))
+    over = [index for index, size in enumerate(sizes(exact_end(sheet, end), name)) if size > target]
+    return trimmed(sheet, end, name, random.choice(over), target) if over else None
+
+
+def near_safe_load(random, name):
+    """A pull close to a whole kilonewton, and gear whose safe working load that is."""
+    sheet = heavy(random)
+    end = random.choice((DOOR, CLOSED))
     found = sizes(exact_end(sheet, end), name)
-    over = [index for index, size in enumerate(found) if size > target]
+    over = [index for index, size in enumerate(found) if size > 2 * KILONEWTON]
     if not over:
         return None
     index = random.choice(over)
+    kilonewtons = int(found[index] // KILONEWTON)
+    sheet = trimmed(sheet, end, name, index, kilonewtons * KILONEWTON + Fraction(aim(random)))
+    return sheet and with_safe_load(random, sheet, end, name, index, kilonewtons)
+
+
+def with_safe_load(random, sheet, end, name, index, kilonewtons):
+    if name == "lock":
+        breaking = breaking_of(random, kilonewtons, sheet.head.lock_material)
+        return replace(sheet, head=replace(sheet.head, lock_breaking=breaking))
+    lashes = list(sheet.lashes(end))
+    breaking = breaking_of(random, kilonewtons, lashes[index].material)
+    lashes[index] = replace(lashes[index], breaking=breaking)
+    return replace(sheet, **{("door", "closed")[end]: tuple(lashes)})
+
+
+def trimmed(sheet, end, name, index, target):
+    """Forces without wind grow with the masses: scale them to the target, then trim one light box."""
 
     def force(masses):
         return sizes(exact_end(with_masses(sheet, masses), end), name)[index]
 
-    factor = target / found[index]
+    factor = target / force([tier.mass for tier in sheet.tiers])
     masses = [max(1, int(tier.mass * factor)) for tier in sheet.tiers]
     masses[0] = 15_000
     heavier = [25_000] + masses[1:]
@@ -213,7 +243,7 @@ def heavy(random):
 
 
 def near_gear(random):
-    """Breaking loads that put safe working loads within some newtons of the pulls."""
+    """Safe working loads of the last whole kilonewton below each pull, of the first above it, or of none."""
     sheet = random.choice((realistic, heavy))(random)
     ends = exact(sheet)
     greatest = max(max(end.tension) for end in ends)
@@ -229,9 +259,13 @@ def near_gear(random):
 
 
 def breaking_for(random, force, material):
-    """A breaking load whose safe working load lies close below or above a force."""
-    safe = ceil(force - Fraction(aim(random)))
-    breaking = ceil(safe * Fraction(167, 100)) if material == HIGHER_STRENGTH else 2 * safe
-    breaking += random.choice((-1, 0, 1))
+    below = int(force // KILONEWTON)
+    return breaking_of(random, random.choice((below, below, below + 1, 0)), material)
+
+
+def breaking_of(random, kilonewtons, material):
+    """The least or the greatest breaking load for a safe working load, or one newton beside it."""
+    unit = 1_670 if material == HIGHER_STRENGTH else 2_000
+    breaking = unit * kilonewtons + random.choice((-1, 0, 1, unit - 1, unit - 1))
     least, greatest = LASH_LIMITS["breaking"]
     return min(max(breaking, least), greatest)

@@ -19,8 +19,9 @@ HIGHER_STRENGTH = 1  # the material code, of locks and of lashes
 
 
 def safe_working_load(breaking, material):
-    """Breaking load / factor, rounded down; 1.67 for higher strength steel, 2 for all else."""
-    return breaking * 100 // 167 if material == HIGHER_STRENGTH else breaking // 2
+    """Breaking load / factor, rounded down to whole kilonewtons; 1.67 for higher strength steel, 2 for all else."""
+    hundredths = 167 if material == HIGHER_STRENGTH else 200
+    return breaking * 100 // hundredths // 1_000 * 1_000
 
 
 @dataclass(frozen=True)

@@ -13,11 +13,12 @@ import unittest
 from fractions import Fraction
 from pathlib import Path
 
-from reference.cases import CASES, SLIPS, TURNED
+from reference.cases import CASES, KILONEWTONS, SLIPS, TURNED
 from reference.faults import EDGES
 from reference.judge import KEPT, MARGIN, expected, figure_fault, judge
 from reference.making import KINDS, make
-from sheets.sheet import ANSWER_ROOM
+from sheets.limits import HIGHER_STRENGTH
+from sheets.sheet import ANSWER_ROOM, CLOSED, DOOR, parse
 
 ROOT = Path(__file__).resolve().parent.parent
 
@@ -252,8 +253,13 @@ class StandIn:
     def safe(self, breaking, material):
         return breaking * 100 // 167 if material in self.strong else breaking // 2
 
+    def whole_kilonewtons(self, load):
+        return load - load % 1_000
+
+    safe_lock = safe_lash = whole_kilonewtons
+
     def findings(self, data, lashes, ends):
-        lock = self.safe(number(data, 4, 4), data[2])
+        lock = self.safe_lock(self.safe(number(data, 4, 4), data[2]))
         for end, (racking, pressed, pulled, forces) in enumerate(ends):
             sizes = {kind: [] for kind in range(1, 8)}
             sizes[1] = [(i, self.racking_size(r), self.limits[1]) for i, r in enumerate(racking, 1)]
@@ -262,7 +268,7 @@ class StandIn:
             sizes[4] = [(i, t, lock) for i, t in enumerate(pulled)]
             pairs = zip(forces, lashes[end])
             for i, ((tension, athwart, vertical), lash) in enumerate(pairs, self.first_lash):
-                sizes[5].append((i, tension, self.safe(*lash[5:])))
+                sizes[5].append((i, tension, self.safe_lash(self.safe(*lash[5:]))))
                 sizes[6].append((i, vertical, self.limits[6]))
                 sizes[7].append((i, athwart, self.limits[7]))
             for kind, rows in sizes.items():
@@ -307,6 +313,15 @@ def by_kind(findings):
     return sorted(findings, key=lambda found: found[1:])
 
 
+def gear(whole):
+    """A slip in how the safe working loads of locks and lashes are rounded."""
+    return {"safe_lock": staticmethod(whole), "safe_lash": staticmethod(whole)}
+
+
+def newtons(load):
+    return load
+
+
 # A slip: what it changes, and how the fault that it makes begins.
 SLIPS_CAUGHT = {
     "rounded to nearest": ({"rounded": staticmethod(nearest), "pad": 0}, "below"),
@@ -342,6 +357,13 @@ SLIPS_CAUGHT = {
     "lashes counted from 1": ({"first_lash": 1}, "findings"),
     "factor 1.67 for wire": ({"strong": (1, 2)}, "findings"),
     "factor 2 throughout": ({"strong": ()}, "findings"),
+    "safe loads in newtons": (gear(newtons), "findings"),
+    "only lashes in kilonewtons": ({"safe_lock": staticmethod(newtons)}, "findings"),
+    "only the lock in kilonewtons": ({"safe_lash": staticmethod(newtons)}, "findings"),
+    "safe loads rounded up": (gear(lambda load: -(-load // 1_000) * 1_000), "findings"),
+    "safe loads to the nearest": (gear(lambda load: (load + 500) // 1_000 * 1_000), "findings"),
+    "a kilonewton at least": (gear(lambda load: max(1_000, load - load % 1_000)), "findings"),
+    "Table 2-3 by the factor": ({"limits": {k: v // 2_000 * 1_000 for k, v in StandIn.limits.items()}}, "findings"),
     "findings by kind, then end": ({"listed": by_kind}, "findings"),
     "no findings": ({"listed": lambda s, found: []}, "findings"),
     "every stack flagged": ({"verdict_of": lambda s, found: 1}, "verdict"),
@@ -380,7 +402,18 @@ SHOWN_BY = {
     "slip-every-kind": "no findings",
 }
 
-# And which slips of 02's turned boxes.
+# And which slips of 02's safe loads in whole kilonewtons,
+KILONEWTONS_SHOW = {
+    "kn-lash": ("safe loads in newtons", "only the lock in kilonewtons", "safe loads to the nearest"),
+    "kn-lock": ("safe loads in newtons", "only lashes in kilonewtons", "safe loads rounded up"),
+    "kn-reached": (),
+    "kn-one-newton-less": ("safe loads in newtons", "safe loads rounded up"),
+    "kn-none": ("a kilonewton at least",),
+    "kn-no-lock": ("a kilonewton at least",),
+    "kn-table-2-3": ("Table 2-3 by the factor",),
+}
+
+# and of its turned boxes.
 TURNED_SHOWS = {
     "turned-d": ("turned boxes as the others", "turned at the door end only", "turned at the closed end only"),
     "turned-mixture": ("turned at the door end only", "turned at the closed end only", "turn read from the wrong bit"),
@@ -441,14 +474,25 @@ class Comparison(unittest.TestCase):
                 self.assertTrue(fault.startswith(begins), fault)
 
     def test_named_cases_show_their_slips(self):
-        shown = {name: (slip,) for name, slip in SHOWN_BY.items()} | TURNED_SHOWS
-        self.assertEqual({case.name for case in SLIPS + TURNED}, set(shown))
-        for case in SLIPS + TURNED:
+        shown = {name: (slip,) for name, slip in SHOWN_BY.items()} | KILONEWTONS_SHOW | TURNED_SHOWS
+        cases = SLIPS + KILONEWTONS + TURNED
+        self.assertEqual({case.name for case in cases}, set(shown))
+        for case in cases:
             due = expected(case.data)
             self.assertEqual(judge(due, StandIn()(case.data)).faults, [])
             for slip in shown[case.name]:
                 with self.subTest(case.name, slip=slip):
                     self.assertTrue(judge(due, slipped(slip)(case.data)).faults)
+
+    def test_gear_of_no_safe_load_is_drawn(self):
+        sheets = [parse(make(seed).data) for seed in seeds("near a limit", range(240))]
+        lashes = [lash for sheet in sheets for end in (DOOR, CLOSED) for lash in sheet.lashes(end)]
+        least = {HIGHER_STRENGTH: 1_670}  # of a whole kilonewton; 2,000 for all else
+        self.assertTrue(any(sheet.head.lock_breaking < least.get(sheet.head.lock_material, 2_000) for sheet in sheets))
+        for material in range(4):
+            with self.subTest(material=material):
+                drawn = [lash.breaking for lash in lashes if lash.material == material]
+                self.assertTrue(any(breaking < least.get(material, 2_000) for breaking in drawn))
 
     def test_a_limit_one_newton_off_is_caught(self):
         """Stacks near a limit, with pads that lead their figures over it newton by newton."""

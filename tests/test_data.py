@@ -28,7 +28,7 @@ class Data(unittest.TestCase):
         self.assertIsNone(door["compression"][0]["limit"])
         tensions = [row["force"] for row in closed["corner_tension"]]
         self.assertEqual(tensions, [23_000, 250_000, 23_002, 23_003, 23_004, 23_005])
-        self.assertEqual({row["limit"] for row in closed["lock_tension"]}, {299_401})
+        self.assertEqual({row["limit"] for row in closed["lock_tension"]}, {299_000})
         self.assertEqual((closed["lashes"][1]["lash"], closed["lashes"][1]["place"]), (4, "tier 5 top cross"))
         forces = [closed["lashes"][1][name]["force"] for name in ("tension", "vertical", "athwart")]
         self.assertEqual(forces, [24_001, 300_000, 150_000])
@@ -42,7 +42,7 @@ class Data(unittest.TestCase):
         _, data = data_of("pulled-back", PULLED_BACK_ANSWER)
         worst = data["worst_use"]
         self.assertEqual((worst["end"], worst["level"], worst["name"]), ("door", 3, "corner tension"))
-        self.assertEqual((worst["force"], worst["limit"], worst["used_percent"]), (299_402, 250_000, 119.8))
+        self.assertEqual((worst["force"], worst["limit"], worst["used_percent"]), (299_001, 250_000, 119.7))
         self.assertEqual(len(data["warnings"]), 1)
         self.assertIn("lash 2 (tier 6 top side, door end): its foot lies 4,000 mm to windward", data["warnings"][0])
 
@@ -51,7 +51,7 @@ class Data(unittest.TestCase):
         stack = data["stack"]
         self.assertEqual(stack["rule"], 1)
         self.assertEqual(stack["route"], {"number": 0, "name": "Unrestricted", "A_T_percent": 100})
-        lock = {"material": "higher strength", "breaking_load": 500_000, "safe_working_load": 299_401}
+        lock = {"material": "higher strength", "breaking_load": 500_000, "safe_working_load": 299_000}
         self.assertEqual(stack["lock"], lock)
         self.assertEqual(stack["racking_stiffness"], {"door": 3730, "closed": 15690})
         self.assertEqual((stack["mass"], stack["height"]), (82_480, 15_546))
@@ -62,7 +62,7 @@ class Data(unittest.TestCase):
             {
                 "lash": 2, "ends": ["door"], "tier": 6, "hook": "top", "kind": "side",
                 "material": "higher strength rod", "LX": 0, "LY": 4000, "LZ": 3000, "area": 300,
-                "modulus": 130_000, "breaking_load": 490_000, "safe_working_load": 293_413, "length": 5000,
+                "modulus": 130_000, "breaking_load": 490_000, "safe_working_load": 293_000, "length": 5000,
                 "foot_above_deck": 12_546, "foot_to_windward_of_stack": 4000,
             },
         )

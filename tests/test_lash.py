@@ -247,8 +247,8 @@ class Several(unittest.TestCase):
             self.assertTrue(errors.startswith(f"lash: {pulled}: warning: lash 2 "), errors)
             first, second, last = text.splitlines()
             self.assertRegex(first, rf"^{b} +ACCEPTED +14\.8%  racking, door end, tier 1$")
-            # Of the figures over their limits the tension of 299,402 N at a corner is the farthest: 119.761 % of 250,000 N.
-            self.assertRegex(second, rf"^{pulled} +NOT ACCEPTED +119\.8%  corner tension, door end, level 3$")
+            # Of the figures over their limits the tension of 299,001 N at a corner is the farthest: 119.6004 % of 250,000 N.
+            self.assertRegex(second, rf"^{pulled} +NOT ACCEPTED +119\.7%  corner tension, door end, level 3$")
             self.assertEqual(last, "2 stacks: 1 accepted, 1 not accepted")
 
     def test_the_worst_status(self):
@@ -268,7 +268,7 @@ class Several(unittest.TestCase):
         self.assertEqual([each["status"] for each in found], [0, 1, 2])
         self.assertEqual([each["source"] for each in found][2], str(none))
         self.assertEqual(found[0]["worst_use"]["used_percent"], 14.8)
-        self.assertEqual(found[1]["worst_use"]["force"], 299_402)
+        self.assertEqual(found[1]["worst_use"]["force"], 299_001)
         self.assertIn("cannot be read", found[2]["error"])
 
     def test_a_limit_of_nothing(self):

@@ -52,9 +52,21 @@ class Figures(unittest.TestCase):
         self.assertAlmostEqual(float(exact(sheet)[0].racking[1]), -9382.94, 2)
 
     def test_f_g_safe_working_loads(self):
-        self.assertEqual(safe_working_load(490_000, 1), 293_413)
-        self.assertEqual(safe_working_load(500_000, 1), 299_401)
+        self.assertEqual(safe_working_load(490_000, 1), 293_000)
+        self.assertEqual(safe_working_load(500_000, 1), 299_000)
         self.assertEqual([safe_working_load(500_001, code) for code in (0, 2, 3)], [250_000] * 3)
+
+    def test_safe_working_loads_as_certificates_print_them(self):
+        # CR Table 3-4: breaking load and safe working load in kN.
+        for breaking, safe, material in ((490, 293, 1), (500, 299, 1), (460, 275, 1), (400, 200, 0)):
+            self.assertEqual(safe_working_load(1_000 * breaking, material), 1_000 * safe)
+
+    def test_whole_kilonewtons_begin_with_1_67_or_2_of_them(self):
+        for material, hundredths in ((0, 200), (1, 167), (2, 200), (3, 200)):
+            for kilonewtons in (1, 2, 293, 1_000):
+                least = 10 * hundredths * kilonewtons
+                self.assertEqual(safe_working_load(least, material), 1_000 * kilonewtons)
+                self.assertEqual(safe_working_load(least - 1, material), 1_000 * (kilonewtons - 1))
 
     def test_h_length_of_a_lash(self):
         self.assertEqual(lash_length(S), 3250)
@@ -166,8 +178,8 @@ class Forces(unittest.TestCase):
     def test_findings_by_size_strictly_above_the_limit(self):
         sheet = stack(B, door=[S])
         bare = End((150_000,), (900_000, 848_000), (250_000,), ())
-        at = End((-150_000,), (900_000, 848_000), (250_000,), (LashForces(293_413, 150_000, 300_000),))
-        over = End((-150_001,), (0, 848_001), (299_402,), (LashForces(293_414, 150_001, 300_001),))
+        at = End((-150_000,), (900_000, 848_000), (250_000,), (LashForces(293_000, 150_000, 300_000),))
+        over = End((-150_001,), (0, 848_001), (299_001,), (LashForces(293_001, 150_001, 300_001),))
         self.assertEqual(findings(sheet, (at, bare)), [])
         self.assertEqual(
             findings(sheet, (over, bare)),

@@ -1,5 +1,6 @@
 -- Theorems for the reader and for the crates above.
 pub mod Table
+pub mod SafeLoads
 pub mod Turned
 pub mod Solutions
 pub mod Accepted

@@ -34,11 +34,11 @@ unfolding chainTiers load transverse weight wind sumq recip
 figure-b = record { cross = refl }
 
 -- (f), (g)
-figure-f : safeLoad 1 490000 ≡ 293413
+figure-f : safeLoad 1 490000 ≡ 293000
 unfolding safeLoad
 figure-f = refl
 
-figure-g : safeLoad 1 500000 ≡ 299401
+figure-g : safeLoad 1 500000 ≡ 299000
 unfolding safeLoad
 figure-g = refl
 

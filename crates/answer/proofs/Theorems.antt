@@ -19,6 +19,7 @@ use Rattle.answer.proofs.Consequences as C
 use Rattle.answer.proofs.Consequences.{answered}
 use Rattle.answer.proofs.Named.{answer-named, check-named}
 use Rattle.answer.proofs.Table.{table}
+use Rattle.answer.proofs.SafeLoads.{safe-loads}
 use Rattle.answer.proofs.Turned.{turned}
 
 module _ {m n : ℕ} (wider : m ≤ n) where
@@ -66,5 +67,6 @@ theorems =
       says = λ margin rule t bytes rest a. C.says a rest;
       demand-three = λ s before after r e c. demand-three e c;
       table = table;
+      safe-loads = safe-loads;
       turned = turned;
     }

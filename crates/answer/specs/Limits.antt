@@ -1,4 +1,4 @@
--- Document 01, "Permissible loads": the limits of CR Table 2-3 and the safe working loads, in whole newtons.
+-- Document 01, "Permissible loads": the limits of CR Table 2-3 and the safe working loads, in N.
 use mathlib.Core.Bool.{cond}
 use Prim.Native.Nat.{ℕ, _*_, _/_}
 use lib.Dec.{eqb}
@@ -20,7 +20,11 @@ lashVerticalLimit = 300000
 abbrev pub lashAthwartLimit : ℕ
 lashAthwartLimit = 150000
 
--- breaking load / factor, rounded down; factor 1.67 for higher strength steel, 2 for all else (CR Table 3-3).
+-- the factor of safety in hundredths: 1.67 for higher strength steel, 2 for all else (CR Table 3-3).
 -- Code 1 is higher strength steel, for a lash and for a lock
+abbrev pub safetyFactor : ℕ → ℕ
+safetyFactor material = cond (eqb material 1) 167 200
+
+-- breaking load / factor, rounded down to whole kilonewtons (02, P3)
 unfoldable pub safeLoad : ℕ → ℕ → ℕ
-safeLoad material breaking = cond (eqb material 1) (breaking * 100 / 167) (breaking / 2)
+safeLoad material breaking = breaking * 100 / safetyFactor material / 1000 * 1000

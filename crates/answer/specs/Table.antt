@@ -1,4 +1,4 @@
--- Document 01, "Figures to hold it to": (a) to (j) as one statement over the definitions.
+-- Document 01, "Figures to hold it to": (a) to (j) as one statement over the definitions, (f) and (g) as document 02's P3 has them.
 use mathlib.Core.Path.{_≡_}
 use mathlib.Core.List.{List, [], _∷_}
 use Prim.Native.Nat.{ℕ}
@@ -96,8 +96,8 @@ pub record Table : Type 0 where
       EndSolved (classRule lashedAbove) door lashedAbove Ds →
       S.shift Ds 2 ≈ nat 2918475 /q nat 100 /q nat 18130
   pub e-racking : (Ds : List Frac) → EndSolved (classRule lashedAbove) door lashedAbove Ds → S.racking (doorTiers lashedAbove) Ds 1 ⊏ nat 0
-  pub f : safeLoad 1 490000 ≡ 293413
-  pub g : safeLoad 1 500000 ≡ 299401
+  pub f : safeLoad 1 490000 ≡ 293000
+  pub g : safeLoad 1 500000 ≡ 299000
   pub h : lashLength (rodS 1) ≡ 3250
   pub h-wider : lashLength (rodOf 1 1) ≡ 3251
   pub i-forty : wind (exposedBox 40 2896) ≈ nat 1906633728 /q nat 100000

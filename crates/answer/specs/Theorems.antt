@@ -17,6 +17,7 @@ use Rattle.answer.specs.Checked.{AnswerTo, Checked, kept, demanded}
 use Rattle.answer.specs.Consequences.{AnswerSays}
 use Rattle.answer.specs.Places.{ReadBack}
 use Rattle.answer.specs.Table.{Table}
+use Rattle.answer.specs.SafeLoads.{SafeLoads}
 use Rattle.answer.specs.Turned.{Turned}
 use Rattle.answer.specs.inner.Named.{answerBy, returned, written}
 
@@ -54,5 +55,7 @@ pub record Theorems : Type 0 where
       DemandThree (sheetOf s) after
   -- document 01's figures (a) to (j)
   pub table : Table
+  -- document 02's safe loads in whole kilonewtons
+  pub safe-loads : SafeLoads
   -- document 02's turned boxes
   pub turned : Turned

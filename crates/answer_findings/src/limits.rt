@@ -1,4 +1,4 @@
-// Document 01, "Permissible loads", in whole newtons.
+// Document 01, "Permissible loads", in N.
 
 ghost use mathlib.Core.Path.{_≡_};
 ghost use Rattle.answer.specs.Limits.{safeLoad};
@@ -18,12 +18,12 @@ impl Limits {
     pub const LASH_ATHWART: u64 = 150_000;
 }
 
-// The safe working load (CR Table 3-3): breaking load / 1.67 for higher strength steel, / 2 for all else.
+// The safe working load in whole kilonewtons: breaking load / 1.67 for higher strength steel, / 2 for all else (CR Table 3-3).
 pub fn safe_load(material: u8, breaking: u32) -> u64
     ensures { λ r. ⌜ r ≡ safeLoad material breaking ⌝ }
 {
     if material == 1 {
-        return (breaking as u64) * 100 / 167;
+        return (breaking as u64) / 1670 * 1000;
     }
-    (breaking as u64) / 2
+    (breaking as u64) / 2000 * 1000
 }
