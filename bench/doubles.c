@@ -1,4 +1,4 @@
-/* The lashing check in plain doubles: document 01's rules, the springs by the Thomas algorithm, forces rounded up. Nothing bounds the
+/* The lashing check in plain doubles: the papers' rules, the springs by the Thomas algorithm, forces rounded up. Nothing bounds the
    rounding errors. */
 #include "doubles.h"
 
@@ -167,11 +167,39 @@ static double least_length(const struct lash *l)
 
 static double up(double x) { return x > 0 ? ceil(x) : 0; }
 
+/* Vertical parts of the lashes, by hook and level. */
+struct posts {
+    double lee[2][TIERS + 1], windward[2][TIERS + 1];
+};
+
+/* A level's bottom hooks count in its tension, its top hooks do not. */
+static void find_posts(const struct sheet *t, const struct loads *w, const double *R, const struct posts *v, struct figures *f)
+{
+    double moment = 0, cross = 0, side = 0;
+    for (int i = t->tiers; i >= 0; i--) {
+        double M = moment / 2259, low;
+        cross += v->lee[1][i];
+        side += v->windward[1][i];
+        if (i < t->tiers) {
+            double a = w->half_min[i] + M + cross, b = w->half_min[i] - M + side;
+            low = a < b ? a : b;
+            f->tension[i] = (uint32_t)up(-low);
+        }
+        cross += v->lee[0][i];
+        side += v->windward[0][i];
+        double a = w->half_max[i] + M + cross, b = w->half_max[i] - M + side;
+        f->compression[i] = (uint32_t)up(a > b ? a : b);
+        if (i > 0)
+            moment += t->tier[i - 1].height * R[i - 1];
+    }
+}
+
 static void find_end(const struct sheet *t, const struct loads *w, int end, struct figures *f)
 {
     int n = t->tiers, m = t->lashes[end];
     double K[TIERS], k[TIERS + 1] = {0}, D[TIERS + 1], length[LASHES], stiffness[LASHES];
-    double lee[TIERS + 1] = {0}, windward[TIERS + 1] = {0}, moment = 0, cross = 0, side = 0, R[TIERS];
+    double R[TIERS];
+    struct posts v = {0};
     for (int i = 0; i < n; i++)
         K[i] = spring[end ^ t->tier[i].wind / 2];
     for (int j = 0; j < m; j++) {
@@ -192,22 +220,9 @@ static void find_end(const struct sheet *t, const struct loads *w, int end, stru
         f->athwart[j] = (uint32_t)up(athwart);
         f->pull[j] = (uint32_t)up(athwart * length[j] / l->ly);
         f->vertical[j] = (uint32_t)up(vertical);
-        (l->kind == 0 ? lee : windward)[level] += vertical;
+        (l->kind == 0 ? v.lee : v.windward)[l->hook][level] += vertical;
     }
-    for (int i = n; i >= 0; i--) {
-        double M = moment / 2259, low;
-        if (i < n) {
-            double a = w->half_min[i] + M + cross, b = w->half_min[i] - M + side;
-            low = a < b ? a : b;
-            f->tension[i] = (uint32_t)up(-low);
-        }
-        cross += lee[i];
-        side += windward[i];
-        double a = w->half_max[i] + M + cross, b = w->half_max[i] - M + side;
-        f->compression[i] = (uint32_t)up(a > b ? a : b);
-        if (i > 0)
-            moment += t->tier[i - 1].height * R[i - 1];
-    }
+    find_posts(t, w, R, &v, f);
 }
 
 static uint8_t *put4(uint8_t *p, uint32_t v)

@@ -71,7 +71,8 @@ TIER_FIELDS = (
 END_FIELD = Field("end", "end", "end of the stack that the lash is at", BOTH_ENDS, words=(*ENDS, "both"))
 LASH_FIELDS = (
     Field("tier", "tier", "tier that the lash is hooked to", None, (1, MOST_TIERS)),
-    Field("hook", "hook", "which corner of that tier; not the bottom of tier 1", 0, words=("top", "bottom")),
+    Field("hook", "hook", "which corner of that tier; not the bottom of tier 1. A bottom one relieves the locks under it", 0,
+          words=("top", "bottom")),
     Field("kind", "kind", "cross: from the lee corner across the end; side: from the windward one outward", 0,
           words=("cross", "side")),
     Field("material", "material", "factor of safety 1.67 for higher strength rods, else 2", 1,

@@ -204,6 +204,7 @@ def notes(outcome):
     ]
     if outcome.listed():
         texts.append("foot at: height of a lash's lower end above the deck.")
+        texts.append("tension: the lashes above the level count, and at it those on bottom corners; in compression all at it do.")
     if any(figure.force_text.startswith("<") for figure in outcome.figures.values()):
         texts.append(PAD_WORDS)
     return bulleted("NOTES", [*texts, NOT_CHECKED])

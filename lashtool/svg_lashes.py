@@ -8,17 +8,19 @@ from lashtool.figures import LASH_KINDS
 from lashtool.geometry import BOX_WIDTH, POST_SPACING
 from lashtool.svg_style import FAINT, LASHES, LINE, draw_label, named
 from sheets.limits import LASH_ATHWART, LASH_TENSION, LASH_VERTICAL
-from sheets.sheet import CROSS
+from sheets.sheet import BOTTOM, CROSS
 
 PART_WORDS = {LASH_TENSION: "tension", LASH_VERTICAL: "vertical", LASH_ATHWART: "athwart"}
 CORNER_INSET = (BOX_WIDTH - POST_SPACING) / 2  # mm from a box's side to the middle of its corner
 BADGE = 8  # radius
+MARK = 14  # how far the mark at a bottom hook reaches into the box that the lash holds
 
 
 @dataclass(frozen=True)
 class DrawnLash:
     number: int
     hook: tuple
+    at_bottom: bool  # hooked to a bottom corner
     foot: tuple
     figures: list  # the governing one, and the others that exceed their limits
 
@@ -55,7 +57,7 @@ def drawn_lash(panel, outcome, end, index):
         corner -= POST_SPACING * panel.scale
     hook = (corner, panel.level(lash.level))
     foot = (hook[0] - lash.ly * panel.scale, hook[1] + lash.lz * panel.scale)
-    return DrawnLash(outcome.number(end, index), hook, foot, label_figures(outcome, end, index))
+    return DrawnLash(outcome.number(end, index), hook, lash.hook == BOTTOM, foot, label_figures(outcome, end, index))
 
 
 def drawn_lashes(panel, outcome, end):
@@ -88,6 +90,9 @@ def draw_lash(drawing, lash):
     colour, width = LASHES[lash.governing.state]
     drawing.line(lash.hook, lash.foot, PAPER, width + 3)
     drawing.line(lash.hook, lash.foot, colour, width, named("lash", lash.governing))
+    if lash.at_bottom:
+        x, y = lash.hook
+        drawing.line((x, y), (x, y - MARK), colour, 4, "bottom hook")
     x, y = lash.foot
     drawing.line((x - 9, y + 3), (x + 9, y + 3), FAINT, 2, "lashing point")
     for point in (lash.hook, lash.foot):

@@ -51,7 +51,8 @@ def page_notes(outcome):
     yield (
         "Percent: share of the limit used, rounded up; for a lash of whichever of tension, vertical and athwart part uses "
         "most, for a tension at a level of the lower limit, corner or lock. Compression on the deck has no limit. "
-        "Forces in N. Widths and heights have one scale; a lash runs from its corner to its foot.", {},
+        "Forces in N. Widths and heights have one scale; a lash runs from its corner to its foot; a mark above its hook: "
+        "it holds the upper box, by the bottom corner.", {},
     )
     if any(figure.force_text.startswith("<") for figure in outcome.figures.values()):
         yield PAD_WORDS, {}

@@ -1,5 +1,6 @@
 #!/usr/bin/env python3
-"""Prints named sheets and what must come out of each: document 01's list and its plausible slips, 02's safe loads (P3) and turned boxes (P1).
+"""Prints named sheets and what must come out of each: document 01's list and its plausible slips, and 02's turned boxes (P1),
+safe loads (P3) and bottom hooks (P4).
 
 A case is a block of lines, ended by an empty one:
 
@@ -120,11 +121,6 @@ SLIPS = [
         "a level's top hook does not count in its tension",
         stack([B, box(a_vmin=0)], [rod(kind=SIDE)], [rod(kind=SIDE)]),
     ),
-    Case(
-        "slip-own-bottom-hook",
-        "a level's bottom hook does not count in its tension",
-        stack([B, box(a_vmin=0)], [rod(2, BOTTOM, SIDE)], [rod(2, BOTTOM, SIDE)]),
-    ),
     Case("slip-route-vertical", "the route does not touch A_Vmax", stack([B, B], route=7)),
     Case(
         "slip-route-tension", "nor A_Vmin", stack([box(a_t=1_000), box(a_t=1_000, a_vmin=100)], route=7)
@@ -192,7 +188,52 @@ TURNED = [
     Case("wind-255", "the greatest number of a byte", stack([B, box(wind=255)])),
 ]
 
-CASES = RUN_BY_A_PROGRAM + FIGURES + SLIPS + ORDER + KILONEWTONS + TURNED
+# Six boxes, the upper five light and in the wind, and a side lash at level 1.
+IN_THE_WIND = [
+    box(mass=m, wind=w, a_t=250, a_vmax=1_200, a_vmin=950)
+    for m, w in ((28_000, 0), (9_000, 1), (8_000, 1), (6_000, 1), (4_000, 1), (3_000, 1))
+]
+OUTWARD = {"kind": SIDE, "ly": 1_500, "lz": 2_500, "area": 707, "modulus": 97_000}
+# Three high boxes, the upper one heavy.
+TOP_HEAVY = [box(height=2_896, mass=m, a_t=1_000, a_vmin=100) for m in (2_000, 2_000, 28_000)]
+STIFF = {"kind": SIDE, "material": 0, "area": 1_000, "modulus": 200_000}
+LIFTING = box(a_vmin=0)
+PULLING_BACK = [rod(2, kind=SIDE), rod(2, BOTTOM, area=50)]
+ON_BOTTOMS = [rod(t, BOTTOM, k, area=50) for t in range(2, 6) for k in (CROSS, SIDE)]
+
+HOOKED = [
+    Case("hooked-nowhere", "corners and locks bear too much at the deck, corners at level 1 too", stack(IN_THE_WIND)),
+    Case(
+        "hooked-top",
+        "a side lash on the lower box does not relieve level 1",
+        stack(IN_THE_WIND, [rod(1, TOP, **OUTWARD)], [rod(1, TOP, **OUTWARD)]),
+    ),
+    Case(
+        "hooked-bottom",
+        "the same lash on the upper box does, and the stack is accepted",
+        stack(IN_THE_WIND, [rod(2, BOTTOM, **OUTWARD)], [rod(2, BOTTOM, **OUTWARD)]),
+    ),
+    Case(
+        "hooked-side",
+        "a level's bottom hook counts in its tension",
+        stack([B, LIFTING], [rod(2, BOTTOM, SIDE)], [rod(2, BOTTOM, SIDE)]),
+    ),
+    Case(
+        "hooked-cross",
+        "so does that of a cross lash, where the lee post lifts",
+        stack([B, box(mass=2_000, a_vmin=0)], PULLING_BACK, PULLING_BACK),
+    ),
+    Case(
+        "hooked-under",
+        "it does not count in the tension one level up",
+        stack([B, LIFTING, LIFTING], [rod(2, BOTTOM, SIDE, area=50)], [rod(2, BOTTOM, SIDE, area=50)]),
+    ),
+    Case("hooked-heavy-top", "a side lash on the lowest box", stack(TOP_HEAVY, [rod(1, TOP, **STIFF)], [rod(1, TOP, **STIFF)])),
+    Case("hooked-heavy-bottom", "on the box above it", stack(TOP_HEAVY, [rod(2, BOTTOM, **STIFF)], [rod(2, BOTTOM, **STIFF)])),
+    Case("hooked-each-level", "bottom hooks at levels 1 to 4", stack([LIFTING] * 5, ON_BOTTOMS, ON_BOTTOMS)),
+]
+
+CASES = RUN_BY_A_PROGRAM + FIGURES + SLIPS + ORDER + KILONEWTONS + TURNED + HOOKED
 
 
 def reported_range(kind, force):

@@ -25,6 +25,17 @@ def hooks(tier_count):
     ]
 
 
+def bottom_hooks(sheet):
+    """(level, kind, whether a lash of its end is hooked above) of each lash hooked to a bottom corner."""
+    for end in (DOOR, CLOSED):
+        highest = max((lash.level for lash in sheet.lashes(end)), default=0)
+        yield from ((lash.level, lash.kind, lash.level < highest) for lash in sheet.lashes(end) if lash.hook == BOTTOM)
+
+
+# Where a bottom hook may lie: levels 1 to 9, cross and side, with lashes above and without.
+BOTTOM_HOOKS = {(level, kind, above) for level in range(1, MOST_TIERS) for kind in (CROSS, SIDE) for above in (False, True)}
+
+
 def turns(random, count):
     """For each tier 2 where its box stands turned, else 0: none, all, every other one, or any of them."""
     mixed = [random.choice((0, 2)) for _ in range(count)]
@@ -113,10 +124,12 @@ def extreme_tier(random, size):
 
 
 def extreme_lashes(random, tier_count):
-    """Up to eight lashes anywhere, or crowded on the highest or the lowest hooks."""
+    """Up to eight lashes anywhere, or crowded on the highest or the lowest hooks, or on bottom hooks alone."""
     places = hooks(tier_count)
     count = min(len(places), random.choice((0, 1, 2, 4, MOST_LASHES, MOST_LASHES)))
-    chosen = random.choice((sorted(random.sample(places, count)), places[-count:], places[:count]))
+    bottoms = [place for place in places if place[1] == BOTTOM]
+    anywhere, on_bottoms = (sorted(random.sample(each, min(len(each), count))) for each in (places, bottoms))
+    chosen = random.choice((anywhere, places[-count:], places[:count], on_bottoms))
     steep = random.random() < 0.3
     return tuple(extreme_lash(random, place, steep) for place in chosen[:count])
 

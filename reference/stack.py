@@ -1,4 +1,4 @@
-"""One stack in fractions: loads, springs and forces as document 01 writes them, with 02's turned boxes (P1)."""
+"""One stack in fractions: loads, springs and forces as document 01 writes them, with 02's turned boxes (P1) and bottom hooks (P4)."""
 
 from dataclasses import dataclass
 from fractions import Fraction
@@ -6,7 +6,7 @@ from itertools import accumulate
 from math import isqrt, lcm
 
 from sheets.answer import End, LashForces
-from sheets.sheet import CLOSED, CROSS, DOOR, ROUTE_PERCENT, SIDE
+from sheets.sheet import BOTTOM, CLOSED, CROSS, DOOR, ROUTE_PERCENT, SIDE
 
 GRAVITY = 981  # hundredths of m/s²
 WIND_PRESSURE = 1080  # N/m²
@@ -182,28 +182,38 @@ def moment(heights, load_moments, held, level):
     return load_moments[level] * held.bottom - pulled * UNIT
 
 
-def vertical_parts(held, kind, lowest):
-    """The vertical parts of the lashes of one kind at the lowest level or above, over held.bottom."""
+def in_compression(lash, level):
+    """The lashes at this level or above."""
+    return lash.level >= level
+
+
+def in_tension(lash, level):
+    """The lashes above this level, and those hooked to a bottom corner at it; not the top hooks at it."""
+    return lash.level > level or (lash.level == level and lash.hook == BOTTOM)
+
+
+def vertical_parts(held, kind, counts, level):
+    """The vertical parts of the lashes of one kind that count at a level, over held.bottom."""
     parts = zip(held.lashes, held.vertical)
-    return sum(part for lash, part in parts if lash.kind == kind and lash.level >= lowest)
+    return sum(part for lash, part in parts if lash.kind == kind and counts(lash, level))
 
 
-def post_sums(held, v, m, lowest):
+def post_sums(held, v, m, counts, level):
     """V/2 + M/2259 + vertical parts of cross lashes, V/2 − M/2259 + vertical parts of side lashes; and their denominator."""
     half_v = v * held.bottom * POST_SPACING
-    cross, side = (2 * UNIT * POST_SPACING * vertical_parts(held, kind, lowest) for kind in (CROSS, SIDE))
+    cross, side = (2 * UNIT * POST_SPACING * vertical_parts(held, kind, counts, level) for kind in (CROSS, SIDE))
     return half_v + 2 * m + cross, half_v - 2 * m + side, 2 * UNIT * held.bottom * POST_SPACING
 
 
 def compression(held, v, m, level):
-    """By A_Vmax, with the lashes at this level or above."""
-    lee, windward, bottom = post_sums(held, v, m, level)
+    """The greatest of 0 and the two sums, by A_Vmax."""
+    lee, windward, bottom = post_sums(held, v, m, in_compression, level)
     return Fraction(max(0, lee, windward), bottom)
 
 
 def tension(held, v, m, level):
-    """By A_Vmin, with only the lashes above this level."""
-    lee, windward, bottom = post_sums(held, v, m, level + 1)
+    """How far the lower of the two sums lies below 0, by A_Vmin."""
+    lee, windward, bottom = post_sums(held, v, m, in_tension, level)
     return Fraction(max(0, -min(lee, windward)), bottom)
 
 

@@ -74,6 +74,16 @@ class Cases(unittest.TestCase):
         judged = [line for line in block("slip-windward") if line.startswith(("finding", "open", "verdict"))]
         self.assertEqual(judged, ["finding 0 1 6", "verdict 1"])
 
+    def test_a_bottom_hook_relieves_the_corners(self):
+        """Corners and locks at the deck and corners at level 1, at both ends; a lash relieves level 1 by a bottom hook alone."""
+        for name, due in (
+            ("hooked-nowhere", [(3, 0), (3, 1), (4, 0)]), ("hooked-top", [(3, 1)]), ("hooked-bottom", []),
+            ("hooked-heavy-top", [(3, 1)]), ("hooked-heavy-bottom", []),
+        ):
+            judged = [line for line in block(name) if line.startswith(("finding", "open", "verdict"))]
+            lines = [f"finding {end} {kind} {level}" for end in (0, 1) for kind, level in due]
+            self.assertEqual(judged, [*lines, f"verdict {1 if due else 0}"])
+
     def test_every_kind_is_found(self):
         kinds = {line.split()[2] for line in block("slip-every-kind") if line.startswith("finding")}
         self.assertEqual(kinds, set("1234567"))

@@ -12,13 +12,16 @@ import tempfile
 import unittest
 from fractions import Fraction
 from pathlib import Path
+from typing import NamedTuple
 
-from reference.cases import CASES, KILONEWTONS, SLIPS, TURNED
+from reference.cases import CASES, HOOKED, KILONEWTONS, SLIPS, TURNED
 from reference.faults import EDGES
 from reference.judge import KEPT, MARGIN, expected, figure_fault, judge
 from reference.making import KINDS, make
+from reference.samples import BOTTOM_HOOKS, bottom_hooks
+from sheets.answer import read_answer
 from sheets.limits import HIGHER_STRENGTH
-from sheets.sheet import ANSWER_ROOM, CLOSED, DOOR, parse
+from sheets.sheet import ANSWER_ROOM, CLOSED, CROSS, DOOR, SIDE, parse
 
 ROOT = Path(__file__).resolve().parent.parent
 
@@ -43,6 +46,20 @@ def within(data, place, sizes_and_limits):
             return False
         place += size
     return True
+
+
+class Rod(NamedTuple):
+    """A lash, as the floating point has it."""
+
+    tier: int
+    hook: int
+    level: int
+    kind: int
+    stiffness: float
+    along: float  # L / LY
+    upward: float  # LZ / LY
+    breaking: int
+    material: int
 
 
 class StandIn:
@@ -147,11 +164,14 @@ class StandIn:
     def length(self, lx, ly, lz):
         return math.ceil(math.sqrt(lx * lx + ly * ly + lz * lz))
 
-    def counts_in_compression(self, lash_level, level):
-        return lash_level >= level
+    # How often a lash's vertical part counts at a level. In tension a top hook of tier i counts below level i, a bottom hook
+    # of it, which lies at level i-1, there and below: both where the tier's number is above the level's.
 
-    def counts_in_tension(self, lash_level, level):
-        return lash_level > level
+    def counts_in_compression(self, lash, level):
+        return lash.level >= level
+
+    def counts_in_tension(self, lash, level):
+        return lash.tier > level
 
     def loads(self, data):
         """(height, F, P, A_Vmax part, A_Vmin part) of each tier."""
@@ -168,7 +188,7 @@ class StandIn:
         return found
 
     def lashes(self, data):
-        """For each end (level, kind, stiffness, L/LY, LZ/LY, breaking load, material) of each lash."""
+        """The lashes of each end."""
         place, ends = 9 + 12 * data[8], []
         for _ in range(2):
             count, place, found = data[place], place + 1, []
@@ -179,7 +199,7 @@ class StandIn:
                 length = self.length(lx, ly, lz)
                 stiffness = modulus * area * ly**2 / length**3
                 level = self.level(tier, hook)
-                found.append((level, kind, stiffness, length / ly, lz / ly, breaking, material))
+                found.append(Rod(tier, hook, level, kind, stiffness, length / ly, lz / ly, breaking, material))
                 place += 20
             ends.append(found)
         return ends
@@ -187,7 +207,7 @@ class StandIn:
     def shifts(self, loads, lashes, springs):
         """Shifts of levels 0 to n: each level's stiffness and load handed down, then upward again."""
         count = len(loads)
-        own = [sum(lash[2] for lash in lashes if lash[0] == level) for level in range(count + 1)]
+        own = [sum(lash.stiffness for lash in lashes if lash.level == level) for level in range(count + 1)]
         pull = [0.0] * (count + 1)
         for level in range(1, count + 1):
             _, f, p, *_ = loads[level - 1]
@@ -210,7 +230,7 @@ class StandIn:
         half_v = sum(load[field] for load in loads[level:]) / 2
         pair = sum(load[0] * r for load, r in zip(loads[level:], racking[level:])) / self.spacing
         lee, windward = (
-            sum(v for lash, v in zip(lashes, parts) if lash[1] == kind and counted(lash[0], level))
+            sum(v * counted(lash, level) for lash, v in zip(lashes, parts) if lash.kind == kind)
             for kind in self.posts
         )
         return half_v + pair + lee, half_v - pair + windward
@@ -220,12 +240,12 @@ class StandIn:
         count = len(loads)
         shift = self.shifts(loads, lashes, springs)
         racking = self.racking(shift, springs)
-        athwart = [lash[2] * shift[lash[0]] for lash in lashes]
-        parts = [a * lash[4] for a, lash in zip(athwart, lashes)]
+        athwart = [lash.stiffness * shift[lash.level] for lash in lashes]
+        parts = [a * lash.upward for a, lash in zip(athwart, lashes)]
         given = (loads, racking, lashes, parts)
         pressed = [max(0, *self.post(j, *given, 3, self.counts_in_compression)) for j in range(count + 1)]
         pulled = [max(0, -min(self.post(j, *given, 4, self.counts_in_tension))) for j in range(count)]
-        forces = [(a * lash[3], a, v) for a, lash, v in zip(athwart, lashes, parts)]
+        forces = [(a * lash.along, a, v) for a, lash, v in zip(athwart, lashes, parts)]
         return racking, pressed, pulled, forces
 
     # Answer
@@ -268,7 +288,7 @@ class StandIn:
             sizes[4] = [(i, t, lock) for i, t in enumerate(pulled)]
             pairs = zip(forces, lashes[end])
             for i, ((tension, athwart, vertical), lash) in enumerate(pairs, self.first_lash):
-                sizes[5].append((i, tension, self.safe_lash(self.safe(*lash[5:]))))
+                sizes[5].append((i, tension, self.safe_lash(self.safe(lash.breaking, lash.material))))
                 sizes[6].append((i, vertical, self.limits[6]))
                 sizes[7].append((i, athwart, self.limits[7]))
             for kind, rows in sizes.items():
@@ -308,6 +328,16 @@ def copied_upward(self, shift, springs):
     return [springs[0] * shift[1]] * (len(shift) - 1)
 
 
+def only_bottom_hooks_of(kind):
+    """In tension, of a level's bottom hooks those of one kind of lash alone."""
+    return lambda self, rod, level: rod.level > level or (rod.tier > level and rod.kind == kind)
+
+
+def bottom_hooks_twice(counts):
+    """A level's bottom hooks counted once more."""
+    return lambda self, rod, level: counts(self, rod, level) + (rod.level == level and rod.hook)
+
+
 @staticmethod
 def by_kind(findings):
     return sorted(findings, key=lambda found: found[1:])
@@ -331,8 +361,15 @@ SLIPS_CAUGHT = {
     "racking without its sign": ({"figure": lambda s, f: abs(StandIn.figure(s, f))}, "wrong sign"),
     "vertical part on the wrong post": ({"posts": (1, 0)}, ""),
     "both kinds on the lee post": ({"posts": (0, 9)}, ""),
-    "own lashes in tension": ({"counts_in_tension": lambda s, a, b: a >= b}, "below"),
-    "own lashes not in compression": ({"counts_in_compression": lambda s, a, b: a > b}, "below"),
+    "own top hooks in tension": ({"counts_in_tension": lambda s, rod, level: rod.level >= level}, "below"),
+    "own lashes not in compression": ({"counts_in_compression": lambda s, rod, level: rod.level > level}, "below"),
+    "own bottom hooks not in tension": ({"counts_in_tension": lambda s, rod, level: rod.level > level}, "100 N or more"),
+    "only side bottom hooks in tension": ({"counts_in_tension": only_bottom_hooks_of(1)}, "100 N or more"),
+    "only cross bottom hooks in tension": ({"counts_in_tension": only_bottom_hooks_of(0)}, "100 N or more"),
+    "bottom hook one level too high": ({"counts_in_tension": lambda s, rod, level: rod.tier + rod.hook > level}, "below"),
+    "bottom hooks twice in tension": ({"counts_in_tension": bottom_hooks_twice(StandIn.counts_in_tension)}, "below"),
+    "bottom hooks twice in compression": ({"counts_in_compression": bottom_hooks_twice(StandIn.counts_in_compression)}, ""),
+    "own bottom hooks not in compression": ({"counts_in_compression": lambda s, rod, level: rod.level - rod.hook >= level}, "below"),
     "route on A_Vmax": ({"route_on_vertical": True}, ""),
     "route on wind": ({"route_on_wind": True}, "below"),
     "lowest tier copied upward": ({"racking": copied_upward}, ""),
@@ -393,8 +430,7 @@ SHOWN_BY = {
     "slip-windward": "finding to leeward only",
     "slip-cross-post": "vertical part on the wrong post",
     "slip-side-post": "vertical part on the wrong post",
-    "slip-own-top-hook": "own lashes in tension",
-    "slip-own-bottom-hook": "own lashes in tension",
+    "slip-own-top-hook": "own top hooks in tension",
     "slip-route-vertical": "route on A_Vmax",
     "slip-route-tension": "route on A_Vmax",
     "slip-route-wind": "route on wind",
@@ -423,6 +459,22 @@ TURNED_SHOWS = {
     "wind-3": ("7 from wind 3 on",),
     "wind-4": ("7 from wind 5 on",),
     "wind-255": (),
+}
+
+# And of its bottom hooks.
+HOOKED_SHOWS = {
+    "hooked-nowhere": (),
+    "hooked-top": ("own top hooks in tension",),
+    "hooked-bottom": ("own bottom hooks not in tension", "only cross bottom hooks in tension", "bottom hook one level too high"),
+    "hooked-side": ("own bottom hooks not in tension", "only cross bottom hooks in tension"),
+    "hooked-cross": ("own bottom hooks not in tension", "only side bottom hooks in tension"),
+    "hooked-under": ("bottom hook one level too high", "bottom hooks twice in tension"),
+    "hooked-heavy-top": ("own top hooks in tension",),
+    "hooked-heavy-bottom": ("own bottom hooks not in tension", "only cross bottom hooks in tension"),
+    "hooked-each-level": (
+        "own bottom hooks not in tension", "bottom hooks twice in tension", "bottom hooks twice in compression",
+        "own bottom hooks not in compression",
+    ),
 }
 
 
@@ -474,8 +526,8 @@ class Comparison(unittest.TestCase):
                 self.assertTrue(fault.startswith(begins), fault)
 
     def test_named_cases_show_their_slips(self):
-        shown = {name: (slip,) for name, slip in SHOWN_BY.items()} | KILONEWTONS_SHOW | TURNED_SHOWS
-        cases = SLIPS + KILONEWTONS + TURNED
+        shown = {name: (slip,) for name, slip in SHOWN_BY.items()} | KILONEWTONS_SHOW | TURNED_SHOWS | HOOKED_SHOWS
+        cases = SLIPS + KILONEWTONS + TURNED + HOOKED
         self.assertEqual({case.name for case in cases}, set(shown))
         for case in cases:
             due = expected(case.data)
@@ -509,6 +561,31 @@ class Comparison(unittest.TestCase):
             if fault:
                 return fault
         return None
+
+
+class Drawn(unittest.TestCase):
+    """That the sheets meet bottom hooks everywhere, and that these count there."""
+
+    @classmethod
+    def setUpClass(cls):
+        cls.sheets = [make(seed).data for kind in ("realistic", "extreme") for seed in seeds(kind, range(400))]
+
+    def test_bottom_hooks_at_every_level(self):
+        self.assertEqual({place for data in self.sheets for place in bottom_hooks(parse(data))}, BOTTOM_HOOKS)
+
+    def test_each_relieves_a_level_somewhere(self):
+        """Without lashes above M is not below zero, so that the lee post, where a cross lash pulls, does not lift."""
+        found = {place for data in self.sheets for place in self.relieved(data)}
+        self.assertEqual(found, {place for place in BOTTOM_HOOKS if place[1:] != (CROSS, False)})
+
+    def relieved(self, data):
+        """(level, kind, whether lashes are hooked above) where the tension differs if that kind's bottom hooks are left out."""
+        right, sheet = read_answer(StandIn()(data)), parse(data)
+        for kind, slip in ((CROSS, "only side bottom hooks in tension"), (SIDE, "only cross bottom hooks in tension")):
+            for end, (due, wrong) in enumerate(zip(right.ends, read_answer(slipped(slip)(data)).ends)):
+                highest = max((lash.level for lash in sheet.lashes(end)), default=0)
+                pairs = enumerate(zip(due.tension, wrong.tension))
+                yield from ((level, kind, level < highest) for level, pair in pairs if len(set(pair)) == 2)
 
 
 class Bounds(unittest.TestCase):

@@ -5,10 +5,12 @@ from dataclasses import replace
 
 from lashtool.description import describe
 from lashtool.template import template
+from reference.cases import HOOKED
 from reference.stack import exact
 from sheets.limits import (
     COMPRESSION, CORNER, LASH_TENSION, LOCK, RACKING, checks, findings,
 )
+from sheets.sheet import BOTTOM, TOP, pack
 from tests.support import EXAMPLES
 
 BOTH = (0, 1)
@@ -21,10 +23,12 @@ SHOWN = {
     "three-high": ("accepted", []),
     "route": ("accepted", []),
     "turned": ("accepted", []),
+    "bottom-hook": ("accepted", []),
     "racking": ("unacceptable racking", [(end, RACKING, 1) for end in BOTH]),
     "pulled-back": ("unacceptable racking, to windward", [(0, RACKING, 6)]),
     "stack-weight": ("unacceptable stack weight", [(end, COMPRESSION, 1) for end in BOTH]),
     "corner-tension": ("unacceptable corner tension", [(end, CORNER, 0) for end in BOTH]),
+    "top-hook": ("unacceptable corner tension", [(end, CORNER, 1) for end in BOTH]),
     "lock": ("unacceptable tension in the locks", [(end, LOCK, 0) for end in BOTH]),
     "lash-force": ("unacceptable lash force", [(0, LASH_TENSION, 0)]),
 }
@@ -72,6 +76,15 @@ class Examples(unittest.TestCase):
             alike = replace(sheet, tiers=tuple(replace(tier, wind=tier.wind % 2 + turn) for tier in sheet.tiers))
             self.assertEqual(findings(alike, exact(alike)), due)
             self.assertEqual(alike == sheet_of("lash-force"), turn == 0)
+
+    def test_the_hook_decides(self):
+        """The two stacks differ in one lash, on the corner over level 1 or on the one under it."""
+        low, high = sheet_of("bottom-hook"), sheet_of("top-hook")
+        self.assertEqual([(lash.tier, lash.hook, lash.level) for lash in low.door + high.door], [(2, BOTTOM, 1), (1, TOP, 1)])
+        moved = tuple(replace(lash, tier=1, hook=TOP) for lash in low.door)
+        self.assertEqual(replace(low, door=moved, closed=moved), high)
+        named = {case.name: case.data for case in HOOKED}
+        self.assertEqual([pack(low), pack(high)], [named["hooked-bottom"], named["hooked-top"]])
 
     def test_the_template_is_accepted(self):
         sheet = describe(template().encode()).sheet

@@ -117,6 +117,12 @@ class Table(unittest.TestCase):
         self.assertTrue(text.endswith("\n\nNOT ACCEPTED: 8 findings\n"))
         self.assertNotIn("< 9", text)
 
+    def test_which_lashes_count_in_a_tension(self):
+        """Said where there are lashes."""
+        for example, answer, said in (("box-b", B_ANSWER, False), ("pulled-back", PULLED_BACK_ANSWER, True)):
+            _, text, _ = lash(EXAMPLES / f"{example}.toml", output=answer)
+            self.assertEqual("\n  tension: the lashes above the level count, and at it those on bottom corners;" in text, said)
+
     def test_turned_boxes_are_marked(self):
         end = ((1_000, 1_000), (1_000,) * 3, (1_000, 1_000), ())
         for winds, tiers, other_way in (((3, 0), ["1 turned", "2"], True), ((1, 2), ["1", "2 turned"], True), ((0, 1), ["1", "2"], False)):

@@ -7,8 +7,9 @@ from pathlib import Path
 ROOT = Path(__file__).resolve().parent.parent
 MOST = 900
 LISTS = {"Lib.antt", "inner.antt"}  # lists of modules
-# proved of the rest
-FOLLOWS = {"Theorems.antt", "Table.antt", "SafeLoads.antt", "Turned.antt", "Consequences.antt", "Written.antt", "Places.antt"}
+FOLLOWS = {  # proved of the rest
+    "Theorems.antt", "Table.antt", "SafeLoads.antt", "Turned.antt", "Relief.antt", "Consequences.antt", "Written.antt", "Places.antt",
+}
 USE = re.compile(r"(pub )?use ")
 CITED = re.compile(r"Rattle·(\w+?)(?:·specs)?\.specs\.((?:inner\.)?\w+)")
 CALL = re.compile(r"pub (?:extern \"C\" )?fn (\w+)")

@@ -1,4 +1,4 @@
-"""The fractions held to document 01's figures, and the refusals to its table."""
+"""The fractions held to document 01's figures and to 02's P1 and P4, and the refusals to 01's table."""
 
 import unittest
 from dataclasses import replace
@@ -6,14 +6,14 @@ from fractions import Fraction
 from struct import pack as packed
 
 from reference.cases import BOX_B as B
-from reference.cases import HEAD
+from reference.cases import HEAD, HOOKED
 from reference.cases import ROD_S as S
 from reference.stack import (
-    UNIT, equations, exact, lash_forces, lash_length, loads, shifts, transverse, vertical, wind,
+    UNIT, equations, exact, in_tension, lash_forces, lash_length, loads, shifts, transverse, vertical, wind,
 )
 from sheets.answer import BadAnswer, End, LashForces, read_answer
 from sheets.limits import findings, safe_working_load
-from sheets.sheet import BOTTOM, CLOSED, CROSS, DOOR, SIDE, Refused, Sheet, pack, parse
+from sheets.sheet import BOTTOM, CLOSED, CROSS, DOOR, MOST_TIERS, SIDE, TOP, Refused, Sheet, pack, parse
 
 
 def stack(*tiers, door=(), closed=(), head=HEAD):
@@ -113,6 +113,84 @@ class Turned(unittest.TestCase):
         self.assertEqual(exact(turned), exact(plain)[::-1])
 
 
+class BottomHooks(unittest.TestCase):
+    """Document 02, P4; K is 3,730 at the door end, S 7,200 N/mm and a tenth of it with area 50; LZ / LY of S is 4/3."""
+
+    PAIR = Fraction("57189847.5") / 2259  # M / 2259 of one B, (c)
+    WEAK = replace(S, area=50)
+
+    def test_a_side_lash_relieves_the_windward_post(self):
+        """The second B has A_Vmin 0: at level 1 V = 0, and the lash takes 720 × Q1 / (3,730 + 720)."""
+        held = Fraction(4, 3) * 720 * Fraction("71122.5") / 4_450
+        self.assertEqual(round(held), 15_343)
+        for hook, tier, due in ((TOP, 1, self.PAIR), (BOTTOM, 2, self.PAIR - held)):
+            sheet = stack(B, replace(B, a_vmin=0), door=[replace(self.WEAK, tier=tier, hook=hook, kind=SIDE)])
+            self.assertEqual(exact(sheet)[DOOR].tension[1], due)
+            self.assertEqual(exact(sheet)[CLOSED].tension[1], self.PAIR)
+
+    def test_a_cross_lash_relieves_the_lee_post(self):
+        """A side lash at level 2 pulls the light box back, as in (e), so that the lee post at level 1 is the one that lifts:
+
+        4,450 D1 + 7,200 D2 = 26,977.5 and 10,930 D2 - 3,730 D1 = 2,207.25, by Cramer's rule; M = 2,591 × R2.
+        """
+        bottom = 4_450 * 10_930 + 7_200 * 3_730
+        d1 = (10_930 * Fraction("26977.5") - 7_200 * Fraction("2207.25")) / bottom
+        d2 = (4_450 * Fraction("2207.25") + 3_730 * Fraction("26977.5")) / bottom
+        lift, held = -Fraction(2_591, 2_259) * 3_730 * (d2 - d1), Fraction(4, 3) * 720 * d1
+        self.assertEqual((round(lift), round(held)), (9_550, 3_547))
+        light, back = replace(B, mass=2_000, a_vmin=0), replace(S, tier=2, kind=SIDE)
+        for lashes, due in (((self.WEAK, back), lift), ((back, replace(self.WEAK, tier=2, hook=BOTTOM)), lift - held)):
+            self.assertEqual(exact(stack(B, light, door=lashes))[DOOR].tension[1], due)
+
+    def test_six_boxes_in_the_wind(self):
+        """The named cases. Level 1 bears 30 t of A_Vmin 0.95, and F = 0.125 × W and P of five boxes of 2,591 mm; below, 28 t.
+
+        No lash is hooked above it, so M is that of the loads; the lash takes Q1 × k / (K + k), k by L = 2,916.
+        """
+        named = {case.name: parse(case.data) for case in HOOKED}
+        f, p = [Fraction("1.22625") * mass for mass in (9_000, 8_000, 6_000, 4_000, 3_000)], Fraction("0.00054") * 12_192 * 2_591
+        m = 2_591 * (sum(each * (i + Fraction("0.45")) for i, each in enumerate(f)) + Fraction("12.5") * p)
+        lift = m / 2_259 - 30_000 * Fraction("9.81") * Fraction("0.95") / 4
+        q = Fraction("0.45") * Fraction("1.22625") * 28_000 + sum(f) + 5 * p
+        k = Fraction(97_000 * 707 * 1_500**2, 2_916**3)
+        for end, spring, due in ((DOOR, 3_730, (255_542, 255_542, 112_226)), (CLOSED, 15_690, (255_542, 255_542, 190_447))):
+            held = q * k / (spring + k) * 2_500 / 1_500
+            found = [exact(named[f"hooked-{where}"])[end].tension[1] for where in ("nowhere", "top", "bottom")]
+            self.assertEqual(found, [lift, lift, lift - held])
+            self.assertEqual(tuple(map(round, found)), due)
+
+    def test_a_heavy_box_on_two_light_ones(self):
+        """M = 2,896 × (0.45 × 9,810 + 1.45 × 137,340), V = 14,715, Q1 = 1.45 × 9,810 + 137,340; the lash has k = 288,000 / 13."""
+        named = {case.name: parse(case.data) for case in HOOKED}
+        lift = Fraction(589_502_520, 2_259) - Fraction(14_715, 2)
+        self.assertEqual(lift + Fraction(14_715, 2), 2_896 * (Fraction("4414.5") + 145 * Fraction("1373.4")) / 2_259)
+        k, q = Fraction(288_000, 13), Fraction("151564.5")
+        for end, spring, held in ((DOOR, 3_730, Fraction(5_820_076_800, 33_649)), (CLOSED, 15_690, Fraction(1_940_025_600, 16_399))):
+            self.assertEqual(Fraction(4, 3) * q * k / (spring + k), held)
+            self.assertEqual(exact(named["hooked-heavy-top"])[end].tension[1], lift)
+            self.assertEqual(exact(named["hooked-heavy-bottom"])[end].tension[1], lift - held)
+
+    def test_a_lash_does_not_relieve_the_other_post(self):
+        sheet = stack(B, replace(B, a_vmin=0), door=[replace(self.WEAK, tier=2, hook=BOTTOM)])
+        self.assertEqual(exact(sheet)[DOOR].tension[1], self.PAIR)
+
+    def test_only_the_tension_at_its_level_changes(self):
+        boxes = [B, B, replace(B, a_vmin=0), replace(B, a_vmin=0)]
+        for kind in (CROSS, SIDE):
+            above = replace(self.WEAK, tier=4, kind=kind)
+            top, low = (stack(*boxes, door=[replace(S, tier=t, hook=h, kind=kind), above]) for t, h in ((2, TOP), (3, BOTTOM)))
+            top, low = exact(top)[DOOR], exact(low)[DOOR]
+            self.assertEqual(replace(low, tension=top.tension), top)
+            self.assertEqual([level for level in range(4) if low.tension[level] != top.tension[level]], [2] if kind == SIDE else [])
+
+    def test_a_lash_counts_below_its_tier(self):
+        """A top hook at a level belongs to the tier under it, a bottom hook to the tier over it."""
+        for tier in range(1, MOST_TIERS + 1):
+            for hook in (TOP, BOTTOM):
+                found = [level for level in range(MOST_TIERS) if in_tension(replace(S, tier=tier, hook=hook), level)]
+                self.assertEqual(found, list(range(tier)))
+
+
 class Forces(unittest.TestCase):
     def test_loads_are_whole_parts_of_a_newton(self):
         """What is divided is a multiple: the loads in parts of a newton are the paper's in fractions."""
@@ -162,7 +240,7 @@ class Forces(unittest.TestCase):
         light = exact(stack(replace(B, a_vmin=0)))[DOOR]
         self.assertEqual(light.tension, (pair,))
 
-    def test_a_level_has_its_own_lashes_in_compression_and_not_in_tension(self):
+    def test_a_level_has_its_own_top_hooks_in_compression_and_not_in_tension(self):
         # One B above level 1, where the lash is hooked, so V and M there are those of (c).
         pair = Fraction("57189847.5") / 2259
         for kind in (CROSS, SIDE):

@@ -12,7 +12,7 @@ from lashtool.description import describe
 from lashtool.drawing import PAPER
 from lashtool.svg_style import BARS, BOXES, LASHES
 from reference.cases import BOX_B, HEAD, ROD_S
-from sheets.sheet import Sheet, pack
+from sheets.sheet import BOTTOM, CROSS, SIDE, TOP, Sheet, pack
 from tests.support import (
     B_ANSWER, CLOSED, DOOR, EXAMPLES, PULLED_BACK_ANSWER, answer_bytes, lash,
 )
@@ -21,6 +21,7 @@ SVG = "{http://www.w3.org/2000/svg}"
 STATES = ("calm", "near", "over")
 OVER = BARS["over"]
 BOX_WIDTH, POST_SPACING = 2438, 2259  # mm
+LEE_CORNER = (BOX_WIDTH + POST_SPACING) / 2  # from the windward side
 
 
 class Picture:
@@ -110,7 +111,7 @@ class TrueToScale(unittest.TestCase):
         for end, lashes in enumerate((sheet.door, sheet.closed)):
             left, top, width, height = boxes[end * len(sheet.tiers)]
             for lash in lashes:
-                corner = left + (BOX_WIDTH + POST_SPACING) / 2 * scale - lash.kind * POST_SPACING * scale
+                corner = left + LEE_CORNER * scale - lash.kind * POST_SPACING * scale
                 level = sum(tier.height for tier in sheet.tiers[: lash.level])
                 hook = (corner, top + height - level * scale)
                 foot = (hook[0] - lash.ly * scale, hook[1] + lash.lz * scale)
@@ -118,6 +119,21 @@ class TrueToScale(unittest.TestCase):
                 self.assertLess(self.apart(found, (hook, foot)), 1)
                 hooks_and_feet.remove(found)
                 self.assertTrue(0 < foot[0] < page[0] and 0 < foot[1] < page[1])
+
+    def test_a_bottom_hook_has_a_mark(self):
+        """A top hook and the bottom hook over it lie in one point; the mark alone, in the upper box, tells them apart."""
+        lashes = tuple(replace(ROD_S, tier=t, hook=h, kind=k) for t, h in ((1, TOP), (2, TOP), (2, BOTTOM)) for k in (CROSS, SIDE))
+        sheet = Sheet(HEAD, (BOX_B,) * 3, lashes, ())
+        picture = drawn_sheet(sheet, quiet_answer(sheet))
+        left, top, width, height = picture.boxes()[1]
+        lee = left + LEE_CORNER * width / BOX_WIDTH
+        corners = [(x, top + height) for x in (lee, lee - POST_SPACING * width / BOX_WIDTH)]
+        marks = picture.ends("bottom", 1, 2)
+        self.assertEqual(len(marks), len(corners))
+        for (corner, level), (hook, end) in zip(corners, marks):
+            self.assertLess(self.apart(((corner, level),), (hook,)), 1)
+            self.assertEqual(end[0], hook[0])
+            self.assertTrue(top < end[1] < hook[1] - 5)
 
     def apart(self, pair, other):
         return max(abs(a - b) for one, two in zip(pair, other) for a, b in zip(one, two))

@@ -2,6 +2,7 @@
 pub mod Table
 pub mod SafeLoads
 pub mod Turned
+pub mod Relief
 pub mod Solutions
 pub mod Accepted
 pub mod ReadBack

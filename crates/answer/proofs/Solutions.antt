@@ -5,13 +5,15 @@ use Rattle.arith.specs.Fractions.{Frac, _≈_, _⊏_}
 use Rattle.arith.proofs.FractionLaws.{≈-trans, ≈⊑}
 use Rattle.arith.proofs.OrderedField.{⊑-⊏-trans}
 use Rattle.sheet.specs.declared.Sheet.{Sheet}
-use Rattle.sheet.specs.Ends.{End}
+use Rattle.sheet.specs.Ends.{End, tiersOf, lashesOf}
 use Rattle.springs.specs.Equations as S
 use Rattle.springs.specs.Equations.{shift}
 use Rattle.springs.specs.Theorems.{Agree}
 use Rattle.springs.proofs.OneSolution.{solution, exists, unique, same-racking}
 use Rattle.statics.specs.Loads.{Rule}
 use Rattle.statics.specs.Ends.{endTiers, endLashes, EndSolved, OneSolution}
+use Rattle.statics.specs.Posts.{tension}
+use Rattle.statics.proofs.SameShifts.{tension-same}
 
 module _ (rule : Rule) (e : End) (t : Sheet) (stiff : S.Stiff (endTiers rule e t) (endLashes e t)) where
   abbrev solved : List Frac
@@ -44,3 +46,17 @@ module _ (rule : Rule) (e : End) (t : Sheet) (stiff : S.Stiff (endTiers rule e t
       ⊑-⊏-trans (S.racking (endTiers rule e t) Ds i) (S.racking (endTiers rule e t) solved i) x
       (≈⊑ (S.racking (endTiers rule e t) Ds i) (S.racking (endTiers rule e t) solved i)
       (same-racking (endTiers rule e t) Ds solved (agree Ds solved s there) i)) q
+
+  -- the tension at a level
+  abbrev tension-at : List Frac → ℕ → Frac
+  tension-at Ds i = tension rule (tiersOf t) (lashesOf e t) Ds i
+
+  pub every-tension :
+      (i : ℕ) (x : Frac) →
+      tension rule (tiersOf t) (lashesOf e t) (solution (endTiers rule e t) (endLashes e t)) i ≈ x →
+      (Ds : List Frac) →
+      EndSolved rule e t Ds →
+      tension rule (tiersOf t) (lashesOf e t) Ds i ≈ x
+  every-tension i x q Ds s =
+      ≈-trans (tension-at Ds i) (tension-at solved i) x
+      (tension-same rule (tiersOf t) (lashesOf e t) Ds solved (agree Ds solved s there) i) q

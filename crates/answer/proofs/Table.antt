@@ -43,7 +43,7 @@ unfolding safeLoad
 figure-g = refl
 
 -- (h)
-least-root : (s r : ℕ) → s ≤ suc r * suc r → r * r < s → Least s (suc r)
+pub least-root : (s r : ℕ) → s ≤ suc r * suc r → r * r < s → Least s (suc r)
 least-root s r enough below = record { enough = enough; least = λ k h. omega (arith, clash k h) }
   where
     clash : (k : ℕ) → s ≤ k * k → k ≤ r → ⊥

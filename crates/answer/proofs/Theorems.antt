@@ -21,6 +21,7 @@ use Rattle.answer.proofs.Named.{answer-named, check-named}
 use Rattle.answer.proofs.Table.{table}
 use Rattle.answer.proofs.SafeLoads.{safe-loads}
 use Rattle.answer.proofs.Turned.{turned}
+use Rattle.answer.proofs.Relief.{relieved}
 
 module _ {m n : ℕ} (wider : m ≤ n) where
   pub answer-wider : {rule : Rule} {t : Sheet} {bytes : List ℕ} → AnswerTo m rule t bytes → AnswerTo n rule t bytes
@@ -69,4 +70,5 @@ theorems =
       table = table;
       safe-loads = safe-loads;
       turned = turned;
+      relief = relieved;
     }

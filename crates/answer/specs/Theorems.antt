@@ -19,6 +19,7 @@ use Rattle.answer.specs.Places.{ReadBack}
 use Rattle.answer.specs.Table.{Table}
 use Rattle.answer.specs.SafeLoads.{SafeLoads}
 use Rattle.answer.specs.Turned.{Turned}
+use Rattle.answer.specs.Relief.{Relief}
 use Rattle.answer.specs.inner.Named.{answerBy, returned, written}
 
 -- demand 3, of a sheet t and the bytes s that begin with its answer: each end's equations have exactly one solution in fractions; every
@@ -59,3 +60,5 @@ pub record Theorems : Type 0 where
   pub safe-loads : SafeLoads
   -- document 02's turned boxes
   pub turned : Turned
+  -- document 02's relief of the lock by a bottom hook
+  pub relief : Relief

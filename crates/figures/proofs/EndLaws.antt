@@ -1,14 +1,10 @@
 -- The figures of an end, put together from the steps that compute them.
-use Prim.Native.Nat.{ℕ, zero, suc, _+_, _*_, _-_, _<_, _≤_}
-use mathlib.Core.Bool.{cond}
-use mathlib.Core.List.{List, [], _∷_, map}
+use Prim.Native.Nat.{ℕ, suc, _<_, _≤_}
+use mathlib.Core.List.{List, map}
 use mathlib.Core.Path.{_≡_, refl, sym, _∙_}
-use native.Mathlib.Decide.{decLt, ℕ-discrete}
 use native.Mathlib.Omega.{arith}
-use borrow.Author.Tests.{le-leb, lt-leb, eq-eqb, ne-eqb}
-use lib.Dec.{leb, eqb}
 use lib.IntN.{ℤ, pos}
-use lib.ListN.{length, getD, take, drop}
+use lib.ListN.{length, getD}
 use lib.Seq.{ext-getD}
 use Rattle.sheet.specs.Layout.{blankLash, blankTier}
 use Rattle.sheet.proofs.Limits.{lash-wider}
@@ -16,79 +12,24 @@ use Rattle.springs.specs.inner.Promise.{Solvable, Promised}
 use Rattle.springs.specs.inner.Elimination.{solved}
 use Rattle.sheet.specs.declared.Tier.{Tier}
 use Rattle.sheet.specs.declared.Lash.{Lash}
-use Rattle.sheet.specs.declared.Lashing.{Lashing}
 use Rattle.sheet.specs.declared.Sheet.{Sheet}
-use Rattle.sheet.specs.Lashings.{lashingOf, levelOf}
 use Rattle.statics.specs.declared.EndFigures.{EndFigures}
 use Rattle.sheet.specs.inner.Limits.{LashLimits, SheetLimits}
 use Rattle.statics.specs.declared.LoadRule.{LoadRule}
 use Rattle.statics.specs.Ends.{springOf}
 use Rattle.sheet.specs.Ends.{End, tiersOf, lashesOf}
-use Rattle.statics.specs.inner.WholeNumbers.{Filled, levelStiffness, upward, upwards, leePart, windwardPart, rackingPart, rackingFigure}
+use Rattle.statics.specs.inner.WholeNumbers.{Filled, levelStiffness, leePart, windwardPart, rackingPart, rackingFigure}
 use Rattle.statics.specs.inner.WholeNumbers.{momentPart, compressionFigure, tensionFigure, pullFigure, athwartFigure, verticalFigure}
 use Rattle.statics.specs.inner.Computed.{springsOf, stiffnessesOf, figuresAt}
 use Rattle.figures.specs.inner.Ends.{Loaded, Weighed, Workable}
-use Rattle.figures_levels.specs.inner.Levels.{total, LevelInputs, LevelsFigured}
+use Rattle.figures_levels.specs.inner.Levels.{LevelInputs, LevelsFigured}
 use Rattle.figures_lashes.specs.inner.Lashes.{LevelStiffnesses, LashesFigured, VerticalsOn}
 use Rattle.arith.specs.Lists.{below}
 use Rattle.arith.proofs.Arrays.{length-entries}
 use Rattle.statics.proofs.Arrays.{entry-at, filled-padded}
 use Rattle.statics.proofs.Inputs.{spring-least, spring-most}
 use Rattle.statics.proofs.LevelStiffness.{level-most}
-use Rattle.figures_lashes.proofs.Tallies.{tally, tally-upwards}
-use Rattle.figures_levels.proofs.Descent.{total-peel, total-off}
-
--- the lashes at a level or above: those at it, and those above it
-level-split : (i h x : ℕ) → cond (leb i h) x 0 ≡ cond (eqb i h) x 0 + cond (leb (suc i) h) x 0
-level-split i h x =
-    elim (ℕ-discrete i h) [
-      | yes e ↦ rw (le-leb i h (omega arith), eq-eqb i h e, lt-leb (suc i) h (omega arith)) (omega arith)
-      | no ne ↦
-          elim (decLt i h) [
-            | yes l ↦ rw (le-leb i h (omega arith), ne-eqb i h ne, le-leb (suc i) h l) (omega arith)
-            | no nl ↦ rw (lt-leb i h (omega arith), ne-eqb i h ne, lt-leb (suc i) h (omega arith)) (omega arith)
-          ]
-    ]
-
-module _ (v : Lash → ℕ) where
-  tally-split :
-      (i : ℕ) (ls : List Lash) →
-      tally (λ l. leb i (levelOf l)) v ls ≡ tally (λ l. eqb i (levelOf l)) v ls + tally (λ l. leb (suc i) (levelOf l)) v ls
-  unfolding tally
-  tally-split i [] = refl
-  tally-split i (l ∷ ls) = omega (arith, level-split i (levelOf l) (v l), tally-split i ls)
-
-  tally-over :
-      (n : ℕ) (ls : List Lash) →
-      ((j : ℕ) → j < length ls → levelOf (getD ls j blankLash) ≤ n) →
-      tally (λ l. leb (suc n) (levelOf l)) v ls ≡ 0
-  unfolding tally
-  tally-over n [] h = refl
-  tally-over n (l ∷ ls) h =
-      rw (lt-leb (suc n) (levelOf l) (omega (arith, h 0 (omega arith)))) (omega (arith, tally-over n ls (λ j q. h (suc j) (omega arith))))
-
--- the sum over the levels from i on is the sum over the lashes at level i or above
-module _ (post : Lashing → ℕ → ℕ) (n : ℕ) (d : List ℕ) (ls : List Lash) (r : List ℕ) (room : suc n ≤ length r)
-    (under : (j : ℕ) → j < length ls → levelOf (getD ls j blankLash) ≤ n)
-    (each : (i : ℕ) → getD r i 0 ≡ upwards post (λ l. eqb i (levelOf l)) d ls) where
-  abbrev on : Lash → ℕ
-  on l = post (lashingOf l) (upward d l)
-
-  levels-from : (g i : ℕ) → i + g ≡ suc n → total (drop i (take (suc n) r)) ≡ tally (λ l. leb i (levelOf l)) on ls
-  levels-from zero i e =
-      let q : i ≡ suc n = omega arith in
-      rw q (total-off r (suc n) room ∙ sym (tally-over on n ls under))
-  levels-from (suc g) i e =
-      omega (
-        arith,
-        total-peel r (suc n) i (omega arith) room,
-        levels-from g (suc i) (omega arith),
-        each i ∙ tally-upwards post (λ l. eqb i (levelOf l)) d ls,
-        tally-split on i ls,
-      )
-
-  pub sum-from : (i : ℕ) → i ≤ suc n → total (drop i (take (suc n) r)) ≡ upwards post (λ l. leb i (levelOf l)) d ls
-  sum-from i h = levels-from (suc n - i) i (omega arith) ∙ sym (tally-upwards post (λ l. leb i (levelOf l)) d ls)
+use Rattle.figures.proofs.Corners.{ByCorner, by-corner}
 
 refilled :
     {A : Type 0} {size : ℕ} {blank : A} {n : ℕ} {P Q : ℕ → A} {r : List A} →
@@ -150,10 +91,10 @@ module _ {n : ℕ} {k : List ℕ} {ts : List Tier} {m : ℕ} {ls : List Lash} {�
       rw (
         filled-padded (λ i. rackingFigure (rackingPart (getD k i 0) d i)) (pos 0) 10 n racking (h .few) (l .racking-is),
         filled-padded (compressionFigure k ts ls d) 0 11 (suc n) compression (omega (arith, h .few))
-            (refilled (λ i q. rw (h .weighed .vmax-is i, lees i (omega arith), windwards i (omega arith)) refl) (l .compression-is)),
+            (refilled (λ i q. rw (h .weighed .vmax-is i, lees .pressing i (omega arith), windwards .pressing i (omega arith)) refl)
+            (l .compression-is)),
         filled-padded (tensionFigure k ts ls d) 0 10 n tension (h .few)
-            (refilled (λ i q. rw (h .weighed .vmin-is i, lees (suc i) (omega arith), windwards (suc i) (omega arith)) refl)
-            (l .tension-is)),
+            (refilled (λ i q. rw (h .weighed .vmin-is i, lees .pulling i q, windwards .pulling i q) refl) (l .tension-is)),
         filled-padded (λ j. pullFigure d (getD ls j blankLash)) 0 8 (length ls) lash-tension (omega (arith, h .few-lashes))
             (rw counted (u .lash-tension-is)),
         filled-padded (λ j. athwartFigure d (getD ls j blankLash)) 0 8 (length ls) athwart (omega (arith, h .few-lashes))
@@ -162,14 +103,11 @@ module _ {n : ℕ} {k : List ℕ} {ts : List Tier} {m : ℕ} {ls : List Lash} {�
             (rw counted (u .vertical-is)),
       ) refl
     where
-      under : (j : ℕ) → j < length ls → levelOf (getD ls j blankLash) ≤ n
-      under j q = h .each j q .inside
+      lees : ByCorner leePart n d ls lee
+      lees = by-corner leePart n d ls lee (omega (arith, h .few, x .long)) (record { at = h .each }) (x .each)
 
-      lees : (i : ℕ) → i ≤ suc n → total (drop i (take (suc n) lee)) ≡ upwards leePart (λ l. leb i (levelOf l)) d ls
-      lees = sum-from leePart n d ls lee (omega (arith, h .few, x .long)) under (x .each)
-
-      windwards : (i : ℕ) → i ≤ suc n → total (drop i (take (suc n) windward)) ≡ upwards windwardPart (λ l. leb i (levelOf l)) d ls
-      windwards = sum-from windwardPart n d ls windward (omega (arith, h .few, y .long)) under (y .each)
+      windwards : ByCorner windwardPart n d ls windward
+      windwards = by-corner windwardPart n d ls windward (omega (arith, h .few, y .long)) (record { at = h .each }) (y .each)
 
 -- the stiffnesses by level, as an array of ten
 pub stiffnesses-named : (ls : List Lash) {κ : List ℕ} → length κ ≡ 10 → LevelStiffnesses ls κ → κ ≡ stiffnessesOf ls

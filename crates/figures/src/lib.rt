@@ -41,17 +41,18 @@ fn end_figures(
     let mut kappa = [0u64; 10];
     figures_lashes::lash_stiffnesses(lashes, m, &mut lengths, &mut stiffnesses, &mut kappa);
     let d = springs::solve(n, k, &kappa, loads);
-    let lash_forces = figures_lashes::lash_figures(lashes, m, &lengths, &stiffnesses, &d);
-    let levels = figures_levels::level_figures(
-        n,
-        k,
-        tiers,
+    let mut lee = [0u64; 22];
+    let mut windward = [0u64; 22];
+    let lash_forces = figures_lashes::lash_figures(
+        lashes,
+        m,
+        &lengths,
+        &stiffnesses,
         &d,
-        vmax,
-        vmin,
-        &lash_forces.lee,
-        &lash_forces.windward,
+        &mut lee,
+        &mut windward,
     );
+    let levels = figures_levels::level_figures(n, k, tiers, &d, vmax, vmin, &lee, &windward);
     let racking = levels.racking;
     let compression = levels.compression;
     let tension = levels.tension;

@@ -18,7 +18,8 @@ use Rattle.sheet.specs.inner.Limits.{LashLimits}
 use Rattle.statics.specs.Lashes.{lashLength}
 use Rattle.statics.specs.inner.WholeNumbers.{lashPad, stiffnessOf, part, upward}
 use Rattle.statics.specs.inner.WholeNumbers.{pullFigure, athwartFigure, verticalFigure, leePart, windwardPart}
-use Rattle.figures_lashes.specs.inner.Lashes.{carriedLash, verticalFrom, LashesMeasured, LevelStiffnesses, LashesFigured, VerticalsOn}
+use Rattle.figures_lashes.specs.inner.Lashes.{carriedLash, verticalFrom, cornerOf}
+use Rattle.figures_lashes.specs.inner.Lashes.{LashesMeasured, LevelStiffnesses, LashesFigured, VerticalsOn}
 use Rattle.statics.proofs.Arrays.{Between, between-none, fill-above, filled}
 use Rattle.statics.proofs.LashStiffness.{stiffness-most}
 use Rattle.figures_lashes.proofs.LashLaws.{part-le, upward-le}
@@ -38,12 +39,12 @@ pub listed :
     Listed m (take m lashes)
 listed {m} lashes e p = record { counted = length-take-le m lashes (omega (arith, p .0)); few = p .0; each = p .1 }
 
--- a lash is hooked at level suc i; at level i
+-- a lash is hooked at level suc i; at corner i
 abbrev over : ℕ → Lash → Bool
 over i l = eqb (suc i) (levelOf l)
 
-abbrev at-level : ℕ → Lash → Bool
-at-level i l = eqb i (levelOf l)
+abbrev at-corner : ℕ → Lash → Bool
+at-corner i l = eqb i (cornerOf l)
 
 only-over : {l : Lash} {at : ℕ} → suc at ≡ levelOf l → Only over at l
 only-over {l} {at} e =
@@ -52,9 +53,9 @@ only-over {l} {at} e =
       others = λ i ne. ne-eqb (suc i) (levelOf l) (λ q. ne (omega arith));
     }
 
-only-at : {l : Lash} {at : ℕ} → at ≡ levelOf l → Only at-level at l
+only-at : {l : Lash} {at : ℕ} → at ≡ cornerOf l → Only at-corner at l
 only-at {l} {at} e =
-    record { here = eq-eqb at (levelOf l) e; others = λ i ne. ne-eqb i (levelOf l) (λ q. ne (omega arith)) }
+    record { here = eq-eqb at (cornerOf l) e; others = λ i ne. ne-eqb i (cornerOf l) (λ q. ne (omega arith)) }
 
 -- the first loop
 pub record MeasuredTo (m : ℕ) (ls : List Lash) (lengths stiffnesses levels : List ℕ) (j : ℕ) : Type 0 where
@@ -134,20 +135,20 @@ pub record FiguredTo (m : ℕ) (ls : List Lash) (d tension athwart vertical lee 
   pub tensions : Between 0 (λ k x. x ≡ pullFigure d (getD ls k blankLash)) 8 0 j tension
   pub athwarts : Between 0 (λ k x. x ≡ athwartFigure d (getD ls k blankLash)) 8 0 j athwart
   pub verticals : Between 0 (λ k x. x ≡ verticalFigure d (getD ls k blankLash)) 8 0 j vertical
-  pub lees : Tallied at-level (on leePart d) ls 11 j lee
-  pub windwards : Tallied at-level (on windwardPart d) ls 11 j windward
+  pub lees : Tallied at-corner (on leePart d) ls 22 j lee
+  pub windwards : Tallied at-corner (on windwardPart d) ls 22 j windward
 
 pub figured-none :
     {m : ℕ} {ls : List Lash} {d : List ℕ} →
-    FiguredTo m ls d (replicate 8 0) (replicate 8 0) (replicate 8 0) (replicate 11 0) (replicate 11 0) 0
+    FiguredTo m ls d (replicate 8 0) (replicate 8 0) (replicate 8 0) (replicate 22 0) (replicate 22 0) 0
 figured-none =
     record {
       within = omega arith;
       tensions = between-none 0 _ 8 0;
       athwarts = between-none 0 _ 8 0;
       verticals = between-none 0 _ 8 0;
-      lees = tallied-none 11;
-      windwards = tallied-none 11;
+      lees = tallied-none 22;
+      windwards = tallied-none 22;
     }
 
 upward-small : (d : List ℕ) (l : Lash) → getD d (levelOf l) 0 ≤ 2 ^ 40 → LashLimits 10 l → upward d l ≤ 2 ^ 54
@@ -170,7 +171,7 @@ is-upward :
 unfolding upward part
 is-upward d l ea ex = rw (carried l, ex, ea) refl
 
--- the sum of a post at a level
+-- the sum of a post at a corner
 post-le :
     {m : ℕ} {ls : List Lash} (d : List ℕ) →
     Listed m ls →
@@ -178,9 +179,9 @@ post-le :
     (post : Lashing → ℕ → ℕ) →
     ((g : Lashing) (x : ℕ) → post g x ≤ x) →
     (i : ℕ) →
-    tally (at-level i) (on post d) ls ≤ 8 * 2 ^ 54
+    tally (at-corner i) (on post d) ls ≤ 8 * 2 ^ 54
 post-le {ls = ls} d g small post kept i =
-    omega (arith, tally-le (2 ^ 54) (at-level i) (on post d) ls each, g .counted, g .few)
+    omega (arith, tally-le (2 ^ 54) (at-corner i) (on post d) ls each, g .counted, g .few)
   where
     each : (k : ℕ) → k < length ls → on post d (getD ls k blankLash) ≤ 2 ^ 54
     each k q =
@@ -189,8 +190,10 @@ post-le {ls = ls} d g small post kept i =
 
 module _ {m : ℕ} {ls : List Lash} {d : List ℕ} (g : Listed m ls) (small : (i : ℕ) → getD d i 0 ≤ 2 ^ 40) where
   module _ {tension athwart vertical lee windward : List ℕ} {j : ℕ}
-      (s : FiguredTo m ls d tension athwart vertical lee windward j) (h : j < m) {l : Lash} (own : getD ls j blankLash ≡ l) {at x : ℕ}
+      (s : FiguredTo m ls d tension athwart vertical lee windward j) (h : j < m) {l : Lash} (own : getD ls j blankLash ≡ l)
+      {at corner x : ℕ}
       (ea : at ≡ levelOf l)
+      (ec : corner ≡ cornerOf l)
       (ex : x ≡ stiffnessOf l * getD d at 0 / 2 ^ 32) where
     abbrev up : ℕ
     up = verticalFrom x (carriedLash (lashingOf l))
@@ -199,21 +202,21 @@ module _ {m : ℕ} {ls : List Lash} {d : List ℕ} (g : Listed m ls) (small : (i
         (post : Lashing → ℕ → ℕ) →
         ((g : Lashing) (x : ℕ) → post g x ≤ x) →
         {r : List ℕ} →
-        Tallied at-level (on post d) ls 11 j r →
-        getD r at 0 + post (lashingOf l) up < 2 ^ 64
+        Tallied at-corner (on post d) ls 22 j r →
+        getD r corner 0 + post (lashingOf l) up < 2 ^ 64
     post-fits post kept t =
-        rw (is-upward d l ea ex) (omega (arith, tallied-le t (first g h own) (only-at ea), post-le d g small post kept at))
+        rw (is-upward d l ea ex) (omega (arith, tallied-le t (first g h own) (only-at ec), post-le d g small post kept corner))
 
     post-more :
         (post : Lashing → ℕ → ℕ) {r : List ℕ} →
-        at < 11 →
-        Tallied at-level (on post d) ls 11 j r →
-        Tallied at-level (on post d) ls 11 (suc j) (set r at (getD r at 0 + post (lashingOf l) up))
-    post-more post low t = rw (is-upward d l ea ex) (tallied-more t (first g h own) (only-at ea) low)
+        corner < 22 →
+        Tallied at-corner (on post d) ls 22 j r →
+        Tallied at-corner (on post d) ls 22 (suc j) (set r corner (getD r corner 0 + post (lashingOf l) up))
+    post-more post low t = rw (is-upward d l ea ex) (tallied-more t (first g h own) (only-at ec) low)
 
     pub figured-more :
         {p a v : ℕ} →
-        at < 11 →
+        corner < 22 →
         p ≡ roundedUp (roundedUp ((x + lashPad) * lashLength l) (l .ly)) (2 ^ 18) →
         a ≡ roundedUp (x + lashPad) (2 ^ 18) →
         v ≡ roundedUp (roundedUp ((x + lashPad) * l .lz) (l .ly)) (2 ^ 18) →
@@ -224,8 +227,8 @@ module _ {m : ℕ} {ls : List Lash} {d : List ℕ} (g : Listed m ls) (small : (i
         (set tension j p)
         (set athwart j a)
         (set vertical j v)
-        (set lee at (getD lee at 0 + leePart (lashingOf l) up))
-        (set windward at (getD windward at 0 + windwardPart (lashingOf l) up))
+        (set lee corner (getD lee corner 0 + leePart (lashingOf l) up))
+        (set windward corner (getD windward corner 0 + windwardPart (lashingOf l) up))
         (suc j)
     unfolding pullFigure athwartFigure verticalFigure part
     figured-more {p} {a} {v} low ep eq ev =
@@ -243,12 +246,12 @@ module _ {m : ℕ} {ls : List Lash} {d : List ℕ} (g : Listed m ls) (small : (i
       ((g : Lashing) (x : ℕ) → post g x ≤ x) →
       {r : List ℕ} {j : ℕ} →
       m ≤ j →
-      Tallied at-level (on post d) ls 11 j r →
+      Tallied at-corner (on post d) ls 22 j r →
       VerticalsOn post ls d r
   verticals-on post kept h t =
       let x = tallied-all t (omega (arith, g .counted)) in
       record {
-        each = λ i. x i ∙ sym (tally-upwards post (at-level i) d ls);
+        each = λ i. x i ∙ sym (tally-upwards post (at-corner i) d ls);
         small = λ i. omega (arith, x i, post-le d g small post kept i);
         long = t .long;
       }

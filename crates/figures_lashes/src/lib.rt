@@ -9,7 +9,7 @@ ghost use Rattle.sheet.specs.Layout.{blankLash};
 ghost use Rattle.sheet.specs.inner.Limits.{LashLimits};
 ghost use Rattle.statics.specs.Lashes.{lashLength};
 ghost use Rattle.statics.specs.inner.WholeNumbers.{lashPad, stiffnessOf, leePart, windwardPart};
-ghost use Rattle.figures_lashes.specs.inner.Lashes.{carriedLash, verticalFrom};
+ghost use Rattle.figures_lashes.specs.inner.Lashes.{carriedLash, verticalFrom, cornerOf};
 ghost use Rattle.figures_lashes.specs.inner.Lashes.{LashesMeasured, LevelStiffnesses, LashesFigured, VerticalsOn};
 use arith::roots::length;
 use arith::rounding::ceil_div;
@@ -31,6 +31,14 @@ fn hook_level(l: Lash) -> usize
     ensures { λ r. ⌜ (r ≡ levelOf l) × (1 ≤ r) × (r ≤ 10) ⌝ }
 {
     (l.tier - l.hook) as usize
+}
+
+// The corner that a lash is hooked to, counted from the deck up: 2 i - 1 is the bottom corner of tier i, 2 i its top corner.
+fn hook_corner(l: Lash) -> usize
+    requires { ⌜ LashLimits 10 l ⌝ }
+    ensures { λ r. ⌜ (r ≡ cornerOf l) × (r ≤ 20) ⌝ }
+{
+    (2 * l.tier - l.hook) as usize
 }
 
 fn length_of(l: Lash) -> u64
@@ -154,54 +162,52 @@ fn on_posts(g: Lashing, part: u64) -> PostParts
     }
 }
 
-// The figures of an end's lashes, and the vertical parts on each post at levels 0 to 10.
+// The figures of an end's lashes.
 pub struct LashFigures {
     pub tension: [u64; 8],
     pub athwart: [u64; 8],
     pub vertical: [u64; 8],
-    pub lee: [u64; 11],
-    pub windward: [u64; 11],
 }
 
-// The figures of an end's lashes, and the sums of the vertical parts by level on each post.
+// The figures of an end's lashes, and the sums of the vertical parts by corner on each post.
 pub fn lash_figures(
     lashes: [Lash; 8],
     m: usize,
     lengths: &[u64],
     stiffnesses: &[u64],
     d: &[u64],
+    lee: &mut [u64],
+    windward: &mut [u64],
 ) -> LashFigures
     requires { ⌜ (m ≤ 8) × ((j : ℕ) → j < m → LashLimits 10 (getD (take m lashes) j blankLash)) ⌝ }
     requires { ⌜ LashesMeasured m (take m lashes) (now lengths) (now stiffnesses) × ((i : ℕ) → getD (now d) i 0 ≤ 2 ^ 40) ⌝ }
     requires { ⌜ (length (now lengths) ≡ 8) × (length (now stiffnesses) ≡ 8) × (length (now d) ≡ 11) ⌝ }
+    requires { ⌜ (now lee ≡ replicate 22 0) × (now windward ≡ replicate 22 0) ⌝ }
     ensures { λ r. ⌜ LashesFigured m (take m lashes) (now (d .entry)) (r .tension) (r .athwart) (r .vertical) ⌝ }
-    ensures { λ r. ⌜ VerticalsOn leePart (take m lashes) (now (d .entry)) (r .lee) ⌝ }
-    ensures { λ r. ⌜ VerticalsOn windwardPart (take m lashes) (now (d .entry)) (r .windward) ⌝ }
+    ensures { λ r. ⌜ VerticalsOn leePart (take m lashes) (now (d .entry)) (now (lee .exit)) ⌝ }
+    ensures { λ r. ⌜ VerticalsOn windwardPart (take m lashes) (now (d .entry)) (now (windward .exit)) ⌝ }
 {
     let mut tension = [0u64; 8];
     let mut athwart = [0u64; 8];
     let mut vertical = [0u64; 8];
-    let mut lee = [0u64; 11];
-    let mut windward = [0u64; 11];
     let mut j = 0;
     while j < m {
         let l = lashes[j];
         let at = hook_level(l);
+        let corner = hook_corner(l);
         let part = athwart_part(stiffnesses[j], d[at]);
         let f = forces_of(l, lengths[j], part);
         let u = on_posts(lashing_of(l), part);
         tension[j] = f.tension;
         athwart[j] = f.athwart;
         vertical[j] = f.vertical;
-        lee[at] = lee[at] + u.lee;
-        windward[at] = windward[at] + u.windward;
+        lee[corner] = lee[corner] + u.lee;
+        windward[corner] = windward[corner] + u.windward;
         j += 1;
     }
     LashFigures {
         tension,
         athwart,
         vertical,
-        lee,
-        windward,
     }
 }

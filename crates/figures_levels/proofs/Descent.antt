@@ -17,7 +17,7 @@ use Rattle.figures_levels.specs.inner.Levels.{total, LevelInputs, compre
 use Rattle.statics.proofs.Arrays.{Between, between-none, fill-below, fill-above, filled, peel, peeled-off}
 use Rattle.figures_levels.proofs.LevelLaws.{tier-moment-small, racking-small}
 
--- sums over the levels from i on, of m
+-- sums over the corners from i on, of m
 pub total-peel : (v : List ℕ) (m i : ℕ) → i < m → m ≤ length v → total (drop i (take m v)) ≡ total (drop (suc i) (take m v)) + getD v i 0
 unfolding total
 total-peel v m i h room = rw (peel v m i 0 h room) (omega arith)
@@ -54,6 +54,10 @@ part-small k d j h s = racking-small h (s (suc j)) (s j)
 abbrev most-turn : ℕ
 most-turn = 2896 * 2 ^ 45
 
+-- the vertical parts of a stack of n tiers on a post, at corner c or above
+abbrev from-corner : ℕ → List ℕ → ℕ → ℕ
+from-corner n v c = total (drop c (take (suc (2 * n)) v))
+
 pub record FiguredFrom
     (n : ℕ) (k : List ℕ) (ts : List Tier) (d vmax vmin lee windward : List ℕ)
     (racking : List ℤ) (compressions tensions : List ℕ) (moment : ℤ) (lees windwards i : ℕ) : Type 0 where
@@ -62,17 +66,17 @@ pub record FiguredFrom
   pub pressed : Between 0 (λ j x. x ≡ compressionAt n k ts d vmax vmin lee windward j) 11 i (suc n) compressions
   pub tensed : Between 0 (λ j x. x ≡ tensionAt n k ts d vmax vmin lee windward j) 10 i n tensions
   pub moment-is : moment ≡ momentPart k d (drop i ts) i
-  pub lees-are : lees ≡ total (drop i (take (suc n) lee))
-  pub windwards-are : windwards ≡ total (drop i (take (suc n) windward))
+  pub lees-are : lees ≡ from-corner n lee (2 * i)
+  pub windwards-are : windwards ≡ from-corner n windward (2 * i)
   pub moment-small : Small ((n - i) * most-turn) moment
-  pub lees-small : lees ≤ (suc n - i) * 2 ^ 58
-  pub windwards-small : windwards ≤ (suc n - i) * 2 ^ 58
+  pub lees-small : lees ≤ suc (2 * (n - i)) * 2 ^ 57
+  pub windwards-small : windwards ≤ suc (2 * (n - i)) * 2 ^ 57
 
 module _ {n : ℕ} {k : List ℕ} {ts : List Tier} {d vmax vmin lee windward : List ℕ}
     (m : LevelInputs n k ts d vmax vmin lee windward) (stacked : length ts ≡ n) where
   pub at-top :
       {v : ℕ} →
-      v ≡ compressionFrom (getD vmax n 0) (pos 0) (getD lee n 0) (getD windward n 0) →
+      v ≡ compressionFrom (getD vmax n 0) (pos 0) (getD lee (2 * n) 0) (getD windward (2 * n) 0) →
       FiguredFrom
       n
       k
@@ -86,13 +90,13 @@ module _ {n : ℕ} {k : List ℕ} {ts : List Tier} {d vmax vmin lee windward : L
       (set (replicate 11 0) n v)
       (replicate 10 0)
       (pos 0)
-      (getD lee n 0)
-      (getD windward n 0)
+      (getD lee (2 * n) 0)
+      (getD windward (2 * n) 0)
       n
   at-top {v} e =
       let no-moment = moment-off k d ts n stacked in
-      let top-lee = total-top lee n (omega (arith, m .few, m .lee-long)) in
-      let top-windward = total-top windward n (omega (arith, m .few, m .windward-long)) in
+      let top-lee = total-top lee (2 * n) (omega (arith, m .few, m .lee-long)) in
+      let top-windward = total-top windward (2 * n) (omega (arith, m .few, m .windward-long)) in
       record {
         within = omega arith;
         racked = between-none _ _ 10 n;
@@ -102,9 +106,24 @@ module _ {n : ℕ} {k : List ℕ} {ts : List Tier} {d vmax vmin lee windward : L
         lees-are = top-lee;
         windwards-are = top-windward;
         moment-small = small-pos (omega arith);
-        lees-small = omega (arith, m .lee-small n);
-        windwards-small = omega (arith, m .windward-small n);
+        lees-small = omega (arith, m .lee-small (2 * n));
+        windwards-small = omega (arith, m .windward-small (2 * n));
       }
+
+  -- the parts on a post that count in the tension at level j, and in the compression, from those at the level over it
+  abbrev Both : List ℕ → ℕ → ℕ → Type 0
+  Both v above j =
+      (above + getD v (2 * j + 1) 0 ≡ from-corner n v (suc (2 * j)))
+      × (above + getD v (2 * j + 1) 0 + getD v (2 * j) 0 ≡ from-corner n v (2 * j))
+
+  both : (v : List ℕ) {above j : ℕ} → j < n → suc (2 * n) ≤ length v → above ≡ from-corner n v (2 * suc j) → Both v above j
+  both v {above} {j} h room e =
+      let twice : 2 * suc j ≡ suc (suc (2 * j)) = omega arith in
+      let next : 2 * j + 1 ≡ suc (2 * j) = omega arith in
+      let bottom = total-peel v (suc (2 * n)) (suc (2 * j)) (omega arith) room in
+      let top = total-peel v (suc (2 * n)) (2 * j) (omega arith) room in
+      let over : above ≡ from-corner n v (suc (suc (2 * j))) = rw twice at e in
+      rw next (omega (arith, over, bottom), omega (arith, over, bottom, top))
 
   module _ {racking : List ℤ} {compressions tensions : List ℕ} {moment : ℤ} {lees windwards : ℕ} where
     -- to the level under tier j, with the values that the code has there
@@ -115,10 +134,20 @@ module _ {n : ℕ} {k : List ℕ} {ts : List Tier} {d vmax vmin lee windward : L
         h ≡ getD ts j blankTier .height →
         r ≡ rackingFigure p →
         moment′ ≡ pos h *ℤ p +ℤ moment →
-        lees′ ≡ lees + getD lee j 0 →
-        windwards′ ≡ windwards + getD windward j 0 →
-        compression ≡ compressionFrom (getD vmax j 0) (pos h *ℤ p +ℤ moment) (lees + getD lee j 0) (windwards + getD windward j 0) →
-        tension ≡ tensionFrom (getD vmin j 0) (pos h *ℤ p +ℤ moment) lees windwards →
+        lees′ ≡ lees + getD lee (2 * j + 1) 0 + getD lee (2 * j) 0 →
+        windwards′ ≡ windwards + getD windward (2 * j + 1) 0 + getD windward (2 * j) 0 →
+        compression
+        ≡ compressionFrom
+        (getD vmax j 0)
+        (pos h *ℤ p +ℤ moment)
+        (lees + getD lee (2 * j + 1) 0 + getD lee (2 * j) 0)
+        (windwards + getD windward (2 * j + 1) 0 + getD windward (2 * j) 0) →
+        tension
+        ≡ tensionFrom
+        (getD vmin j 0)
+        (pos h *ℤ p +ℤ moment)
+        (lees + getD lee (2 * j + 1) 0)
+        (windwards + getD windward (2 * j + 1) 0) →
         FiguredFrom
         n
         k
@@ -141,31 +170,27 @@ module _ {n : ℕ} {k : List ℕ} {ts : List Tier} {d vmax vmin lee windward : L
           racked = fill-below _ _ 10 j n racking r (s .within) (omega (arith, m .few, s .within)) (rw ep at er) (s .racked);
           pressed =
               fill-below _ _ 11 j (suc n) compressions compression (omega (arith, s .within)) (omega (arith, m .few, s .within))
-              (rw (← moment-under, ← lee-under, ← windward-under) ec) (s .pressed);
+              (rw (← moment-under, ← lee-under .1, ← windward-under .1) ec) (s .pressed);
           tensed =
               fill-below _ _ 10 j n tensions tension (s .within) (omega (arith, m .few, s .within))
-              (rw (← moment-under, ← s .lees-are, ← s .windwards-are) et) (s .tensed);
+              (rw (← moment-under, ← lee-under .0, ← windward-under .0) et) (s .tensed);
           moment-is = em ∙ moment-under;
-          lees-are = el ∙ lee-under;
-          windwards-are = ew ∙ windward-under;
+          lees-are = el ∙ lee-under .1;
+          windwards-are = ew ∙ windward-under .1;
           moment-small = rw em small;
-          lees-small = omega (arith, s .within, s .lees-small, m .lee-small j);
-          windwards-small = omega (arith, s .within, s .windwards-small, m .windward-small j);
+          lees-small = omega (arith, s .within, s .lees-small, m .lee-small (2 * j + 1), m .lee-small (2 * j));
+          windwards-small = omega (arith, s .within, s .windwards-small, m .windward-small (2 * j + 1), m .windward-small (2 * j));
         }
       where
         moment-under : pos h *ℤ p +ℤ moment ≡ momentPart k d (drop j ts) j
         moment-under =
             rw (ep, eh, s .moment-is) (sym (moment-peel k d ts j (omega (arith, s .within))))
 
-        lee-under : lees + getD lee j 0 ≡ total (drop j (take (suc n) lee))
-        lee-under =
-            let peeled = total-peel lee (suc n) j (omega (arith, s .within)) (omega (arith, m .few, m .lee-long)) in
-            omega (arith, s .lees-are, peeled)
+        lee-under : Both lee lees j
+        lee-under = both lee (s .within) (omega (arith, m .few, m .lee-long)) (s .lees-are)
 
-        windward-under : windwards + getD windward j 0 ≡ total (drop j (take (suc n) windward))
-        windward-under =
-            let peeled = total-peel windward (suc n) j (omega (arith, s .within)) (omega (arith, m .few, m .windward-long)) in
-            omega (arith, s .windwards-are, peeled)
+        windward-under : Both windward windwards j
+        windward-under = both windward (s .within) (omega (arith, m .few, m .windward-long)) (s .windwards-are)
 
         small : Small ((n - j) * most-turn) (pos h *ℤ p +ℤ moment)
         small =
@@ -181,15 +206,20 @@ module _ {n : ℕ} {k : List ℕ} {ts : List Tier} {d vmax vmin lee windward : L
         h ≡ getD ts (i - 1) blankTier .height →
         r ≡ rackingFigure p →
         moment′ ≡ pos h *ℤ p +ℤ moment →
-        lees′ ≡ lees + getD lee (i - 1) 0 →
-        windwards′ ≡ windwards + getD windward (i - 1) 0 →
+        lees′ ≡ lees + getD lee (2 * (i - 1) + 1) 0 + getD lee (2 * (i - 1)) 0 →
+        windwards′ ≡ windwards + getD windward (2 * (i - 1) + 1) 0 + getD windward (2 * (i - 1)) 0 →
         compression
         ≡ compressionFrom
         (getD vmax (i - 1) 0)
         (pos h *ℤ p +ℤ moment)
-        (lees + getD lee (i - 1) 0)
-        (windwards + getD windward (i - 1) 0) →
-        tension ≡ tensionFrom (getD vmin (i - 1) 0) (pos h *ℤ p +ℤ moment) lees windwards →
+        (lees + getD lee (2 * (i - 1) + 1) 0 + getD lee (2 * (i - 1)) 0)
+        (windwards + getD windward (2 * (i - 1) + 1) 0 + getD windward (2 * (i - 1)) 0) →
+        tension
+        ≡ tensionFrom
+        (getD vmin (i - 1) 0)
+        (pos h *ℤ p +ℤ moment)
+        (lees + getD lee (2 * (i - 1) + 1) 0)
+        (windwards + getD windward (2 * (i - 1) + 1) 0) →
         FiguredFrom
         n
         k

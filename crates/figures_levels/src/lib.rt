@@ -1,9 +1,9 @@
 // Rackings of the tiers and forces on the posts, from the top level down. Scales are those of statics/specs/inner/WholeNumbers.
 
 ghost use mathlib.Core.Path.{_≡_};
-ghost use Prim.Native.Nat.{_+_, _*_, _≤_, _^_};
+ghost use Prim.Native.Nat.{_+_, _*_, _<_, _≤_, _^_};
 ghost use lib.IntN.{pos, natAbs, negℤ, _+ℤ_, _-ℤ_, _*ℤ_};
-ghost use lib.ListN.{length, take};
+ghost use lib.ListN.{length, take, getD};
 ghost use lib.Signed.{quotZ};
 ghost use Rattle.arith.specs.inner.Sizes.{Small};
 ghost use Rattle.springs.specs.Equations.{closedSpring};
@@ -134,10 +134,15 @@ fn couple_of(moment: i64) -> i64
     moment / POST_SPACING
 }
 
-fn parts_of(lee: u64, windward: u64) -> PostParts
-    ensures { λ r. ⌜ (r .lee ≡ lee) × (r .windward ≡ windward) ⌝ }
+// The vertical parts at a corner.
+fn parts_at(lee: &[u64], windward: &[u64], corner: usize) -> PostParts
+    requires { ⌜ (corner < length (now lee)) × (corner < length (now windward)) ⌝ }
+    ensures { λ r. ⌜ (r .lee ≡ getD (now (lee .entry)) corner 0) × (r .windward ≡ getD (now (windward .entry)) corner 0) ⌝ }
 {
-    PostParts { lee, windward }
+    PostParts {
+        lee: lee[corner],
+        windward: windward[corner],
+    }
 }
 
 // What stands above a level: the moment of the tiers, and the vertical parts of the lashes at this level or above.
@@ -152,24 +157,39 @@ struct Level {
     tension: u64,
 }
 
-// The level under a tier of racking `part`, with the vertical parts of its own lashes. vmax and vmin: half of V with A_Vmax and A_Vmin.
-fn level_under(above: Above, part: i64, height: u16, own: PostParts, vmax: u64, vmin: u64) -> Level
+// The level under a tier of racking `part`, with the vertical parts of the lashes at it: on the bottom corner of that tier, which count in
+// tension too, and on the top corner of the tier below. vmax and vmin: half of V with A_Vmax and A_Vmin.
+fn level_under(
+    above: Above,
+    part: i64,
+    height: u16,
+    bottom: PostParts,
+    top: PostParts,
+    vmax: u64,
+    vmin: u64,
+) -> Level
     requires { ⌜ Small (2 ^ 60) (above .moment) × Small (2 ^ 45) part × (height ≤ 2896) ⌝ }
     requires { ⌜ (above .parts .lee ≤ 15 * 2 ^ 58) × (above .parts .windward ≤ 15 * 2 ^ 58) ⌝ }
-    requires { ⌜ (own .lee ≤ 2 ^ 58) × (own .windward ≤ 2 ^ 58) × (vmax ≤ 2 ^ 40) × (vmin ≤ 2 ^ 40) ⌝ }
+    requires { ⌜ (bottom .lee ≤ 2 ^ 57) × (bottom .windward ≤ 2 ^ 57) × (top .lee ≤ 2 ^ 57) × (top .windward ≤ 2 ^ 57) ⌝ }
+    requires { ⌜ (vmax ≤ 2 ^ 40) × (vmin ≤ 2 ^ 40) ⌝ }
     ensures { λ r. ⌜ r .above .moment ≡ pos height *ℤ part +ℤ above .moment ⌝ }
-    ensures { λ r. ⌜ r .above .parts .lee ≡ above .parts .lee + own .lee ⌝ }
-    ensures { λ r. ⌜ r .above .parts .windward ≡ above .parts .windward + own .windward ⌝ }
+    ensures { λ r. ⌜ r .above .parts .lee ≡ above .parts .lee + bottom .lee + top .lee ⌝ }
+    ensures { λ r. ⌜ r .above .parts .windward ≡ above .parts .windward + bottom .windward + top .windward ⌝ }
     ensures { λ r. ⌜ r .compression ≡ compressionFrom vmax (pos height *ℤ part +ℤ above .moment)
-        (above .parts .lee + own .lee) (above .parts .windward + own .windward) ⌝ }
-    ensures { λ r. ⌜ r .tension ≡ tensionFrom vmin (pos height *ℤ part +ℤ above .moment) (above .parts .lee) (above .parts .windward) ⌝ }
+        (above .parts .lee + bottom .lee + top .lee) (above .parts .windward + bottom .windward + top .windward) ⌝ }
+    ensures { λ r. ⌜ r .tension ≡ tensionFrom vmin (pos height *ℤ part +ℤ above .moment)
+        (above .parts .lee + bottom .lee) (above .parts .windward + bottom .windward) ⌝ }
 {
     let moment = moment_under(above.moment, part, height);
     let couple = couple_of(moment);
     let over = above.parts;
+    let held = PostParts {
+        lee: over.lee + bottom.lee,
+        windward: over.windward + bottom.windward,
+    };
     let parts = PostParts {
-        lee: over.lee + own.lee,
-        windward: over.windward + own.windward,
+        lee: held.lee + top.lee,
+        windward: held.windward + top.windward,
     };
     Level {
         above: Above {
@@ -177,7 +197,7 @@ fn level_under(above: Above, part: i64, height: u16, own: PostParts, vmax: u64, 
             parts: parts,
         },
         compression: compression_of(vmax, couple, parts),
-        tension: tension_of(vmin, couple, over),
+        tension: tension_of(vmin, couple, held),
     }
 }
 
@@ -189,15 +209,15 @@ pub struct LevelFigures {
 }
 
 // The figures of all levels and tiers, with the sums of what stands above carried down.
-pub fn level_figures<'a>(
+pub fn level_figures(
     n: usize,
     k: &[u64],
     tiers: [Tier; 10],
     d: &[u64],
     vmax: &[u64],
     vmin: &[u64],
-    lee: &'a [u64],
-    windward: &'a [u64],
+    lee: &[u64],
+    windward: &[u64],
 ) -> LevelFigures
     requires { ⌜ LevelInputs n (now k) (take n tiers) (now d) (now vmax) (now vmin) (now lee) (now windward) ⌝ }
     requires { ⌜ (length (now k) ≡ 10) × (length (now d) ≡ 11) × (length (now vmax) ≡ 11) × (length (now vmin) ≡ 11) ⌝ }
@@ -207,11 +227,11 @@ pub fn level_figures<'a>(
     let mut racking = [0i32; 10];
     let mut compression = [0u64; 11];
     let mut tension = [0u64; 10];
-    let top = parts_of(lee[n], windward[n]);
-    compression[n] = compression_of(vmax[n], 0, top);
+    let highest = parts_at(lee, windward, 2 * n);
+    compression[n] = compression_of(vmax[n], 0, highest);
     let mut above = Above {
         moment: 0,
-        parts: top,
+        parts: highest,
     };
     let mut i = n;
     while 0 < i {
@@ -219,8 +239,9 @@ pub fn level_figures<'a>(
         i -= 1;
         let t = tiers[i];
         let part = racking_part(k[i], upper, d[i]);
-        let own = parts_of(lee[i], windward[i]);
-        let l = level_under(above, part, t.height, own, vmax[i], vmin[i]);
+        let bottom = parts_at(lee, windward, 2 * i + 1);
+        let top = parts_at(lee, windward, 2 * i);
+        let l = level_under(above, part, t.height, bottom, top, vmax[i], vmin[i]);
         racking[i] = racking_figure(part);
         compression[i] = l.compression;
         tension[i] = l.tension;

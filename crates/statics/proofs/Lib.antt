@@ -11,6 +11,7 @@ pub mod LoadsGrow
 pub mod EndChain
 pub mod Inputs
 pub mod Turned
+pub mod Relief
 pub mod OneSolution
 -- Bounds of the exact forces.
 pub mod Within
@@ -28,6 +29,7 @@ pub mod Verticals
 pub mod Weights
 pub mod Arms
 pub mod Moment
+pub mod SameShifts
 pub mod Racking
 pub mod PostSums
 pub mod PostFigures

@@ -5,6 +5,7 @@ use Rattle.statics.proofs.Moment.{moment-is}
 use Rattle.statics.proofs.LoadsGrow.{loads-leeward, loads-grow, stands-proper}
 use Rattle.statics.proofs.OneSolution.{one-solution, leeward}
 use Rattle.statics.proofs.Turned.{own-springs, turn-swaps-springs, turn-keeps-forces}
+use Rattle.statics.proofs.Relief.{tension-by-tier}
 
 pub theorems : Theorems
 theorems =
@@ -18,4 +19,5 @@ theorems =
       own-springs = own-springs;
       turn-swaps-springs = turn-swaps-springs;
       turn-keeps-forces = turn-keeps-forces;
+      tension-by-tier = tension-by-tier;
     }

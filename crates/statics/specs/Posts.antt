@@ -1,5 +1,5 @@
 -- Document 01, "Posts and locks": moments, and what the posts carry at a level.
-use mathlib.Core.Bool.{Bool, cond}
+use mathlib.Core.Bool.{Bool, cond, _&&_, _||_}
 use mathlib.Core.List.{List, [], _∷_}
 use Prim.Native.Nat.{ℕ, zero, suc, _+_}
 use lib.Dec.{leb, ltb}
@@ -12,7 +12,8 @@ use Rattle.sheet.specs.declared.Tier.{Tier}
 use Rattle.sheet.specs.declared.Lash.{Lash}
 use Rattle.sheet.specs.declared.Lashing.{Lashing}
 use Rattle.sheet.specs.declared.Lashing.the-variants.{Cross, Side}
-use Rattle.sheet.specs.Lashings.{lashingOf, levelOf}
+use Rattle.sheet.specs.Layout.{_is_}
+use Rattle.sheet.specs.Lashings.{lashingOf, levelOf, atBottom}
 use Rattle.statics.specs.Loads.{half, transverse, wind, verticalForce, Rule}
 use Rattle.statics.specs.Lashes.{athwartPart, verticalPart}
 
@@ -44,12 +45,14 @@ moment rule ts ls Ds i =
 abbrev pub weightAbove : (Tier → ℕ) → List Tier → ℕ → Frac
 weightAbove acceleration ts i = sumq (verticalForce acceleration) (drop i ts)
 
--- which lashes count at level i: in compression those at this level or above, in tension only those above it
+-- which lashes count at level i: in compression those at this level or above it
 abbrev pub inCompression : ℕ → Lash → Bool
 inCompression i l = leb i (levelOf l)
 
+-- in tension those above it, and of those at this level the ones hooked to a bottom corner, which pull the upper box down onto the lock
+-- (document 02, P4)
 abbrev pub inTension : ℕ → Lash → Bool
-inTension i l = ltb i (levelOf l)
+inTension i l = ltb i (levelOf l) || i is levelOf l && atBottom l
 
 -- a cross lash pulls on the lee post, a side lash on the windward post
 abbrev pub onLee : Lashing → Frac → Frac

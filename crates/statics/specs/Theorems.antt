@@ -3,6 +3,7 @@ use mathlib.Core.Bool.{true, false}
 use mathlib.Core.Path.{_≡_}
 use mathlib.Core.List.{List, [], _∷_}
 use Prim.Native.Nat.{ℕ, suc, _≤_}
+use lib.Dec.{ltb}
 use lib.ListN.{getD, drop}
 use Rattle.arith.specs.Fractions.{Frac, nat, _+q_, _*q_, _≈_, _⊑_}
 use Rattle.springs.specs.Equations.{shift, racking, Solves, loadAt}
@@ -10,11 +11,12 @@ use Rattle.sheet.specs.declared.Tier.{Tier}
 use Rattle.sheet.specs.declared.Lash.{Lash}
 use Rattle.sheet.specs.declared.Sheet.{Sheet}
 use Rattle.sheet.specs.Fits.{Fits}
-use Rattle.sheet.specs.Layout.{exposed, turned, blankTier}
+use Rattle.sheet.specs.Layout.{exposed, turned, lashFits, blankTier}
+use Rattle.sheet.specs.Refusals.{offTiers}
 use Rattle.statics.specs.declared.LoadRule.{LoadRule}
 use Rattle.statics.specs.Loads.{transverse, wind, verticalForce, Rule, StandsFor}
 use Rattle.statics.specs.Ends.{springOf, chainTiers, chainLashes, EndSolved, OneSolution}
-use Rattle.statics.specs.Posts.{moment}
+use Rattle.statics.specs.Posts.{moment, inTension}
 use Rattle.sheet.specs.Ends.{End, door, closed}
 
 -- any share from 0 to 1, and any factor not below zero
@@ -84,6 +86,13 @@ pub record SameForces (t u : Tier) : Type 0 where
 abbrev pub TurnKeepsForces : Type 0
 TurnKeepsForces = (t u : Tier) → SameBox t u → SameForces t u
 
+-- Relief by a bottom hook (proofs/Relief)
+
+-- a lash within its limits, on a tier and not on the bottom corner of tier 1, counts in the tension at a level exactly if its tier's
+-- number is above the level's
+abbrev pub TensionByTier : Type 0
+TensionByTier = (n : ℕ) (l : Lash) → lashFits l ≡ true → offTiers n l ≡ false → (i : ℕ) → inTension i l ≡ ltb i (l .tier)
+
 pub record Theorems : Type 0 where
   -- for any rule: exactly one solution at each end of a sheet within the limits, and M by the rackings
   pub one-solution : (rule : Rule) (e : End) (t : Sheet) → Fits t → OneSolution rule e t
@@ -102,3 +111,5 @@ pub record Theorems : Type 0 where
   pub own-springs : OwnSprings
   pub turn-swaps-springs : TurnSwapsSprings
   pub turn-keeps-forces : TurnKeepsForces
+  -- relief by a bottom hook
+  pub tension-by-tier : TensionByTier

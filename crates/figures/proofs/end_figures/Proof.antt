@@ -20,10 +20,10 @@ abbrev measured : tie.After-solve → tie.After-lash-stiffnesses
 measured c = c .before .before .before .before .before
 
 abbrev solved : tie.After-lash-figures → tie.After-solve
-solved c = c .before .before .before .before
+solved c = c .before .before .before .before .before .before
 
 abbrev figured : tie.After-level-figures → tie.After-lash-figures
-figured c = c .before .before .before .before .before .before .before
+figured c = c .before .before .before .before .before .before
 
 counted : (c : tie.Start) → length (take (c .args .m) (c .args .lashes)) ≡ c .args .m
 counted c = length-take-le (c .args .m) (c .args .lashes) (omega (arith, c .pre .0 .few-lashes, c .good .1 .1 .1 .0 .1 .0 .1))
@@ -65,22 +65,37 @@ slice-aggregate-lash-figures-2 c = search needs
 slice-aggregate-lash-figures-3 : tie.Need-slice-aggregate-lash-figures-3
 slice-aggregate-lash-figures-3 c = search needs
 
+slice-aggregate-lash-figures-4 : tie.Need-slice-aggregate-lash-figures-4
+slice-aggregate-lash-figures-4 c = search needs
+
+slice-aggregate-lash-figures-5 : tie.Need-slice-aggregate-lash-figures-5
+slice-aggregate-lash-figures-5 c = search needs
+
 lash-figures-requires : tie.Need-lash-figures-requires
 lash-figures-requires c κs =
-    let s = c .before .before .before in
+    let s = c .before .before .before .before .before in
     let g = measured s in
     let b = entered g in
     let long = g .lash-stiffnesses .kept .1 .1 in (
       (b .pre .0 .few-lashes, each-ten (b .pre .0) (counted b)),
-      ((g .lash-stiffnesses .ensures .0, s .solve .ensures .0 .far), (long .0, long .1 .0, s .solve .ok .1 .0 .1)),
+      (
+        (g .lash-stiffnesses .ensures .0, s .solve .ensures .0 .far),
+        ((long .0, long .1 .0, s .solve .ok .1 .0 .1), (refl, refl)),
+      ),
     )
 
 slice-aggregate-level-figures : tie.Need-slice-aggregate-level-figures
 slice-aggregate-level-figures c = search needs
 
+slice-aggregate-level-figures-2 : tie.Need-slice-aggregate-level-figures-2
+slice-aggregate-level-figures-2 c = search needs
+
+slice-aggregate-level-figures-3 : tie.Need-slice-aggregate-level-figures-3
+slice-aggregate-level-figures-3 c = search needs
+
 level-figures-requires : tie.Need-level-figures-requires
 level-figures-requires c κs =
-    let p = c .before .before .before .before .before .before in
+    let p = c .before .before .before .before .before in
     let s = solved p in
     let b = entered (measured s) in
     let posts = p .lash-figures .ensures .1 in (
@@ -117,7 +132,11 @@ end-figures-spec =
     slice-aggregate-lash-figures
     slice-aggregate-lash-figures-2
     slice-aggregate-lash-figures-3
+    slice-aggregate-lash-figures-4
+    slice-aggregate-lash-figures-5
     lash-figures-requires
     slice-aggregate-level-figures
+    slice-aggregate-level-figures-2
+    slice-aggregate-level-figures-3
     level-figures-requires
     returns)

@@ -16,11 +16,11 @@ use Rattle.figures_lashes.proofs.lash_figures.Statement.{statement}
 use Rattle.figures_lashes.proofs.lash_figures.Tie as tie
 
 abbrev Inv-loop : tie.InvT-loop
-Inv-loop m lengths stiffnesses d lashes tension₀ athwart₀ vertical₀ lee₀ windward₀ j₀ tension athwart vertical lee windward j =
+Inv-loop m lengths stiffnesses d lee₀ windward₀ lashes tension₀ athwart₀ vertical₀ j₀ lee windward tension athwart vertical j =
     FiguredTo m (take m lashes) d tension athwart vertical lee windward j
 
 abbrev μ-loop : tie.MeasureT-loop
-μ-loop m lengths stiffnesses d lashes tension₀ athwart₀ vertical₀ lee₀ windward₀ j₀ tension athwart vertical lee windward j =
+μ-loop m lengths stiffnesses d lee₀ windward₀ lashes tension₀ athwart₀ vertical₀ j₀ lee windward tension athwart vertical j =
     m - j
 
 lashes-of : (c : tie.Start Inv-loop μ-loop) → Listed (c .args .m) (take (c .args .m) (c .args .t1))
@@ -28,14 +28,17 @@ lashes-of c = listed (c .args .t1) (c .good .0 .1 .0 .1) (c .pre .0)
 
 -- where the loop is entered from
 abbrev start : tie.At-loop Inv-loop μ-loop → tie.Start Inv-loop μ-loop
-start c = c .before .before .before .before
+start c = c .before .before .before .before .before .before
 
 -- from each step of a turn to the one before it
 abbrev turn : tie.After-hook-level Inv-loop μ-loop → tie.In-loop Inv-loop μ-loop
 turn c = c .before .before
 
-abbrev hooked : tie.After-athwart-part Inv-loop μ-loop → tie.After-hook-level Inv-loop μ-loop
-hooked c = c .before .before .before
+abbrev hooked : tie.After-hook-corner Inv-loop μ-loop → tie.After-hook-level Inv-loop μ-loop
+hooked c = c .before
+
+abbrev cornered : tie.After-athwart-part Inv-loop μ-loop → tie.After-hook-corner Inv-loop μ-loop
+cornered c = c .before .before .before
 
 abbrev parted : tie.After-forces-of Inv-loop μ-loop → tie.After-athwart-part Inv-loop μ-loop
 parted c = c .before .before
@@ -63,15 +66,17 @@ stiffness c = rw (own c) at (start (c .before) .pre .1 .0 .0 .stiff .each (c .be
 
 athwart :
     (c : tie.After-athwart-part Inv-loop μ-loop) →
-    let k = hooked c in
+    let k = hooked (cornered c) in
     let t = turn k in
     let a = start (t .before) .args in
     c .athwart-part .result
     ≡ stiffnessOf (getD (a .t1) (t .before .loop .j) blankLash) * getD (a .d .now) (k .hook-level .result) 0 / 2 ^ 32
-athwart c = rw (stiffness (turn (hooked c))) at (c .athwart-part .ensures .0)
+athwart c = rw (stiffness (turn (hooked (cornered c)))) at (c .athwart-part .ensures .0)
 
 loop-holds : tie.Need-loop-holds Inv-loop μ-loop
-loop-holds c = figured-none
+loop-holds c =
+    let p = c .before .before .before .before .before .pre .1 .1 .1 in
+    rw (p .0, p .1) figured-none
 
 mul-l : tie.Need-mul-l Inv-loop μ-loop
 mul-l c = search needs
@@ -81,6 +86,9 @@ array-copy-out-l c = search needs
 
 hook-level-requires : tie.Need-hook-level-requires Inv-loop μ-loop
 hook-level-requires c κs = lash-limits (c .before)
+
+hook-corner-requires : tie.Need-hook-corner-requires Inv-loop μ-loop
+hook-corner-requires c κs = lash-limits (turn c)
 
 mul-athwart-part : tie.Need-mul-athwart-part Inv-loop μ-loop
 mul-athwart-part c = search needs
@@ -96,7 +104,7 @@ shared-slice-read-athwart-part-2 c = search needs
 
 athwart-part-requires : tie.Need-athwart-part-requires Inv-loop μ-loop
 athwart-part-requires c κs =
-    let k = c .before .before in
+    let k = hooked (c .before .before) in
     let t = turn k in
     let b = start (t .before) in
     (rw (stiffness t) (stiffness-most _ (lash-limits t)), b .pre .1 .0 .1 (k .hook-level .result))
@@ -109,7 +117,7 @@ shared-slice-read-forces-of c = search needs
 
 forces-of-requires : tie.Need-forces-of-requires Inv-loop μ-loop
 forces-of-requires c κs =
-    let t = turn (hooked (c .before)) in
+    let t = turn (hooked (cornered (c .before))) in
     let g = start (t .before) .pre .1 .0 .0 in
     (lash-limits t, rw (own t) at (g .long .each (t .before .loop .j) (t .loop-test .taken)), c .before .athwart-part .ensures .1)
 
@@ -119,7 +127,7 @@ lashing-of-requires c κs = search needs
 on-posts-requires : tie.Need-on-posts-requires Inv-loop μ-loop
 on-posts-requires c κs =
     let x = parted (c .before) in
-    (rw (c .lashing-of .ensures, carried _) (lash-limits (turn (hooked x))), x .athwart-part .ensures .1)
+    (rw (c .lashing-of .ensures, carried _) (lash-limits (turn (hooked (cornered x)))), x .athwart-part .ensures .1)
 
 mul-tension : tie.Need-mul-tension Inv-loop μ-loop
 mul-tension c = search needs
@@ -142,56 +150,58 @@ array-write-vertical c = search needs
 mul-lee : tie.Need-mul-lee Inv-loop μ-loop
 mul-lee c = search needs
 
-array-read-lee : tie.Need-array-read-lee Inv-loop μ-loop
-array-read-lee c = search needs
+slice-read-lee : tie.Need-slice-read-lee Inv-loop μ-loop
+slice-read-lee c = search needs
 
 add-lee : tie.Need-add-lee Inv-loop μ-loop
 add-lee c =
-    let o = c .before in
+    let o = c .before .before in
     let x = parted (figured o) in
-    let k = hooked x in
+    let r = cornered x in
+    let k = hooked r in
     let t = turn k in
     let l = t .before .loop in
     let b = start (t .before) in
     rw (o .on-posts .ensures .0, o .before .lashing-of .ensures)
     (record {
       fits =
-          post-fits (lashes-of b) (b .pre .1 .0 .1) (l .inv) (t .loop-test .taken) (own t) (k .hook-level .ensures .0) (athwart x)
-          leePart lee-kept (l .inv .lees);
+          post-fits (lashes-of b) (b .pre .1 .0 .1) (l .inv) (t .loop-test .taken) (own t) (k .hook-level .ensures .0)
+          (r .hook-corner .ensures .0) (athwart x) leePart lee-kept (l .inv .lees);
     })
 
 mul-lee-2 : tie.Need-mul-lee-2 Inv-loop μ-loop
 mul-lee-2 c = search needs
 
-array-write-lee : tie.Need-array-write-lee Inv-loop μ-loop
-array-write-lee c = search needs
+slice-write-lee : tie.Need-slice-write-lee Inv-loop μ-loop
+slice-write-lee c = search needs
 
 mul-windward : tie.Need-mul-windward Inv-loop μ-loop
 mul-windward c = search needs
 
-array-read-windward : tie.Need-array-read-windward Inv-loop μ-loop
-array-read-windward c = search needs
+slice-read-windward : tie.Need-slice-read-windward Inv-loop μ-loop
+slice-read-windward c = search needs
 
 add-windward : tie.Need-add-windward Inv-loop μ-loop
 add-windward c =
-    let o = c .before .before in
+    let o = c .before .before .before .before in
     let x = parted (figured o) in
-    let k = hooked x in
+    let r = cornered x in
+    let k = hooked r in
     let t = turn k in
     let l = t .before .loop in
     let b = start (t .before) in
     rw (o .on-posts .ensures .1, o .before .lashing-of .ensures)
     (record {
       fits =
-          post-fits (lashes-of b) (b .pre .1 .0 .1) (l .inv) (t .loop-test .taken) (own t) (k .hook-level .ensures .0) (athwart x)
-          windwardPart windward-kept (l .inv .windwards);
+          post-fits (lashes-of b) (b .pre .1 .0 .1) (l .inv) (t .loop-test .taken) (own t) (k .hook-level .ensures .0)
+          (r .hook-corner .ensures .0) (athwart x) windwardPart windward-kept (l .inv .windwards);
     })
 
 mul-windward-2 : tie.Need-mul-windward-2 Inv-loop μ-loop
 mul-windward-2 c = search needs
 
-array-write-windward : tie.Need-array-write-windward Inv-loop μ-loop
-array-write-windward c = search needs
+slice-write-windward : tie.Need-slice-write-windward Inv-loop μ-loop
+slice-write-windward c = search needs
 
 add-j : tie.Need-add-j Inv-loop μ-loop
 add-j c = search needs
@@ -201,18 +211,25 @@ loop-less c = search needs
 
 loop-again : tie.Need-loop-again Inv-loop μ-loop
 loop-again c =
-    let o = c .before .before in
+    let o = c .before .before .before .before in
     let f = figured o in
     let x = parted f in
-    let k = hooked x in
+    let r = cornered x in
+    let k = hooked r in
     let t = turn k in
     let l = t .before .loop in
     let b = start (t .before) in
     let e = o .on-posts .ensures in
-    let r = f .forces-of .ensures in
+    let q = f .forces-of .ensures in
     rw (e .0, e .1, o .before .lashing-of .ensures, add-one (l .j))
-    (figured-more (lashes-of b) (b .pre .1 .0 .1) (l .inv) (t .loop-test .taken) (own t) (k .hook-level .ensures .0) (athwart x)
-    (omega (arith, k .hook-level .ensures .2)) (r .0) (r .1 .0) (r .1 .1))
+    (figured-more (lashes-of b) (b .pre .1 .0 .1) (l .inv) (t .loop-test .taken) (own t) (k .hook-level .ensures .0)
+    (r .hook-corner .ensures .0) (athwart x) (omega (arith, r .hook-corner .ensures .1)) (q .0) (q .1 .0) (q .1 .1))
+
+same-length : tie.Need-same-length Inv-loop μ-loop
+same-length c = search needs
+
+same-length-2 : tie.Need-same-length-2 Inv-loop μ-loop
+same-length-2 c = search needs
 
 returns : tie.Need-returns Inv-loop μ-loop
 returns c =
@@ -230,6 +247,7 @@ lash-figures-spec =
     mul-l
     array-copy-out-l
     hook-level-requires
+    hook-corner-requires
     mul-athwart-part
     shared-slice-read-athwart-part
     mul-athwart-part-2
@@ -247,16 +265,18 @@ lash-figures-spec =
     mul-vertical
     array-write-vertical
     mul-lee
-    array-read-lee
+    slice-read-lee
     add-lee
     mul-lee-2
-    array-write-lee
+    slice-write-lee
     mul-windward
-    array-read-windward
+    slice-read-windward
     add-windward
     mul-windward-2
-    array-write-windward
+    slice-write-windward
     add-j
     loop-less
     loop-again
+    same-length
+    same-length-2
     returns)

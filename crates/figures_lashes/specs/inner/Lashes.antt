@@ -1,14 +1,13 @@
 -- Contracts of inner functions: what is found of an end's lashes before and after the springs are solved. Nothing here need be believed.
 use mathlib.Core.Path.{_≡_}
 use mathlib.Core.List.{List}
-use Prim.Native.Nat.{ℕ, suc, _*_, _/_, _^_, _≤_}
+use Prim.Native.Nat.{ℕ, suc, _*_, _-_, _/_, _^_, _≤_}
 use lib.Dec.{eqb}
 use lib.ListN.{getD, length}
 use Rattle.sheet.specs.declared.Lash.{Lash}
 use Rattle.sheet.specs.declared.Lashing.{Lashing}
 use Rattle.sheet.specs.declared.Lashing.the-variants.{Cross, Side}
 use Rattle.sheet.specs.Layout.{blankLash}
-use Rattle.sheet.specs.Lashings.{levelOf}
 use Rattle.statics.specs.Lashes.{lashLength}
 use Rattle.statics.specs.inner.WholeNumbers.{Filled, stiffnessOf, levelStiffness, pullFigure, athwartFigure, verticalFigure, upwards}
 
@@ -35,8 +34,13 @@ pub record LashesFigured (m : ℕ) (ls : List Lash) (d tension athwart vertical 
   pub athwart-is : Filled 8 0 m (λ j. athwartFigure d (getD ls j blankLash)) athwart
   pub vertical-is : Filled 8 0 m (λ j. verticalFigure d (getD ls j blankLash)) vertical
 
--- the vertical parts of the lashes on a post at each level
+-- corners counted from the deck up: the bottom corner of tier i is 2 i − 1 and its top corner 2 i. At level i, 2 i is the top corner of the
+-- lower box and 2 i + 1 the bottom corner of the upper box
+unfoldable pub cornerOf : Lash → ℕ
+cornerOf l = 2 * l .tier - l .hook
+
+-- the vertical parts of the lashes on a post at each corner
 pub record VerticalsOn (post : Lashing → ℕ → ℕ) (ls : List Lash) (d r : List ℕ) : Type 0 where
-  pub each : (i : ℕ) → getD r i 0 ≡ upwards post (λ l. eqb i (levelOf l)) d ls
-  pub small : (i : ℕ) → getD r i 0 ≤ 2 ^ 58
-  pub long : length r ≡ 11
+  pub each : (i : ℕ) → getD r i 0 ≡ upwards post (λ l. eqb i (cornerOf l)) d ls
+  pub small : (i : ℕ) → getD r i 0 ≤ 2 ^ 57
+  pub long : length r ≡ 22

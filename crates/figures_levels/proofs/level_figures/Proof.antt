@@ -1,6 +1,6 @@
 -- `figures_levels::level_figures`: one turn goes from a level to the level under it, with the sums of what stands above (Descent).
 use borrow.Author.Needs.{needs}
-use Prim.Native.Nat.{_<_, _-_}
+use Prim.Native.Nat.{_*_, _<_, _-_}
 use mathlib.Core.Path.{_≡_, sym, ap, _∙_}
 use native.Mathlib.Omega.{arith}
 use lib.Dec.{lit<, lit≤}
@@ -27,8 +27,8 @@ abbrev μ-loop : tie.MeasureT-loop
     i
 
 -- from the top level's parts, and from the loop, to the function's entry
-abbrev entry : tie.After-parts-of Inv-loop μ-loop → tie.Start Inv-loop μ-loop
-entry c = c .before .before .before .before .before .before .before .before .before
+abbrev entry : tie.After-parts-at Inv-loop μ-loop → tie.Start Inv-loop μ-loop
+entry c = c .before .before .before .before .before .before .before
 
 abbrev start : tie.At-loop Inv-loop μ-loop → tie.Start Inv-loop μ-loop
 start c = entry (c .before .before .before)
@@ -37,10 +37,13 @@ start c = entry (c .before .before .before)
 abbrev turn : tie.After-racking-part Inv-loop μ-loop → tie.In-loop Inv-loop μ-loop
 turn c = c .before .before .before .before .before
 
-abbrev racked : tie.After-parts-of2 Inv-loop μ-loop → tie.After-racking-part Inv-loop μ-loop
-racked c = c .before .before .before
+abbrev racked : tie.After-parts-at2 Inv-loop μ-loop → tie.After-racking-part Inv-loop μ-loop
+racked c = c .before
 
-abbrev parted : tie.After-level-under Inv-loop μ-loop → tie.After-parts-of2 Inv-loop μ-loop
+abbrev bottomed : tie.After-parts-at3 Inv-loop μ-loop → tie.After-parts-at2 Inv-loop μ-loop
+bottomed c = c .before
+
+abbrev parted : tie.After-level-under Inv-loop μ-loop → tie.After-parts-at3 Inv-loop μ-loop
 parted c = c .before .before .before
 
 -- the level under a tier of the stack
@@ -48,28 +51,19 @@ under : (c : tie.In-loop Inv-loop μ-loop) → c .before .loop .i - 1 < start (c
 under c = omega (arith, c .loop-test .taken, c .before .loop .inv .within)
 
 -- .. where its figures are stored
-room : (c : tie.After-racking-figure Inv-loop μ-loop) → turn (racked (parted (c .before))) .before .loop .i - 1 < 10
+room : (c : tie.After-parts-at3 Inv-loop μ-loop) → turn (racked (bottomed c)) .before .loop .i - 1 < 10
 room c =
-    let t = turn (racked (parted (c .before))) in
+    let t = turn (racked (bottomed c)) in
     omega (arith, under t, start (t .before) .pre .0 .few)
 
 stacked : (c : tie.Start Inv-loop μ-loop) → length (take (c .args .n) (c .args .t3)) ≡ c .args .n
 stacked c = length-take-le (c .args .n) (c .args .t3) (omega (arith, c .pre .0 .few, c .good .1 .1 .0 .1 .0 .1))
 
-mul-parts-of : tie.Need-mul-parts-of Inv-loop μ-loop
-mul-parts-of c = search needs
+mul-parts-at : tie.Need-mul-parts-at Inv-loop μ-loop
+mul-parts-at c = search needs
 
-shared-slice-read-parts-of : tie.Need-shared-slice-read-parts-of Inv-loop μ-loop
-shared-slice-read-parts-of c = search needs
-
-mul-parts-of-2 : tie.Need-mul-parts-of-2 Inv-loop μ-loop
-mul-parts-of-2 c = search needs
-
-shared-slice-read-parts-of-2 : tie.Need-shared-slice-read-parts-of-2 Inv-loop μ-loop
-shared-slice-read-parts-of-2 c = search needs
-
-parts-of-requires : tie.Need-parts-of-requires Inv-loop μ-loop
-parts-of-requires c κs = search needs
+parts-at-requires : tie.Need-parts-at-requires Inv-loop μ-loop
+parts-at-requires c κs = search needs
 
 mul-compression-of : tie.Need-mul-compression-of Inv-loop μ-loop
 mul-compression-of c = search needs
@@ -81,9 +75,9 @@ compression-of-requires : tie.Need-compression-of-requires Inv-loop μ-loop
 compression-of-requires c κs =
     let b = entry (c .before) in
     let n = b .args .n in
-    let e = c .before .parts-of .ensures in
+    let e = c .before .parts-at .ensures in
     let m = b .pre .0 in
-    (m .vmax-light n, small-pos (lit≤ tt), omega (arith, e .0, m .lee-small n), omega (arith, e .1, m .windward-small n))
+    (m .vmax-light n, small-pos (lit≤ tt), omega (arith, e .0, m .lee-small (2 * n)), omega (arith, e .1, m .windward-small (2 * n)))
 
 mul-compression : tie.Need-mul-compression Inv-loop μ-loop
 mul-compression c = search needs
@@ -96,7 +90,7 @@ unfolding leeFound windwardFound
 loop-holds c =
     let p = c .before .before in
     let b = entry p in
-    let e = p .parts-of .ensures in
+    let e = p .parts-at .ensures in
     rw (e .0, e .1) (at-top (b .pre .0) (stacked b) (simp (e .0, e .1) at (c .compression-of .ensures)))
 
 mul-upper : tie.Need-mul-upper Inv-loop μ-loop
@@ -133,37 +127,41 @@ racking-part-requires c κs =
     let l = a .loop in
     (m .springs (l .i - 1) (omega (arith, l .inv .within)), m .shifts (l .i), m .shifts (l .i - 1))
 
-mul-parts-of-3 : tie.Need-mul-parts-of-3 Inv-loop μ-loop
-mul-parts-of-3 c = search needs
+mul-parts-at-2 : tie.Need-mul-parts-at-2 Inv-loop μ-loop
+mul-parts-at-2 c = search needs
 
-shared-slice-read-parts-of-3 : tie.Need-shared-slice-read-parts-of-3 Inv-loop μ-loop
-shared-slice-read-parts-of-3 c = search needs
+add-parts-at : tie.Need-add-parts-at Inv-loop μ-loop
+add-parts-at c = search needs
 
-mul-parts-of-4 : tie.Need-mul-parts-of-4 Inv-loop μ-loop
-mul-parts-of-4 c = search needs
+parts-at-requires-2 : tie.Need-parts-at-requires-2 Inv-loop μ-loop
+parts-at-requires-2 c κs = search needs
 
-shared-slice-read-parts-of-4 : tie.Need-shared-slice-read-parts-of-4 Inv-loop μ-loop
-shared-slice-read-parts-of-4 c = search needs
+mul-parts-at-3 : tie.Need-mul-parts-at-3 Inv-loop μ-loop
+mul-parts-at-3 c = search needs
 
-parts-of-requires-2 : tie.Need-parts-of-requires-2 Inv-loop μ-loop
-parts-of-requires-2 c κs = search needs
+parts-at-requires-3 : tie.Need-parts-at-requires-3 Inv-loop μ-loop
+parts-at-requires-3 c κs = search needs
 
 mul-level-under : tie.Need-mul-level-under Inv-loop μ-loop
 mul-level-under c = search needs
 
 shared-slice-read-level-under : tie.Need-shared-slice-read-level-under Inv-loop μ-loop
-shared-slice-read-level-under c = search needs
+shared-slice-read-level-under c =
+    let b = start (turn (racked (bottomed (c .before))) .before) in
+    search (needs, room (c .before), b .pre .1 .2)
 
 mul-level-under-2 : tie.Need-mul-level-under-2 Inv-loop μ-loop
-mul-level-under-2 c = search needs
+mul-level-under-2 c = search (needs, room (c .before))
 
 shared-slice-read-level-under-2 : tie.Need-shared-slice-read-level-under-2 Inv-loop μ-loop
-shared-slice-read-level-under-2 c = search needs
+shared-slice-read-level-under-2 c =
+    let b = start (turn (racked (bottomed (c .before .before))) .before) in
+    search (needs, room (c .before .before), b .pre .1 .3)
 
 level-under-requires : tie.Need-level-under-requires Inv-loop μ-loop
 level-under-requires c κs =
     let o = c .before .before in
-    let r = racked o in
+    let r = racked (bottomed o) in
     let t = turn r in
     let l = t .before .loop in
     let b = start (t .before) in
@@ -172,36 +170,45 @@ level-under-requires c κs =
     let w = under t in
     let p = r .racking-part .ensures .1 in
     let height = rw (getD-take (b .args .n) (b .args .t3) j blankTier w) at (m .heights j w) in
-    let e = o .parts-of2 .ensures in (
+    let e = bottomed o .parts-at2 .ensures in
+    let f = o .parts-at3 .ensures in (
       (small-weaken (l .inv .moment-small) (omega (arith, m .few)), rw (held p (lit< tt)) p, height),
       (
         (omega (arith, l .inv .lees-small, m .few), omega (arith, l .inv .windwards-small, m .few)),
-        (omega (arith, e .0, m .lee-small j), omega (arith, e .1, m .windward-small j), m .vmax-light j, m .vmin-light j),
+        (
+          (
+            rw (e .0) (m .lee-small _),
+            rw (e .1) (m .windward-small _),
+            rw (f .0) (m .lee-small _),
+            rw (f .1) (m .windward-small _),
+          ),
+          (m .vmax-light j, m .vmin-light j),
+        ),
       ),
     )
 
 racking-figure-requires : tie.Need-racking-figure-requires Inv-loop μ-loop
 racking-figure-requires c κs =
-    let p = racked (parted c) .racking-part .ensures .1 in
+    let p = racked (bottomed (parted c)) .racking-part .ensures .1 in
     rw (held p (lit< tt)) p
 
 mul-racking : tie.Need-mul-racking Inv-loop μ-loop
-mul-racking c = search (needs, room c)
+mul-racking c = search (needs, room (parted (c .before)))
 
 array-set-from-racking : tie.Need-array-set-from-racking Inv-loop μ-loop
-array-set-from-racking c = search (needs, room c)
+array-set-from-racking c = search (needs, room (parted (c .before)))
 
 mul-compression-2 : tie.Need-mul-compression-2 Inv-loop μ-loop
-mul-compression-2 c = search (needs, room c)
+mul-compression-2 c = search (needs, room (parted (c .before)))
 
 array-write-compression-2 : tie.Need-array-write-compression-2 Inv-loop μ-loop
-array-write-compression-2 c = search (needs, room c)
+array-write-compression-2 c = search (needs, room (parted (c .before)))
 
 mul-tension : tie.Need-mul-tension Inv-loop μ-loop
-mul-tension c = search (needs, room c)
+mul-tension c = search (needs, room (parted (c .before)))
 
 array-write-tension : tie.Need-array-write-tension Inv-loop μ-loop
-array-write-tension c = search (needs, room c)
+array-write-tension c = search (needs, room (parted (c .before)))
 
 loop-less : tie.Need-loop-less Inv-loop μ-loop
 loop-less c = search needs
@@ -210,15 +217,16 @@ loop-again : tie.Need-loop-again Inv-loop μ-loop
 loop-again c =
     let u = c .before .before in
     let o = parted u in
-    let r = racked o in
+    let r = racked (bottomed o) in
     let t = turn r in
     let l = t .before .loop in
     let b = start (t .before) in
     let p = r .racking-part .ensures in
     let h = held (p .1) (lit< tt) in
     let g = c .before .racking-figure in
-    let q = o .parts-of2 .ensures in
-    let e = simp (h, q .0, q .1) at (u .level-under .ensures) in
+    let q = bottomed o .parts-at2 .ensures in
+    let s = o .parts-at3 .ensures in
+    let e = simp (h, q .0, q .1, s .0, s .1) at (u .level-under .ensures) in
     let w = under t in
     turned-once
     (b .pre .0)
@@ -245,11 +253,8 @@ level-figures-spec =
     (tie.spec
     Inv-loop
     μ-loop
-    mul-parts-of
-    shared-slice-read-parts-of
-    mul-parts-of-2
-    shared-slice-read-parts-of-2
-    parts-of-requires
+    mul-parts-at
+    parts-at-requires
     mul-compression-of
     shared-slice-read-compression-of
     compression-of-requires
@@ -266,11 +271,11 @@ level-figures-spec =
     mul-racking-part-2
     shared-slice-read-racking-part-2
     racking-part-requires
-    mul-parts-of-3
-    shared-slice-read-parts-of-3
-    mul-parts-of-4
-    shared-slice-read-parts-of-4
-    parts-of-requires-2
+    mul-parts-at-2
+    add-parts-at
+    parts-at-requires-2
+    mul-parts-at-3
+    parts-at-requires-3
     mul-level-under
     shared-slice-read-level-under
     mul-level-under-2

@@ -1,5 +1,6 @@
 -- `figures_levels::level_under`: moment, posts and figures of the level, each by the function that finds it.
 use mathlib.Core.Path.{refl}
+use native.Mathlib.Omega.{arith}
 use lib.Dec.{lit<}
 use Rattle.statics.specs.inner.WholeNumbers.{leeFound, windwardFound}
 use Rattle.figures_levels.proofs.Words.{held}
@@ -13,22 +14,36 @@ moment-under-requires c κs = search needs
 couple-of-requires : tie.Need-couple-of-requires
 couple-of-requires c κs = search needs
 
-add-t11 : tie.Need-add-t11
-add-t11 c = search needs
+add-t13 : tie.Need-add-t13
+add-t13 c = search needs
 
-add-t12 : tie.Need-add-t12
-add-t12 c = search needs
+add-t14 : tie.Need-add-t14
+add-t14 c = search needs
+
+add-t13-2 : tie.Need-add-t13-2
+add-t13-2 c = search needs
+
+add-t14-2 : tie.Need-add-t14-2
+add-t14-2 c = search needs
 
 compression-of-requires : tie.Need-compression-of-requires
-compression-of-requires c κs = search needs
+compression-of-requires c κs =
+    let over = c .before .before .before .before .before .before .before .before in
+    let p = over .before .before .before .before .pre in
+    let l = over .before .couple-of .ensures .1 in
+    (omega (arith, p .1 .1 .1), rw (held l (lit< tt)) l, omega (arith, p .1 .0, p .1 .1 .0), omega (arith, p .1 .0, p .1 .1 .0))
 
 tension-of-requires : tie.Need-tension-of-requires
-tension-of-requires c κs = search needs
+tension-of-requires c κs =
+    let over = c .before .before .before .before .before .before .before .before .before in
+    let p = over .before .before .before .before .pre in
+    let l = over .before .couple-of .ensures .1 in
+    (omega (arith, p .1 .1 .1), rw (held l (lit< tt)) l, omega (arith, p .1 .0, p .1 .1 .0), omega (arith, p .1 .0, p .1 .1 .0))
 
 returns : tie.Need-returns
 unfolding leeFound windwardFound
 returns c =
-    let posts = c .before .before .before .before .before .before in
+    let posts = c .before .before .before .before .before .before .before .before .before .before in
     let entry = posts .before .before .before .before in
     let m = posts .before .before .moment-under .ensures in
     let l = posts .before .couple-of .ensures in
@@ -44,8 +59,10 @@ level-under-spec =
     (tie.spec
     moment-under-requires
     couple-of-requires
-    add-t11
-    add-t12
+    add-t13
+    add-t14
+    add-t13-2
+    add-t14-2
     compression-of-requires
     tension-of-requires
     returns)

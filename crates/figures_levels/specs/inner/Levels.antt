@@ -2,7 +2,7 @@
 use mathlib.Core.Path.{_≡_}
 use mathlib.Core.Bool.{cond}
 use mathlib.Core.List.{List, [], _∷_}
-use Prim.Native.Nat.{ℕ, suc, _+_, _^_, _<_, _≤_}
+use Prim.Native.Nat.{ℕ, suc, _+_, _*_, _^_, _<_, _≤_}
 use lib.ListN.{drop, take, getD, length}
 use lib.IntN.{ℤ, pos, _+ℤ_, _-ℤ_}
 use lib.Signed.{ltZ}
@@ -27,7 +27,8 @@ leeOf weight couple parts = pos weight +ℤ couple +ℤ pos (parts .lee)
 abbrev pub windwardOf : ℕ → ℤ → PostParts → ℤ
 windwardOf weight couple parts = pos weight -ℤ couple +ℤ pos (parts .windward)
 
--- what the figures of the levels are computed from: vmax and vmin are half of V, with A_Vmax and A_Vmin
+-- what the figures of the levels are computed from: vmax and vmin are half of V, with A_Vmax and A_Vmin; lee and windward the vertical
+-- parts by corner, of which 2 i and 2 i + 1 lie at level i (figures_lashes, `cornerOf`)
 pub record LevelInputs (n : ℕ) (k : List ℕ) (ts : List Tier) (d vmax vmin lee windward : List ℕ) : Type 0 where
   pub few : n ≤ 10
   pub springs : (i : ℕ) → i < n → getD k i 0 ≤ closedSpring
@@ -35,10 +36,10 @@ pub record LevelInputs (n : ℕ) (k : List ℕ) (ts : List Tier) (d vmax vmin le
   pub shifts : (i : ℕ) → getD d i 0 ≤ 2 ^ 40
   pub vmax-light : (i : ℕ) → getD vmax i 0 ≤ 2 ^ 40
   pub vmin-light : (i : ℕ) → getD vmin i 0 ≤ 2 ^ 40
-  pub lee-small : (i : ℕ) → getD lee i 0 ≤ 2 ^ 58
-  pub windward-small : (i : ℕ) → getD windward i 0 ≤ 2 ^ 58
-  pub lee-long : length lee ≡ 11
-  pub windward-long : length windward ≡ 11
+  pub lee-small : (i : ℕ) → getD lee i 0 ≤ 2 ^ 57
+  pub windward-small : (i : ℕ) → getD windward i 0 ≤ 2 ^ 57
+  pub lee-long : length lee ≡ 22
+  pub windward-long : length windward ≡ 22
 
 module _ (n : ℕ) (k : List ℕ) (ts : List Tier) (d vmax vmin lee windward : List ℕ) where
   abbrev pub compressionAt : ℕ → ℕ
@@ -46,16 +47,16 @@ module _ (n : ℕ) (k : List ℕ) (ts : List Tier) (d vmax vmin lee windward : L
       compressionFrom
       (getD vmax i 0)
       (momentPart k d (drop i ts) i)
-      (total (drop i (take (suc n) lee)))
-      (total (drop i (take (suc n) windward)))
+      (total (drop (2 * i) (take (suc (2 * n)) lee)))
+      (total (drop (2 * i) (take (suc (2 * n)) windward)))
 
   abbrev pub tensionAt : ℕ → ℕ
   tensionAt i =
       tensionFrom
       (getD vmin i 0)
       (momentPart k d (drop i ts) i)
-      (total (drop (suc i) (take (suc n) lee)))
-      (total (drop (suc i) (take (suc n) windward)))
+      (total (drop (suc (2 * i)) (take (suc (2 * n)) lee)))
+      (total (drop (suc (2 * i)) (take (suc (2 * n)) windward)))
 
   pub record LevelsFigured (racking : List ℤ) (compression tension : List ℕ) : Type 0 where
     pub racking-is : Filled 10 (pos 0) n (λ i. rackingFigure (rackingPart (getD k i 0) d i)) racking
