@@ -8,7 +8,6 @@ from sheets.sheet import CROSS, MOST_LASHES, MOST_TIERS, SIDE, TOP, Head, Sheet,
 
 KIND_SHEETS = 400
 GROWTH_SHEETS = 100
-HEAD = Head(1, 0, 1, 0, 500_000)
 LASHED_TIERS = 4  # lashes of the growing groups reach this high
 FIXED_PLACES = [(1, TOP, CROSS), (1, TOP, SIDE)]
 
@@ -27,7 +26,7 @@ def with_lashes(random, tier_count, door, closed):
         tuple(samples.realistic_lash(random, tiers, 0, place, 490, 1) for place in places)
         for places in (door, closed)
     ]
-    return Sheet(HEAD, tiers, *ends)
+    return Sheet(Head(samples.rule(random), 0, 1, 0, 500_000), tiers, *ends)
 
 
 def tall(random, count):

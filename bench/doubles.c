@@ -17,7 +17,7 @@ struct lash {
 };
 
 struct sheet {
-    int route, lock, tiers;
+    int rule, route, lock, tiers;
     uint32_t breaking;
     struct tier tier[TIERS];
     int lashes[2];
@@ -103,10 +103,11 @@ static uint64_t decode(const uint8_t *s, size_t len, struct sheet *out)
     size_t at;
     if (len < 8)
         return refused(1, len);
+    out->rule = s[0];
     out->route = s[1];
     out->lock = s[2];
     out->breaking = le4(s + 4);
-    if (s[0] != 1 || s[3] != 0)
+    if (out->rule < 1 || out->rule > 2 || s[3] != 0)
         return refused(3, 0);
     if (out->route > 12)
         return refused(4, 1);
@@ -132,14 +133,14 @@ struct loads {
 
 static void find_loads(const struct sheet *t, struct loads *w)
 {
-    double above = 0;
+    double above = 0, share = t->rule == 2 ? 0.5 : 0.45;
     w->half_max[t->tiers] = w->half_min[t->tiers] = 0;
     for (int i = t->tiers - 1; i >= 0; i--) {
         const struct tier *b = &t->tier[i];
         double W = b->mass * 9.81, length = b->size == 20 ? 6.058 : 12.192;
         w->F[i] = 0.5 * W * b->at / 1000 * route_percent[t->route] / 100;
         w->P[i] = b->wind % 2 ? 0.5 * 1080 * length * b->height / 1000 : 0;
-        w->Q[i] = 0.45 * w->F[i] + 0.5 * w->P[i] + above;
+        w->Q[i] = share * w->F[i] + 0.5 * w->P[i] + above;
         above += w->F[i] + w->P[i];
         w->half_max[i] = w->half_max[i + 1] + 0.25 * W * b->avmax / 1000;
         w->half_min[i] = w->half_min[i + 1] + 0.25 * W * b->avmin / 1000;

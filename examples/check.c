@@ -19,7 +19,7 @@ static const struct {
 } refusals[] = {
     [LASH_SHORT] = {"too few bytes remain for the head, count or entry due next", "the sheet's length"},
     [LASH_SPARE] = {"bytes follow the last entry", "offset of the first spare byte"},
-    [LASH_RULE] = {"rule number or zero byte not as it must be", "offset of the rule number"},
+    [LASH_RULE] = {"rule number not 1 or 2, or the zero byte not zero", "offset of the rule number"},
     [LASH_ROUTE] = {"route above 12", "offset of the route"},
     [LASH_LOCK] = {"lock material or its breaking load outside its codes or limits", "offset of the material"},
     [LASH_TIER_COUNT] = {"tier count 0 or above 10", "offset of the count"},

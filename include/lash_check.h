@@ -14,9 +14,9 @@
 extern "C" {
 #endif
 
-/* The version of the header and of the library built beside it; the text is LASH_VERSION, as "0.4.0". */
+/* The version of the header and of the library built beside it; the text is LASH_VERSION, as "0.5.0". */
 #define LASH_VERSION_MAJOR 0
-#define LASH_VERSION_MINOR 4
+#define LASH_VERSION_MINOR 5
 #define LASH_VERSION_PATCH 0
 #define LASH_TEXT_(number) #number
 #define LASH_TEXT(number) LASH_TEXT_(number)
@@ -33,7 +33,7 @@ enum lash_number {
     LASH_TAKEN = 0,       /* the answer's length */
     LASH_SHORT = 1,       /* the sheet's length: too few bytes remain for the head, count or entry due next */
     LASH_SPARE = 2,       /* offset of the first spare byte: bytes follow the last entry */
-    LASH_RULE = 3,        /* 0: rule number not 1, or the zero byte not zero */
+    LASH_RULE = 3,        /* 0: rule number not 1 or 2, or the zero byte not zero */
     LASH_ROUTE = 4,       /* 1: route above 12 */
     LASH_LOCK = 5,        /* 2: lock material above 2, or its breaking load outside the limits */
     LASH_TIER_COUNT = 6,  /* 8: tier count 0 or above 10 */

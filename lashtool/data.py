@@ -1,6 +1,6 @@
 """The report as plain data for JSON."""
 
-from lashtool.fields import ENDS, LASH_FIELDS, LOCK_FIELDS, ROUTES, TIER_FIELDS, lash_place, word
+from lashtool.fields import ENDS, LASH_FIELDS, LOCK_FIELDS, ROUTES, RULES, TIER_FIELDS, lash_place, word
 from lashtool.figures import KEPT
 from lashtool.geometry import RACKING_STIFFNESS, foot_height, foot_out, lash_length, level_height
 from lashtool.words import (
@@ -36,6 +36,7 @@ def stack_data(outcome):
     head = sheet.head
     return {
         "rule": head.rule,
+        "rule_name": RULES[head.rule],
         "route": {"number": head.route, "name": ROUTES[head.route], "A_T_percent": ROUTE_PERCENT[head.route]},
         "lock": {
             "material": word(LOCK_FIELDS, head, "lock_material"),

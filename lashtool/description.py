@@ -147,7 +147,8 @@ def checked(where, field, value):
             raise BadDescription(f"{where}: {field.name} is {shown(value)}; it has to be {field.allowed()}")
         return value
     if type(value) is not int:
-        raise BadDescription(f"{where}: {field.name} is {shown(value)}; it has to be a whole number")
+        numbers = f", {field.allowed()}" if field.choices else ""
+        raise BadDescription(f"{where}: {field.name} is {shown(value)}; it has to be a whole number{numbers}")
     if field.choices:
         if value not in field.choices:
             raise BadDescription(f"{where}: {field.name} {shown(value)} has to be {field.allowed()}")

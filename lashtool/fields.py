@@ -43,10 +43,13 @@ class Field:
 G = "thousandths of g"
 ALL_HEIGHTS = tuple(sorted({height for heights in HEIGHTS.values() for height in heights}))
 ENDS = ("door", "closed")
+CLASS_RULE, FLEET_STANDARD = 1, 2
+RULES = {CLASS_RULE: "class rule", FLEET_STANDARD: "fleet standard"}
 BOTH_ENDS = len(ENDS)
 
 HEAD_FIELDS = (
-    Field("rule", "rule", "rule number", 1, choices=(1,)),
+    Field("rule", "rule", "1 class rule: a box's centre at 45% of its height; 2 fleet standard: at half", CLASS_RULE,
+          choices=tuple(RULES)),
     Field("route", "route", "route of CR 5.2.4(c); its factor reduces A_T", 0, HEAD_LIMITS["route"]),
 )
 LOCK_FIELDS = (
@@ -120,6 +123,7 @@ MEANT = {
     "swl": "breaking_load",
     "e": "modulus",
     "youngs_modulus": "modulus",
+    "standard": "rule",
 }
 
 

@@ -14,11 +14,12 @@ from lashtool.colour import wanted
 from lashtool.data import as_data
 from lashtool.description import BadDescription, describe
 from lashtool.ending import ACCEPTED, BAD_INPUT, FAILED, NOT_ACCEPTED, complain, reason, say
+from lashtool.fields import CLASS_RULE
 from lashtool.figures import result
 from lashtool.refusals import explain
 from lashtool.sources import STREAM, Source, misuse, read, several, sources
 from lashtool.template import template
-from lashtool.words import KIND_WORDS, warnings, where
+from lashtool.words import KIND_WORDS, rule_words, warnings, where
 from sheets.sheet import Refused, pack
 
 HELP = (
@@ -139,8 +140,9 @@ def line(stack, width):
     words = f"{str(stack.source):{width}}  {VERDICTS[stack.status].upper():12}"
     if not stack.report:
         return f"{words} {'-':>9}  {' '.join(stack.message.split())}"
-    worst = stack.report.worst()
-    return f"{words} {worst.used_text:>9}  {KIND_WORDS[worst.kind]}, {where(stack.report, worst)}"
+    worst, head = stack.report.worst(), stack.report.sheet.head
+    rule = "" if head.rule == CLASS_RULE else f"; {rule_words(head)}"
+    return f"{words} {worst.used_text:>9}  {KIND_WORDS[worst.kind]}, {where(stack.report, worst)}{rule}"
 
 
 def many(options, check):

@@ -63,8 +63,8 @@ def head_of(data):
 
 def wrong_rule(data, second):
     head = head_of(data)
-    if head.rule != 1:
-        return f"the head: rule {head.rule} is not known; it has to be 1"
+    if outside(head, HEAD_LIMITS, "rule"):
+        return f"the head: rule {head.rule} is not known; it has to be {field(HEAD_FIELDS, 'rule').allowed()}"
     return f"the head: byte 3 is {head.zero}; it has to be 0"
 
 

@@ -9,7 +9,7 @@ from lashtool.figures import CALM, LASH_KINDS, OVER, greatest
 from lashtool.geometry import foot_height, lash_length
 from lashtool.words import (
     KIND_WORDS, NOT_CHECKED, PAD_WORDS, assumed_words, ends_words, force_words, lock_words, route_words,
-    stack_words, stiffness_words, verdict_words, warnings, way_words, where, worst_words,
+    rule_notes, stack_words, stiffness_words, verdict_words, warnings, way_words, where, worst_words,
 )
 from sheets.limits import (
     COMPRESSION, COMPRESSION_LIMIT, CORNER, CORNER_LIMIT, LASH_ATHWART_LIMIT, LASH_VERTICAL_LIMIT, LOCK, RACKING,
@@ -197,6 +197,7 @@ def force_rows(outcome, end):
 def notes(outcome):
     """How to read the figures."""
     texts = [
+        *rule_notes(outcome.sheet.head),
         "Forces in N. Level 0 is the deck, level i the top of tier i; compression on the deck is reported only. "
         "Racking is to leeward unless marked.",
         "used: share of the limit, rounded up to a tenth of a percent; the bar is of the row's greatest: "

@@ -5,7 +5,7 @@ from textwrap import wrap
 from lashtool.drawing import INK
 from lashtool.report import lash_rows, tier_rows
 from lashtool.svg_style import BOLD, FAINT
-from lashtool.words import NOT_CHECKED, PAD_WORDS, assumed_words, warnings
+from lashtool.words import NOT_CHECKED, PAD_WORDS, assumed_words, rule_notes, warnings
 
 ROW = 16
 LETTER = 6.2  # the width of a letter on average, which text is folded by
@@ -48,6 +48,8 @@ def page_notes(outcome):
         yield f"Warning: {warning}", BOLD
     if outcome.assumed:
         yield f"{assumed_words(outcome)}.".replace("not given", "Not given", 1), {}
+    for note in rule_notes(outcome.sheet.head):
+        yield note, {}
     yield (
         "Percent: share of the limit used, rounded up; for a lash of whichever of tension, vertical and athwart part uses "
         "most, for a tension at a level of the lower limit, corner or lock. Compression on the deck has no limit. "

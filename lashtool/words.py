@@ -1,6 +1,6 @@
 """A stack, its figures, findings and warnings in words."""
 
-from lashtool.fields import ENDS, LOCK_FIELDS, ROUTES, lash_place, word
+from lashtool.fields import ENDS, FLEET_STANDARD, LOCK_FIELDS, ROUTES, RULES, lash_place, word
 from lashtool.figures import KEPT
 from lashtool.geometry import RACKING_STIFFNESS, far_feet, level_height
 from sheets.limits import (
@@ -31,6 +31,12 @@ PAD_WORDS = (
     "so small a figure may stand for no force at all."
 )
 
+FLEET_WORDS = (
+    "Rule 2 is the fleet standard, one operator's own book, and not the class rule: a box's centre lies at half its height, and its "
+    "transverse force F is shared half and half between its top and its bottom. The class rule takes 45% of the height, and "
+    "45% of F on the top. All else is the same."
+)
+
 
 def counted(number, noun):
     return f"{number} {noun}" if number == 1 else f"{number} {noun}s"
@@ -50,8 +56,17 @@ def stack_words(sheet):
     return f"{tiers} of {sheet.tiers[0].size} feet, {mass:,} kg, {height:,} mm high"
 
 
+def rule_words(head):
+    return f"rule {head.rule} ({RULES[head.rule]})"
+
+
+def rule_notes(head):
+    """What a rule other than the class rule takes otherwise, in words."""
+    return [FLEET_WORDS] if head.rule == FLEET_STANDARD else []
+
+
 def route_words(head):
-    return f"rule {head.rule}; route {head.route}, {ROUTES[head.route]}: A_T x {ROUTE_PERCENT[head.route] / 100:.2f}"
+    return f"{rule_words(head)}; route {head.route}, {ROUTES[head.route]}: A_T x {ROUTE_PERCENT[head.route] / 100:.2f}"
 
 
 def lock_safe_load(head):

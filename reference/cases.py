@@ -1,6 +1,6 @@
 #!/usr/bin/env python3
 """Prints named sheets and what must come out of each: document 01's list and its plausible slips, and 02's turned boxes (P1),
-safe loads (P3) and bottom hooks (P4).
+safe loads (P3), bottom hooks (P4) and fleet standard (P10).
 
 A case is a block of lines, ended by an empty one:
 
@@ -233,7 +233,24 @@ HOOKED = [
     Case("hooked-each-level", "bottom hooks at levels 1 to 4", stack([LIFTING] * 5, ON_BOTTOMS, ON_BOTTOMS)),
 ]
 
-CASES = RUN_BY_A_PROGRAM + FIGURES + SLIPS + ORDER + KILONEWTONS + TURNED + HOOKED
+FLEET = [
+    Case("fleet-a-c", "(a) and (c) by rule 2: B alone", stack([B], rule=2)),
+    Case("fleet-b", "(b) by rule 2: two B", stack([B, B], rule=2)),
+    Case("fleet-d", "(d) by rule 2: B with S at level 1", stack([B], [rod()], [rod()], rule=2)),
+    Case("fleet-e", "(e) by rule 2: a light box pulled back", stack([B, box(mass=2_000)], [rod(2)], rule=2)),
+    Case("fleet-wind", "the wind stays half and half", stack([box(wind=1), box(wind=1)], rule=2)),
+    Case("fleet-eight-high", "wind, four rods an end, by rule 2", stack(EIGHT_HIGH, rods(4), rods(4), rule=2)),
+    Case(
+        "fleet-turned",
+        "by rule 2, every other box turned, on a route",
+        stack([replace(tier, wind=2 * (i % 2)) for i, tier in enumerate(EIGHT_HIGH)], rods(4), rods(4), rule=2, route=7),
+    ),
+    Case("rule-0", "no rule has number 0", stack([B], rule=0)),
+    Case("rule-3", "nor 3", stack([B], rule=3)),
+    Case("rule-255", "nor the greatest number of a byte", stack([B], rule=255)),
+]
+
+CASES = RUN_BY_A_PROGRAM + FIGURES + SLIPS + ORDER + KILONEWTONS + TURNED + HOOKED + FLEET
 
 
 def reported_range(kind, force):

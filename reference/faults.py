@@ -9,7 +9,7 @@ from sheets.sheet import (
     MOST_TIERS, SIDE, TIER, TIER_LIMITS, TOP, pack,
 )
 
-BYTE_FIELDS = ("route", "lock_material", "wind", "hook", "kind", "material")
+BYTE_FIELDS = ("rule", "route", "lock_material", "wind", "hook", "kind", "material")
 LONG_FIELDS = ("lock_breaking", "modulus", "breaking")
 FIRST, SECOND, LAST = 0, 1, -1
 
@@ -60,9 +60,7 @@ def lashed(sheet, end, places):
 
 
 def head_edges():
-    for name, value in [("rule", 0), ("rule", 1), ("rule", 2), ("rule", 255), ("zero", 1), ("zero", 255)]:
-        yield f"head {name} {value}", lambda s, n=name, v=value: edit_head(s, **{n: v})
-    for name, value in limit_values(HEAD_LIMITS):
+    for name, value in [*limit_values(HEAD_LIMITS), ("zero", 1), ("zero", 255)]:
         yield f"head {name} {value}", lambda s, n=name, v=value: edit_head(s, **{n: v})
 
 
@@ -129,8 +127,11 @@ def tall(sheet, count):
 def order_of_tests():
     """Two faults in one item, where the lower number comes first."""
     yield "3 before 4", lambda s: edit_head(s, zero=1, route=13)
-    yield "3 before 5", lambda s: edit_head(s, rule=2, lock_material=3)
-    yield "4 before 5", lambda s: edit_head(s, route=13, lock_breaking=0)
+    for rule in (0, 3):
+        yield "3 before 4", lambda s, r=rule: edit_head(s, rule=r, route=13)
+        yield "3 before 5", lambda s, r=rule: edit_head(s, rule=r, lock_material=3)
+    for rule in (1, 2):
+        yield "4 before 5", lambda s, r=rule: edit_head(s, rule=r, route=13, lock_breaking=0)
     other = {20: 40, 40: 20}
     for name, value in (("mass", 0), ("wind", 4), ("a_t", 1_501), ("height", 2_895)):
         yield "7 before 8", lambda s, n=name, v=value: edit_tier(

@@ -36,6 +36,11 @@ def bottom_hooks(sheet):
 BOTTOM_HOOKS = {(level, kind, above) for level in range(1, MOST_TIERS) for kind in (CROSS, SIDE) for above in (False, True)}
 
 
+def rule(random):
+    """Either rule number, as often."""
+    return random.randint(*HEAD_LIMITS["rule"])
+
+
 def turns(random, count):
     """For each tier 2 where its box stands turned, else 0: none, all, every other one, or any of them."""
     mixed = [random.choice((0, 2)) for _ in range(count)]
@@ -51,7 +56,7 @@ def realistic(random):
     tiers = realistic_tiers(random, size, count)
     door = realistic_lashes(random, tiers)
     closed = door if random.random() < 0.7 else realistic_lashes(random, tiers)
-    head = Head(1, random.choice((0, random.randint(0, 12))), random.choice((1, 1, 0, 2)), 0, 500_000)
+    head = Head(rule(random), random.choice((0, random.randint(0, 12))), random.choice((1, 1, 0, 2)), 0, 500_000)
     return Sheet(head, tiers, door, closed)
 
 
@@ -99,7 +104,7 @@ def extreme(random):
     count = random.choice((1, 2, 3, MOST_TIERS, MOST_TIERS, random.randint(1, MOST_TIERS)))
     tiers = tuple(extreme_tier(random, size) for _ in range(count))
     head = Head(
-        1, random.randint(0, 12), random.randint(0, 2), 0, corner(random, HEAD_LIMITS, "lock_breaking")
+        rule(random), random.randint(0, 12), random.randint(0, 2), 0, corner(random, HEAD_LIMITS, "lock_breaking")
     )
     return Sheet(head, tiers, extreme_lashes(random, count), extreme_lashes(random, count))
 
@@ -251,7 +256,7 @@ def heavy(random):
     ]
     tiers[0] = replace(tiers[0], a_t=random.randint(20, 60), a_vmax=60, a_vmin=random.randint(0, 60))
     lashes = random.choice((realistic_lashes, lambda random, tiers: extreme_lashes(random, len(tiers))))
-    head = Head(1, random.randint(0, 12), random.randint(0, 2), 0, random.randint(100_000, 2_000_000))
+    head = Head(rule(random), random.randint(0, 12), random.randint(0, 2), 0, random.randint(100_000, 2_000_000))
     return Sheet(head, tuple(tiers), lashes(random, tiers), lashes(random, tiers))
 
 

@@ -1,4 +1,6 @@
-"""One stack in fractions: loads, springs and forces as document 01 writes them, with 02's turned boxes (P1) and bottom hooks (P4)."""
+"""One stack in fractions: loads, springs and forces as document 01 writes them, with 02's turned boxes (P1), bottom hooks (P4)
+and fleet standard (P10).
+"""
 
 from dataclasses import dataclass
 from fractions import Fraction
@@ -12,7 +14,7 @@ GRAVITY = 981  # hundredths of m/s²
 WIND_PRESSURE = 1080  # N/m²
 SQUARE_METRE = 1_000_000  # mm²
 BOX_LENGTH = {20: 6058, 40: 12192}  # mm, by feet
-SHARE_TO_TOP = 45  # percent of F to the box's own top; the centre's height in the box
+SHARE_TO_TOP = {1: 45, 2: 50}  # by rule number, percent of F to the box's own top; the centre's height in the box
 RACKING_STIFFNESS = {DOOR: 3730, CLOSED: 15690}  # K of a box at its door end and its closed end, N/mm
 POST_SPACING = 2259  # mm
 
@@ -51,28 +53,28 @@ class Loads:
 
 
 def loads(sheet):
-    tiers, route = sheet.tiers, sheet.head.route
+    tiers, route, share = sheet.tiers, sheet.head.route, SHARE_TO_TOP[sheet.head.rule]
     f, p = [transverse(tier, route) for tier in tiers], [wind(tier) for tier in tiers]
     levels = range(len(tiers) + 1)
     return Loads(
-        tuple(racking_load(f, p, index) for index in range(len(tiers))),
-        tuple(load_moment(tiers, f, p, level) for level in levels),
+        tuple(racking_load(f, p, index, share) for index in range(len(tiers))),
+        tuple(load_moment(tiers, f, p, level, share) for level in levels),
         tuple(sum(vertical(tier, tier.a_vmax) for tier in tiers[level:]) for level in levels),
         tuple(sum(vertical(tier, tier.a_vmin) for tier in tiers[level:]) for level in levels),
     )
 
 
-def racking_load(f, p, index):
-    """Q of a tier: 0.45 F + 0.5 P of its own, F + P of every tier above."""
-    return SHARE_TO_TOP * f[index] // PERCENT + p[index] // 2 + sum(f[index + 1 :]) + sum(p[index + 1 :])
+def racking_load(f, p, index, share):
+    """Q of a tier: its share of F (0.45, by rule 2 0.5) and 0.5 P of its own, F + P of every tier above."""
+    return share * f[index] // PERCENT + p[index] // 2 + sum(f[index + 1 :]) + sum(p[index + 1 :])
 
 
-def load_moment(tiers, f, p, level):
-    """F at 45% and P at half of the height of its tier, about a level below."""
+def load_moment(tiers, f, p, level, share):
+    """F at its share (45%, by rule 2 half) and P at half of the height of its tier, about a level below."""
     total, bottom = 0, 0
     for index in range(level, len(tiers)):
         height = tiers[index].height
-        total += f[index] * (PERCENT * bottom + SHARE_TO_TOP * height) // PERCENT + p[index] * (2 * bottom + height) // 2
+        total += f[index] * (PERCENT * bottom + share * height) // PERCENT + p[index] * (2 * bottom + height) // 2
         bottom += height
     return total
 

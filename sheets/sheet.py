@@ -24,7 +24,7 @@ HEIGHTS = {20: (2438, 2591), 40: (2591, 2896)}
 ROUTE_PERCENT = (100, 87, 96, 95, 94, 100, 95, 73, 86, 90, 90, 73, 87)
 
 # Least and greatest value of each field that has a range.
-HEAD_LIMITS = {"route": (0, 12), "lock_material": (0, 2), "lock_breaking": (1, 2_000_000)}
+HEAD_LIMITS = {"rule": (1, 2), "route": (0, 12), "lock_material": (0, 2), "lock_breaking": (1, 2_000_000)}
 TIER_LIMITS = {
     "wind": (0, 3),
     "mass": (1, 30_480),
@@ -52,7 +52,7 @@ def wind_code(exposed, turned):
 
 @dataclass(frozen=True)
 class Head:
-    rule: int
+    rule: int  # 1 class rule, 2 fleet standard
     route: int
     lock_material: int  # 0 ordinary steel, 1 higher strength, 2 nodular iron
     zero: int
@@ -165,7 +165,7 @@ def parse(data, room=ANSWER_ROOM):
 
 def read_head(reader):
     head = Head(*HEAD.unpack(reader.take(HEAD.size)))
-    if head.rule != 1 or head.zero != 0:
+    if outside(head, HEAD_LIMITS, "rule") or head.zero != 0:
         raise Refused(3, 0)
     if outside(head, HEAD_LIMITS, "route"):
         raise Refused(4, 1)

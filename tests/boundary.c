@@ -18,6 +18,7 @@
 #include <unistd.h>
 
 enum { HEAD = 8, TIER = 12, LASH = 20, MOST_TIERS = 10, MOST_LASHES = 8, LEAST_SHEET = 23 };
+enum { RULE_AT = 0, ZERO_AT = 3, LEAST_RULE = 1, MOST_RULE = 2 };
 enum { EVERY_LENGTH = 501, STRIDE = 211 }; /* no common divisor: every length has its turn */
 enum { AREA = 8192, DUMPED = 600, ENOUGH = 10000, NUMBERS = LASH_ROOM + 1 };
 
@@ -51,7 +52,12 @@ struct field {
     uint32_t at, width, least, most, low, high;
 };
 
-static const struct field head_fields[] = {{1, 1, 0, 12, 0, 12}, {2, 1, 0, 2, 0, 2}, {4, 4, 1, 2000000, 400000, 600000}};
+static const struct field head_fields[] = {
+    {RULE_AT, 1, LEAST_RULE, MOST_RULE, LEAST_RULE, MOST_RULE},
+    {1, 1, 0, 12, 0, 12},
+    {2, 1, 0, 2, 0, 2},
+    {4, 4, 1, 2000000, 400000, 600000},
+};
 static const struct field tier_fields[] = {
     {1, 1, 0, 3, 0, 3},
     {4, 2, 1, 30480, 2200, 30480},
@@ -79,6 +85,9 @@ static void put(uint8_t *p, uint32_t width, uint32_t value)
 }
 
 static uint32_t get2(const uint8_t *p) { return p[0] | (uint32_t)p[1] << 8; }
+
+/* Whether the rule number is one, and the zero byte zero. */
+static int head_begins_well(const uint8_t *s) { return s[RULE_AT] >= LEAST_RULE && s[RULE_AT] <= MOST_RULE && s[ZERO_AT] == 0; }
 
 /* A legal value: a common one, or mostly one of the two limits. */
 static void put_fields(uint8_t *p, const struct field *fields, size_t count, int extreme)
@@ -124,7 +133,7 @@ static void add_end(struct sheet *s, uint32_t tiers, int extreme)
 static void make_good(struct sheet *s, int extreme)
 {
     uint32_t tiers = between(1, MOST_TIERS), feet = below(2) ? 40 : 20;
-    put(s->bytes, 4, 1);
+    s->bytes[ZERO_AT] = 0;
     put_fields(s->bytes, head_fields, COUNT(head_fields), extreme);
     s->bytes[HEAD] = (uint8_t)tiers;
     s->length = HEAD + 1;
@@ -166,6 +175,18 @@ static void scramble(struct sheet *s, size_t length)
     size_t keep = below(2) ? below((uint32_t)s->length + 1) : 0;
     fill(s, keep < length ? keep : length, length);
     s->known = 0;
+}
+
+/* A rule number that is one or none, or a zero byte that is not; what refuses this comes before all else of a whole head. */
+static void edit_rule(struct sheet *s)
+{
+    if (below(4))
+        s->bytes[RULE_AT] = (uint8_t)(below(4) ? below(MOST_RULE + 2) : next_random());
+    else
+        s->bytes[ZERO_AT] = (uint8_t)below(3);
+    if (!head_begins_well(s->bytes))
+        s->due = LASH_RULE;
+    s->known = 1;
 }
 
 /* A field at a limit, one past it, or as great as its bytes allow. */
@@ -219,7 +240,7 @@ static void edit(struct sheet *s)
         put_edge(s->bytes, head_fields, COUNT(head_fields));
         break;
     case 1:
-        s->bytes[below(2) ? 0 : 3] = (uint8_t)below(3);
+        edit_rule(s);
         break;
     case 2:
         s->bytes[below(2) ? HEAD : count_at] = (uint8_t)(below(4) ? below(14) : next_random());
@@ -346,7 +367,7 @@ static int refusal_possible(unsigned number, uint64_t second, size_t length)
     case LASH_SPARE:
         return second >= LEAST_SHEET && second <= LASH_SHEET_SIZE && second < length;
     case LASH_RULE:
-        return second == 0;
+        return second == RULE_AT && !head_begins_well(sheet.bytes);
     case LASH_ROUTE:
         return second == 1;
     case LASH_LOCK:
@@ -411,6 +432,8 @@ static uint64_t call(int before, size_t *at)
     }
     if (room < LASH_ANSWER_SIZE || second > LASH_ANSWER_SIZE)
         fail("taken with an answer of %llu bytes", (unsigned long long)second);
+    if (!head_begins_well(sheet.bytes))
+        fail("taken by rule %u, with %u in the zero byte", sheet.bytes[RULE_AT], sheet.bytes[ZERO_AT]);
     if (!answer_possible(guarded_answer + *at, second))
         fail("taken, and the answer of %llu bytes does not fit the sheet or itself", (unsigned long long)second);
     if (!same(guarded_answer, pattern, 0, *at) || !same(guarded_answer, pattern, *at + second, AREA))
@@ -448,22 +471,30 @@ static void dump(FILE *out, uint64_t result)
 
 static void run(unsigned long count, FILE *out)
 {
-    unsigned long tally[NUMBERS] = {0};
+    unsigned long tally[NUMBERS] = {0}, taken_by[MOST_RULE + 1] = {0};
     for (sheet_number = 0; sheet_number < count; sheet_number++) {
         make_sheet(&sheet, sheet_number);
         room = choose_room();
         uint64_t result = check_sheet();
         tally[lash_number_of(result)]++;
+        if (lash_number_of(result) == LASH_TAKEN)
+            taken_by[sheet.bytes[RULE_AT]]++;
         if (out && sheet_number < DUMPED)
             dump(out, result);
     }
-    printf("%lu sheets, each checked twice: %lu taken; refused by number", count, tally[0]);
+    printf("%lu sheets, each checked twice: %lu taken, by rule 1: %lu, 2: %lu; refused by number", count, tally[0], taken_by[1],
+           taken_by[2]);
     for (int i = 1; i < NUMBERS; i++)
         printf("%s %d: %lu", i > 1 ? "," : "", i, tally[i]);
     printf("\n");
     for (int i = 0; i < NUMBERS && count >= ENOUGH; i++)
         if (!tally[i]) {
             printf("FAULT: no sheet gave number %d\n", i);
+            exit(1);
+        }
+    for (int rule = LEAST_RULE; rule <= MOST_RULE && count >= ENOUGH; rule++)
+        if (!taken_by[rule]) {
+            printf("FAULT: no sheet was taken by rule %d\n", rule);
             exit(1);
         }
 }

@@ -1,4 +1,4 @@
-"""The named cases held to what document 01 says of them."""
+"""The named cases held to what documents 01 and 02 say of them."""
 
 import unittest
 from fractions import Fraction
@@ -27,6 +27,9 @@ REFUSED = {
     "longest-and-one": "2 451",
     "wind-4": "7 21",
     "wind-255": "7 21",
+    "rule-0": "3 0",
+    "rule-3": "3 0",
+    "rule-255": "3 0",
 }
 
 
@@ -64,6 +67,22 @@ class Cases(unittest.TestCase):
                 f"1 compression 0 exact {73_575 + Fraction('57189847.5') / 2259} reported 98892 to 98991",
                 "1 compression 1 exact 0 reported 0 to 99",
                 "1 tension 0 exact 0 reported 0 to 99",
+                "verdict 0",
+            ],
+        )
+
+    def test_a_case_by_rule_2(self):
+        # B alone: Q = 24,525; M = 49,050 × 1,295.5 = 63,544,275; V/2 = 73,575.
+        racking = "racking 1 exact 24525 reported 24525 to 24624"
+        compression = f"compression 0 exact {73_575 + Fraction(63_544_275, 2259)} reported 101705 to 101804"
+        nothing = ["compression 1 exact 0 reported 0 to 99", "tension 0 exact 0 reported 0 to 99"]
+        end = [racking, compression, *nothing]
+        self.assertEqual(
+            block("fleet-a-c")[3:],
+            [
+                "sheet 0200010020a107000128001f0a204ef401dc0520030000",
+                "taken",
+                *(f"{number} {line}" for number in (0, 1) for line in end),
                 "verdict 0",
             ],
         )

@@ -4,6 +4,7 @@ The check tried here is in floating point and takes another road than the fracti
 table of rows, shifts from the top down, moments from the rackings. Each slip changes one thing of it.
 """
 
+import contextlib
 import math
 import struct
 import subprocess
@@ -14,14 +15,14 @@ from fractions import Fraction
 from pathlib import Path
 from typing import NamedTuple
 
-from reference.cases import CASES, HOOKED, KILONEWTONS, SLIPS, TURNED
+from reference.cases import CASES, FLEET, HOOKED, KILONEWTONS, SLIPS, TURNED
 from reference.faults import EDGES
 from reference.judge import KEPT, MARGIN, expected, figure_fault, judge
 from reference.making import KINDS, make
 from reference.samples import BOTTOM_HOOKS, bottom_hooks
 from sheets.answer import read_answer
 from sheets.limits import HIGHER_STRENGTH
-from sheets.sheet import ANSWER_ROOM, CLOSED, CROSS, DOOR, SIDE, parse
+from sheets.sheet import ANSWER_ROOM, CLOSED, CROSS, DOOR, SIDE, Refused, parse
 
 ROOT = Path(__file__).resolve().parent.parent
 
@@ -32,7 +33,7 @@ def seeds(kind, turns):
 
 # Some of every kind, then all edges.
 SEEDS = [*range(1, 126), *seeds("edge", range(25, len(EDGES)))]
-NEAR_SEEDS = seeds("near a limit", range(18))
+NEAR_SEEDS = seeds("near a limit", range(40))
 
 
 def number(data, place, size):
@@ -69,6 +70,7 @@ class StandIn:
 
     most_bytes = 452
     tests = staticmethod(list)
+    rules = (1, 2)
     heights = {20: (2438, 2591), 40: (2591, 2896)}
     greatest_wind = 3
     greatest_mass = 30_480
@@ -99,7 +101,7 @@ class StandIn:
 
     def head_tests(self, data):
         lock = data[2] > 2 or not 1 <= number(data, 4, 4) <= 2_000_000
-        return [(3, 0, data[0] != 1 or data[3] != 0), (4, 1, data[1] > 12), (5, 2, lock)]
+        return [(3, 0, data[0] not in self.rules or data[3] != 0), (4, 1, data[1] > 12), (5, 2, lock)]
 
     def tier_tests(self, data, place):
         return [(7, place, self.bad_tier(data, place)), (8, place, data[place] != data[9])]
@@ -138,7 +140,10 @@ class StandIn:
 
     # Forces
 
-    share = 0.45
+    shares = {1: 0.45, 2: 0.5}  # by rule: of F on its own top
+    centres = {1: 0.45, 2: 0.5}  # and the height of F as a part of the box's
+    wind_shares = {1: 0.5, 2: 0.5}  # the same of the wind
+    wind_centres = {1: 0.5, 2: 0.5}
     spacing = 2259
     springs = (3730, 15690)
     turned_ends = (0, 1)  # where a turned box shows its other spring
@@ -173,8 +178,18 @@ class StandIn:
     def counts_in_tension(self, lash, level):
         return lash.tier > level
 
+    def by_rule(self, table, data):
+        return table.get(data[0], 0.5)
+
+    def shared(self, data, height, pushed, pressed):
+        """What F and P put on the box's top and on its bottom, and what of their moment about its bottom is not the top's."""
+        forces = ((pushed, self.shares, self.centres), (pressed, self.wind_shares, self.wind_centres))
+        top = sum(force * self.by_rule(shares, data) for force, shares, _ in forces)
+        moment = sum(force * height * self.by_rule(centres, data) for force, _, centres in forces)
+        return top, pushed + pressed - top, moment - top * height
+
     def loads(self, data):
-        """(height, F, P, A_Vmax part, A_Vmin part) of each tier."""
+        """(height, load on its top, on its bottom, moment that is not the top's, A_Vmax part, A_Vmin part) of each tier."""
         factor = self.percents[data[1]] / 100
         found = []
         for tier in range(data[8]):
@@ -184,7 +199,7 @@ class StandIn:
             pressed *= factor if self.route_on_wind else 1
             half_up = half_weight / 1000 * (factor if self.route_on_vertical else 1)
             pushed = half_weight * a[0] / 1000 * factor
-            found.append((height, pushed, pressed, half_up * a[1], half_up * a[2]))
+            found.append((height, *self.shared(data, height, pushed, pressed), half_up * a[1], half_up * a[2]))
         return found
 
     def lashes(self, data):
@@ -210,9 +225,9 @@ class StandIn:
         own = [sum(lash.stiffness for lash in lashes if lash.level == level) for level in range(count + 1)]
         pull = [0.0] * (count + 1)
         for level in range(1, count + 1):
-            _, f, p, *_ = loads[level - 1]
-            pull[level] += self.share * f + p / 2
-            pull[level - 1] += (1 - self.share) * f + p / 2
+            _, top, bottom, *_ = loads[level - 1]
+            pull[level] += top
+            pull[level - 1] += bottom
         for level in range(count, 0, -1):
             part = springs[level - 1] / (springs[level - 1] + own[level])
             own[level - 1] += part * own[level]
@@ -228,7 +243,7 @@ class StandIn:
     def post(self, level, loads, racking, lashes, parts, field, counted):
         """The lee and the windward sum at a level."""
         half_v = sum(load[field] for load in loads[level:]) / 2
-        pair = sum(load[0] * r for load, r in zip(loads[level:], racking[level:])) / self.spacing
+        pair = sum(load[0] * r + load[3] for load, r in zip(loads[level:], racking[level:])) / self.spacing
         lee, windward = (
             sum(v * counted(lash, level) for lash, v in zip(lashes, parts) if lash.kind == kind)
             for kind in self.posts
@@ -243,8 +258,8 @@ class StandIn:
         athwart = [lash.stiffness * shift[lash.level] for lash in lashes]
         parts = [a * lash.upward for a, lash in zip(athwart, lashes)]
         given = (loads, racking, lashes, parts)
-        pressed = [max(0, *self.post(j, *given, 3, self.counts_in_compression)) for j in range(count + 1)]
-        pulled = [max(0, -min(self.post(j, *given, 4, self.counts_in_tension))) for j in range(count)]
+        pressed = [max(0, *self.post(j, *given, 4, self.counts_in_compression)) for j in range(count + 1)]
+        pulled = [max(0, -min(self.post(j, *given, 5, self.counts_in_tension))) for j in range(count)]
         forces = [(a * lash.along, a, v) for a, lash, v in zip(athwart, lashes, parts)]
         return racking, pressed, pulled, forces
 
@@ -352,6 +367,8 @@ def newtons(load):
     return load
 
 
+BY_45, BY_HALF, EXCHANGED = {1: 0.45, 2: 0.45}, {1: 0.5, 2: 0.5}, {1: 0.5, 2: 0.45}
+
 # A slip: what it changes, and how the fault that it makes begins.
 SLIPS_CAUGHT = {
     "rounded to nearest": ({"rounded": staticmethod(nearest), "pad": 0}, "below"),
@@ -383,7 +400,20 @@ SLIPS_CAUGHT = {
     "wind twice on a turned box": ({"exposed": lambda s, wind: wind}, "100 N or more"),
     "7 from wind 3 on": ({"greatest_wind": 2}, "refusal"),
     "7 from wind 5 on": ({"greatest_wind": 4}, "refusal"),
-    "centre at half height": ({"share": 0.5}, ""),
+    "centre at half height": ({"shares": BY_HALF, "centres": BY_HALF}, ""),
+    "rule 2 as rule 1": ({"shares": BY_45, "centres": BY_45}, ""),
+    "rules exchanged": ({"shares": EXCHANGED, "centres": EXCHANGED}, ""),
+    "share of rule 2 in Q but not in M": ({"centres": BY_45}, ""),
+    "share of rule 2 in M but not in Q": ({"shares": BY_45}, ""),
+    "share of the wind by the rule": ({"wind_shares": StandIn.shares, "wind_centres": StandIn.centres}, ""),
+    "wind by rule 2 as F by rule 1": ({"wind_shares": {1: 0.5, 2: 0.45}, "wind_centres": {1: 0.5, 2: 0.45}}, ""),
+    "share of the wind by the rule, not its height": ({"wind_shares": StandIn.shares}, ""),
+    "height of the wind by the rule, not its share": ({"wind_centres": StandIn.centres}, ""),
+    "rule 3 taken": ({"rules": (1, 2, 3)}, "refusal"),
+    "rule 0 taken": ({"rules": (0, 1, 2)}, "refusal"),
+    "rule 2 refused": ({"rules": (1,)}, "refusal"),
+    "rule 1 refused": ({"rules": (2,)}, "refusal"),
+    "any rule but 0 taken": ({"rules": range(1, 256)}, "refusal"),
     "spacing of the width": ({"spacing": 2438}, "below"),
     "length rounded down": ({"length": lambda s, *sides: math.isqrt(sum(x * x for x in sides))}, ""),
     "short LX left out": ({"length": lambda s, x, y, z: StandIn.length(s, x if x > 400 else 0, y, z)}, ""),
@@ -449,7 +479,7 @@ KILONEWTONS_SHOW = {
     "kn-table-2-3": ("Table 2-3 by the factor",),
 }
 
-# and of its turned boxes.
+# of its turned boxes,
 TURNED_SHOWS = {
     "turned-d": ("turned boxes as the others", "turned at the door end only", "turned at the closed end only"),
     "turned-mixture": ("turned at the door end only", "turned at the closed end only", "turn read from the wrong bit"),
@@ -461,7 +491,7 @@ TURNED_SHOWS = {
     "wind-255": (),
 }
 
-# And of its bottom hooks.
+# of its bottom hooks
 HOOKED_SHOWS = {
     "hooked-nowhere": (),
     "hooked-top": ("own top hooks in tension",),
@@ -475,6 +505,21 @@ HOOKED_SHOWS = {
         "own bottom hooks not in tension", "bottom hooks twice in tension", "bottom hooks twice in compression",
         "own bottom hooks not in compression",
     ),
+}
+
+# and of its fleet standard.
+IN_Q_OR_M = ("share of rule 2 in Q but not in M", "share of rule 2 in M but not in Q")
+FLEET_SHOWS = {
+    "fleet-a-c": ("rule 2 as rule 1", *IN_Q_OR_M, "rule 2 refused"),
+    "fleet-b": ("rule 2 as rule 1", *IN_Q_OR_M),
+    "fleet-d": ("rule 2 as rule 1", *IN_Q_OR_M),
+    "fleet-e": ("rule 2 as rule 1", *IN_Q_OR_M, "racking without its sign"),
+    "fleet-wind": ("wind by rule 2 as F by rule 1",),
+    "fleet-eight-high": ("rule 2 as rule 1", *IN_Q_OR_M, "wind by rule 2 as F by rule 1"),
+    "fleet-turned": ("rule 2 as rule 1", *IN_Q_OR_M, "turned at the door end only", "route on A_Vmax"),
+    "rule-0": ("rule 0 taken",),
+    "rule-3": ("rule 3 taken", "any rule but 0 taken"),
+    "rule-255": ("any rule but 0 taken",),
 }
 
 
@@ -526,8 +571,9 @@ class Comparison(unittest.TestCase):
                 self.assertTrue(fault.startswith(begins), fault)
 
     def test_named_cases_show_their_slips(self):
-        shown = {name: (slip,) for name, slip in SHOWN_BY.items()} | KILONEWTONS_SHOW | TURNED_SHOWS | HOOKED_SHOWS
-        cases = SLIPS + KILONEWTONS + TURNED + HOOKED
+        shows = KILONEWTONS_SHOW | TURNED_SHOWS | HOOKED_SHOWS | FLEET_SHOWS
+        shown = {name: (slip,) for name, slip in SHOWN_BY.items()} | shows
+        cases = SLIPS + KILONEWTONS + TURNED + HOOKED + FLEET
         self.assertEqual({case.name for case in cases}, set(shown))
         for case in cases:
             due = expected(case.data)
@@ -535,16 +581,6 @@ class Comparison(unittest.TestCase):
             for slip in shown[case.name]:
                 with self.subTest(case.name, slip=slip):
                     self.assertTrue(judge(due, slipped(slip)(case.data)).faults)
-
-    def test_gear_of_no_safe_load_is_drawn(self):
-        sheets = [parse(make(seed).data) for seed in seeds("near a limit", range(240))]
-        lashes = [lash for sheet in sheets for end in (DOOR, CLOSED) for lash in sheet.lashes(end)]
-        least = {HIGHER_STRENGTH: 1_670}  # of a whole kilonewton; 2,000 for all else
-        self.assertTrue(any(sheet.head.lock_breaking < least.get(sheet.head.lock_material, 2_000) for sheet in sheets))
-        for material in range(4):
-            with self.subTest(material=material):
-                drawn = [lash.breaking for lash in lashes if lash.material == material]
-                self.assertTrue(any(breaking < least.get(material, 2_000) for breaking in drawn))
 
     def test_a_limit_one_newton_off_is_caught(self):
         """Stacks near a limit, with pads that lead their figures over it newton by newton."""
@@ -564,18 +600,46 @@ class Comparison(unittest.TestCase):
 
 
 class Drawn(unittest.TestCase):
-    """That the sheets meet bottom hooks everywhere, and that these count there."""
+    """What the sheets by seed have among them."""
+
+    SHEETS = {"realistic": 400, "extreme": 400, "edge": 4 * len(EDGES), "damaged": 1_500}  # of the last two most are refused
+    OTHERS = 300
 
     @classmethod
     def setUpClass(cls):
-        cls.sheets = [make(seed).data for kind in ("realistic", "extreme") for seed in seeds(kind, range(400))]
+        cls.made = {kind: [make(seed).data for seed in seeds(kind, range(cls.SHEETS.get(kind, cls.OTHERS)))] for kind in KINDS}
+        cls.lashed = cls.made["realistic"] + cls.made["extreme"]
+
+    def taken(self, kind):
+        """The decoded sheets of a kind that are not refused."""
+        for data in self.made[kind]:
+            with contextlib.suppress(Refused):
+                yield parse(data)
+
+    def refused(self, kind):
+        """(bytes, number) of those that are."""
+        for data in self.made[kind]:
+            try:
+                parse(data)
+            except Refused as refused:
+                yield data, refused.number
+
+    def test_gear_of_no_safe_load(self):
+        sheets = list(self.taken("near a limit"))
+        lashes = [lash for sheet in sheets for end in (DOOR, CLOSED) for lash in sheet.lashes(end)]
+        least = {HIGHER_STRENGTH: 1_670}  # of a whole kilonewton; 2,000 for all else
+        self.assertTrue(any(sheet.head.lock_breaking < least.get(sheet.head.lock_material, 2_000) for sheet in sheets))
+        for material in range(4):
+            with self.subTest(material=material):
+                drawn = [lash.breaking for lash in lashes if lash.material == material]
+                self.assertTrue(any(breaking < least.get(material, 2_000) for breaking in drawn))
 
     def test_bottom_hooks_at_every_level(self):
-        self.assertEqual({place for data in self.sheets for place in bottom_hooks(parse(data))}, BOTTOM_HOOKS)
+        self.assertEqual({place for data in self.lashed for place in bottom_hooks(parse(data))}, BOTTOM_HOOKS)
 
     def test_each_relieves_a_level_somewhere(self):
         """Without lashes above M is not below zero, so that the lee post, where a cross lash pulls, does not lift."""
-        found = {place for data in self.sheets for place in self.relieved(data)}
+        found = {place for data in self.lashed for place in self.relieved(data)}
         self.assertEqual(found, {place for place in BOTTOM_HOOKS if place[1:] != (CROSS, False)})
 
     def relieved(self, data):
@@ -586,6 +650,22 @@ class Drawn(unittest.TestCase):
                 highest = max((lash.level for lash in sheet.lashes(end)), default=0)
                 pairs = enumerate(zip(due.tension, wrong.tension))
                 yield from ((level, kind, level < highest) for level, pair in pairs if len(set(pair)) == 2)
+
+    def test_both_rules_in_every_kind_of_sheet(self):
+        for kind in KINDS:
+            with self.subTest(kind):
+                rules = [sheet.head.rule for sheet in self.taken(kind)]
+                self.assertGreater(len(rules), 200)
+                self.assertTrue(0.4 < rules.count(2) / len(rules) < 0.6, f"{rules.count(2)} of {len(rules)}")
+
+    def test_rule_numbers_that_are_none(self):
+        numbers = {data[0] for data, number in self.refused("edge") if number == 3}
+        self.assertEqual(numbers, {0, 1, 2, 3, 255})  # 1 and 2 by the zero byte
+
+    def test_mixtures_by_either_rule(self):
+        for kind in KINDS:
+            mixed = {sheet.head.rule for sheet in self.taken(kind) if len({tier.turned for tier in sheet.tiers}) == 2}
+            self.assertEqual(mixed, {1, 2}, kind)
 
 
 class Bounds(unittest.TestCase):

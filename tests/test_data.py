@@ -5,7 +5,7 @@ import unittest
 
 from lashtool.geometry import RACKING_STIFFNESS
 from reference import stack as second_program
-from tests.support import B_ANSWER, EXAMPLES, PULLED_BACK_ANSWER, lash
+from tests.support import B_ANSWER, EXAMPLES, PULLED_BACK_ANSWER, answer_bytes, lash
 
 
 def data_of(name, output):
@@ -49,7 +49,7 @@ class Data(unittest.TestCase):
     def test_what_was_checked(self):
         _, data = data_of("pulled-back", PULLED_BACK_ANSWER)
         stack = data["stack"]
-        self.assertEqual(stack["rule"], 1)
+        self.assertEqual((stack["rule"], stack["rule_name"]), (1, "class rule"))
         self.assertEqual(stack["route"], {"number": 0, "name": "Unrestricted", "A_T_percent": 100})
         lock = {"material": "higher strength", "breaking_load": 500_000, "safe_working_load": 299_000}
         self.assertEqual(stack["lock"], lock)
@@ -68,6 +68,11 @@ class Data(unittest.TestCase):
         )
         self.assertEqual(data["assumed"], ["lash hook top", "lash kind cross"])
         self.assertEqual(data["figures_less_than_N_above_exact"], 9)
+
+    def test_the_fleet_standard_is_named(self):
+        end = ((1,) * 5, (1,) * 6, (1,) * 5, ((1, 1, 1),) * 2)
+        _, data = data_of("fleet-standard", answer_bytes(end, end))
+        self.assertEqual((data["stack"]["rule"], data["stack"]["rule_name"]), (2, "fleet standard"))
 
     def test_stiffnesses_are_those_of_the_second_program(self):
         self.assertEqual(RACKING_STIFFNESS, tuple(second_program.RACKING_STIFFNESS[end] for end in (0, 1)))

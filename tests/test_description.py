@@ -4,8 +4,9 @@ import unittest
 from random import Random
 
 from lashtool.description import BadDescription, describe
+from lashtool.fields import RULES
 from reference.cases import CASES
-from sheets.sheet import Lash, Tier, pack, parse, sheet_order
+from sheets.sheet import HEAD_LIMITS, Lash, Tier, pack, parse, sheet_order
 from tests.support import EXAMPLES
 
 LEAST = """
@@ -94,6 +95,15 @@ class Defaults(unittest.TestCase):
             one_not = all_turned.replace("[gear]", "turned = false\n[gear]")
             self.assertEqual([tier.wind for tier in sheet_of(one_not).tiers], [exposed + 2, exposed])
 
+    def test_rules(self):
+        """1 where none is given."""
+        self.assertEqual(sheet_of(LEAST).head.rule, 1)
+        for rule in (1, 2):
+            description = describe(f"rule = {rule}\n{LEAST}".encode())
+            self.assertEqual(description.sheet.head.rule, rule)
+            self.assertNotIn("rule", " ".join(description.assumed))
+        self.assertEqual((min(RULES), max(RULES)), HEAD_LIMITS["rule"])
+
     def test_words(self):
         for word, code in (("ordinary steel", 0), ("higher strength", 1), ("nodular iron", 2)):
             text = f"lock.material = '{word}'\n{LEAST}"
@@ -171,7 +181,16 @@ WRONG = (
     ("tier = 1", "tier = 1\nhook = 'middle'", 'lash 1: hook is "middle"; it has to be "top" or "bottom"'),
     ("tier = 1", "tier = 1\nend = 'aft'", 'lash 1: end is "aft"; it has to be "door" or "closed" or "both"'),
     ("[gear]", "size = 20\n[gear]", "tier 2: size 20 feet differs from tier 1, which has 40"),
-    ("[box]", "rule = 2\n[box]", "the stack: rule 2 has to be 1"),
+    ("[box]", "rule = 0\n[box]", "the stack: rule 0 has to be 1 or 2"),
+    ("[box]", "rule = 3\n[box]", "the stack: rule 3 has to be 1 or 2"),
+    ("[box]", "rule = -1\n[box]", "the stack: rule -1 has to be 1 or 2"),
+    ("[box]", "rule = 258\n[box]", "the stack: rule 258 has to be 1 or 2"),
+    ("[box]", f"rule = 0x{'f' * 9000}\n[box]", "the stack: rule of very many digits has to be 1 or 2"),
+    ("[box]", "rule = '2'\n[box]", 'the stack: rule is "2"; it has to be a whole number, 1 or 2'),
+    ("[box]", "rule = 2.0\n[box]", "the stack: rule is 2.0; it has to be a whole number, 1 or 2"),
+    ("[box]", "rule = true\n[box]", "the stack: rule is True; it has to be a whole number, 1 or 2"),
+    ("[box]", "rule = [2]\n[box]", "the stack: rule is [2]; it has to be a whole number, 1 or 2"),
+    ("[box]", "Standard = 2\n[box]", 'the stack: unknown field "Standard"; did you mean "rule"?'),
     ("tier = 1", "tier = 3", "lash 1: tier 3 is not in this stack of 2 tiers"),
     ("tier = 1", "tier = 1\nhook = 'bottom'", "lash 1: hook is the bottom of tier 1, which stands on the deck"),
     ("tier = 1", "tier = 2\n[[lash]]\ntier = 1\nend = 'closed'\n[[lash]]\ntier = 1",

@@ -31,6 +31,7 @@ SHOWN = {
     "top-hook": ("unacceptable corner tension", [(end, CORNER, 1) for end in BOTH]),
     "lock": ("unacceptable tension in the locks", [(end, LOCK, 0) for end in BOTH]),
     "lash-force": ("unacceptable lash force", [(0, LASH_TENSION, 0)]),
+    "fleet-standard": ("unacceptable corner tension by the fleet standard", [(1, CORNER, 0)]),
 }
 
 
@@ -85,6 +86,14 @@ class Examples(unittest.TestCase):
         self.assertEqual(replace(low, door=moved, closed=moved), high)
         named = {case.name: case.data for case in HOOKED}
         self.assertEqual([pack(low), pack(high)], [named["hooked-bottom"], named["hooked-top"]])
+
+    def test_the_rule_decides(self):
+        """By the class rule the same stack is accepted, with the forces that the example tells."""
+        sheet = sheet_of("fleet-standard")
+        by_class = replace(sheet, head=replace(sheet.head, rule=1))
+        self.assertEqual((sheet.head.rule, findings(by_class, exact(by_class))), (2, []))
+        tensions = [exact(each)[1].tension[0] for each in (by_class, sheet)]
+        self.assertEqual([round(float(tension), 1) for tension in tensions], [245_816.8, 254_301.5])
 
     def test_the_template_is_accepted(self):
         sheet = describe(template().encode()).sheet

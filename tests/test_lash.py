@@ -102,6 +102,23 @@ class InPlace(unittest.TestCase):
             self.assertEqual(status, 2)
             self.assertIn(message, json.loads(text)["error"])
 
+    def test_rules_that_there_are_not(self):
+        text = (EXAMPLES / "fleet-standard.toml").read_text()
+        for value, message in (
+            ("0", "rule 0 has to be 1 or 2"),
+            ("3", "rule 3 has to be 1 or 2"),
+            ("-1", "rule -1 has to be 1 or 2"),
+            ("1" * 300, "rule 1111111111111111111111111111111111111... has to be 1 or 2"),
+            ("'2'", 'rule is "2"; it has to be a whole number, 1 or 2'),
+            ("2.0", "rule is 2.0; it has to be a whole number, 1 or 2"),
+            ("true", "rule is True; it has to be a whole number, 1 or 2"),
+            ("nan", "rule is nan; it has to be a whole number, 1 or 2"),
+            ("2024-04-01", "rule is 2024-04-01; it has to be a whole number, 1 or 2"),
+            ("{}", "rule is {}; it has to be a whole number, 1 or 2"),
+        ):
+            path = self.file("stack.toml", text.replace("rule = 2 ", f"rule = {value} ").encode())
+            self.assertEqual(lash(path), (2, "", f"lash: {path}: the stack: {message}\n"))
+
     def test_missing_file_and_folder(self):
         missing = self.folder / "none.toml"
         for words, reason in (
@@ -250,6 +267,14 @@ class Several(unittest.TestCase):
             # Of the figures over their limits the tension of 299,001 N at a corner is the farthest: 119.6004 % of 250,000 N.
             self.assertRegex(second, rf"^{pulled} +NOT ACCEPTED +119\.7%  corner tension, door end, level 3$")
             self.assertEqual(last, "2 stacks: 1 accepted, 1 not accepted")
+
+    def test_a_rule_other_than_the_class_rule_is_named(self):
+        b = self.folder / "box-b.toml"
+        other = self.folder / "other.toml"
+        other.write_text(b.read_text().replace("rule = 1", "rule = 2"))
+        first, second, _ = self.lash(b, other)[1].splitlines()
+        self.assertRegex(first, rf"^{b} +ACCEPTED +14\.8%  racking, door end, tier 1$")
+        self.assertRegex(second, rf"^{other} +ACCEPTED +14\.8%  racking, door end, tier 1; rule 2 \(fleet standard\)$")
 
     def test_the_worst_status(self):
         b, none = self.folder / "box-b.toml", self.folder / "none.toml"

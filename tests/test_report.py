@@ -21,7 +21,7 @@ worst use of a limit: |==        | 14.8% at the door end, tier 1: racking to lee
 
 CHECKED
   1 tier of 40 feet, 20,000 kg, 2,591 mm high
-  rule 1; route 0, Unrestricted: A_T x 1.00
+  rule 1 (class rule); route 0, Unrestricted: A_T x 1.00
   locks: higher strength, breaking load 500,000 N, safe working load 299,000 N
   racking stiffness of each box: door end 3,730 N/mm, closed end 15,690 N/mm
 
@@ -132,6 +132,17 @@ class Table(unittest.TestCase):
             self.assertEqual([row[0] for row in rows], tiers)
             self.assertEqual(["exposed" in row for row in rows], [wind % 2 == 1 for wind in winds])
             self.assertEqual("the other way round where a box stands turned" in " ".join(text.split()), other_way)
+
+    def test_the_rule_is_named(self):
+        """By the fleet standard a note says what it takes otherwise; by the class rule there is none."""
+        end = ((1_000,), (1_000,) * 2, (1_000,), ())
+        for rule, words, noted in ((1, "class rule", False), (2, "fleet standard", True)):
+            sheet = Sheet(replace(HEAD, rule=rule, route=7), (BOX_B,), (), ())
+            text = table(result("", sheet, read_answer(answer_bytes(end, end)), []))
+            self.assertIn(f"\n  rule {rule} ({words}); route 7, South America (East Coast) - Africa: A_T x 0.73\n", text)
+            notes = " ".join(text.split("NOTES\n")[1].split())
+            self.assertEqual("fleet standard" in notes, noted)
+            self.assertEqual("a box's centre lies at half its height" in notes, noted)
 
     def test_a_lash_at_both_ends_is_listed_once_and_keeps_its_number(self):
         """Lashes 2 and 3 of this description change places in the sheet."""

@@ -1,18 +1,20 @@
-"""The fractions held to document 01's figures and to 02's P1 and P4, and the refusals to 01's table."""
+"""The fractions held to document 01's figures and to 02's requests, and the refusals to 01's table."""
 
 import unittest
 from dataclasses import replace
 from fractions import Fraction
+from random import Random
 from struct import pack as packed
 
 from reference.cases import BOX_B as B
 from reference.cases import HEAD, HOOKED
 from reference.cases import ROD_S as S
+from reference.samples import extreme, realistic
 from reference.stack import (
-    UNIT, equations, exact, in_tension, lash_forces, lash_length, loads, shifts, transverse, vertical, wind,
+    UNIT, equations, exact, in_tension, lash_forces, lash_length, loads, racking_load as load_by_share, shifts, transverse, vertical, wind,
 )
 from sheets.answer import BadAnswer, End, LashForces, read_answer
-from sheets.limits import findings, safe_working_load
+from sheets.limits import checks, findings, safe_working_load
 from sheets.sheet import BOTTOM, CLOSED, CROSS, DOOR, MOST_TIERS, SIDE, TOP, Refused, Sheet, pack, parse
 
 
@@ -191,6 +193,82 @@ class BottomHooks(unittest.TestCase):
                 self.assertEqual(found, list(range(tier)))
 
 
+class FleetStandard(unittest.TestCase):
+    """Document 02, P10: by rule 2 half of F on a box's own top, and F at half its height. B has F = 49,050 N and is 2,591 mm high."""
+
+    def by(self, rule, *tiers, **ends):
+        return stack(*tiers, **ends, head=replace(HEAD, rule=rule))
+
+    def moment(self, sheet, level):
+        return newtons(loads(sheet).moment[level])
+
+    def test_a_by_rule_2(self):
+        self.assertEqual(racking_load(self.by(2, B), 1), 24_525)
+        self.assertEqual(racking_load(self.by(1, B), 1), Fraction("22072.5"))
+
+    def test_b_by_rule_2(self):
+        self.assertEqual(racking_load(self.by(2, B, B), 1), 24_525 + 49_050)
+
+    def test_c_by_rule_2(self):
+        """49,050 N at 1,295.5 mm; of two boxes at 1,295.5 and 3,886.5 mm."""
+        box = self.by(2, B)
+        self.assertEqual(self.moment(box, 0), 63_544_275)
+        pair = Fraction(63_544_275, 2259)
+        self.assertEqual(exact(box)[0].compression, (73_575 + pair, 0))
+        self.assertEqual(exact(box)[0].tension, (0,))
+        self.assertEqual(exact(self.by(2, replace(B, a_vmin=0)))[1].tension, (pair,))
+        self.assertEqual([self.moment(self.by(2, B, B), level) for level in (0, 1, 2)], [254_177_100, 63_544_275, 0])
+        self.assertEqual(self.moment(self.by(1, B), 0), Fraction("57189847.5"))
+
+    def test_d_and_e_by_rule_2(self):
+        """S is 7,200 N/mm; in (e) Q is 29,430 and 2,452.5 N."""
+        sheet = self.by(2, B, door=[S])
+        self.assertEqual(shifts(sheet, DOOR, loads(sheet).racking)[1], Fraction(24_525, 10_930))
+        sheet = self.by(2, B, replace(B, mass=2_000), door=[replace(S, tier=2)])
+        top = Fraction("31882.5") / 18_130
+        self.assertEqual(shifts(sheet, DOOR, loads(sheet).racking)[2], top)
+        self.assertEqual(exact(sheet)[0].racking[1], Fraction("2452.5") - 7_200 * top)
+
+    def test_nothing_else_changes(self):
+        """The wind stays half and half, and so do F_V, lengths, springs and limits."""
+        tiers = (replace(B, wind=1), replace(B, wind=3, mass=9_000))
+        by_one, by_two = (loads(self.by(rule, *tiers)) for rule in (1, 2))
+        f = [Fraction("49050"), Fraction("22072.5")]
+        racking = [newtons(b - a) for a, b in zip(by_one.racking, by_two.racking)]
+        self.assertEqual(racking, [Fraction("0.05") * each for each in f])
+        moment = [newtons(b - a) for a, b in zip(by_one.moment, by_two.moment)]
+        self.assertEqual(moment, [Fraction("0.05") * 2591 * (f[0] + f[1]), Fraction("0.05") * 2591 * f[1], 0])
+        self.assertEqual((by_one.greatest, by_one.least), (by_two.greatest, by_two.least))
+        still = [replace(tier, a_t=0) for tier in tiers]
+        self.assertEqual(*(exact(self.by(rule, *still, door=[S], closed=[S])) for rule in (1, 2)))
+
+    def test_without_lashes_no_force_is_less_than_by_rule_1(self):
+        random = Random(11)
+        for build in (realistic, extreme) * 10:
+            tiers = build(random).tiers
+            by_one, by_two = ([check.size for check in checks(sheet, exact(sheet))] for sheet in (self.by(1, *tiers), self.by(2, *tiers)))
+            self.assertTrue(all(a <= b for a, b in zip(by_one, by_two)))
+
+    def test_with_lashes_a_force_may_be_less(self):
+        """A heavy box on a light one: of its F half and not 0.55 acts on level 1, where a rod holds."""
+        rods = [S, replace(S, tier=2)]
+        by_one, by_two = (exact(self.by(rule, replace(B, mass=2_000), B, door=rods))[0].lashes for rule in (1, 2))
+        self.assertLess(by_two[0].tension, by_one[0].tension)
+        self.assertGreater(by_two[1].tension, by_one[1].tension)
+
+    def test_any_share_from_0_to_1(self):
+        """The equations have a solution, and no load and no shift is to windward."""
+        random = Random(10)
+        for build in (realistic, extreme) * 6:
+            sheet = build(random)
+            f, p = [transverse(tier, sheet.head.route) for tier in sheet.tiers], [wind(tier) for tier in sheet.tiers]
+            for share in (0, 1, 45, 50, random.randint(2, 98), 99, 100):
+                borne = [load_by_share(f, p, index, share) for index in range(len(f))]
+                self.assertGreaterEqual(min(q - above for q, above in zip(borne, [*borne[1:], 0])), 0)
+                for end in (DOOR, CLOSED):
+                    self.assertGreaterEqual(min(shifts(sheet, end, borne)), 0)
+
+
 class Forces(unittest.TestCase):
     def test_loads_are_whole_parts_of_a_newton(self):
         """What is divided is a multiple: the loads in parts of a newton are the paper's in fractions."""
@@ -210,10 +288,11 @@ class Forces(unittest.TestCase):
         borne = loads(sheet)
         self.assertEqual([newtons(load) for load in borne.greatest], [sum(v), v[1] + v[2], v[2], 0])
         self.assertEqual(newtons(borne.least[1]), half * g * Fraction(1 + 7_919 * 811, 1000))
-        share = Fraction("0.45")
-        self.assertEqual(newtons(borne.racking[1]), share * f[1] + half * p[1] + f[2] + p[2])
-        own = f[1] * share * 2896 + p[1] * half * 2896
-        self.assertEqual(newtons(borne.moment[1]), own + f[2] * (2896 + share * 2591) + p[2] * (2896 + half * 2591))
+        for rule, share in ((1, Fraction("0.45")), (2, half)):
+            borne = loads(replace(sheet, head=replace(sheet.head, rule=rule)))
+            self.assertEqual(newtons(borne.racking[1]), share * f[1] + half * p[1] + f[2] + p[2])
+            own = f[1] * share * 2896 + p[1] * half * 2896
+            self.assertEqual(newtons(borne.moment[1]), own + f[2] * (2896 + share * 2591) + p[2] * (2896 + half * 2591))
 
     def test_the_solution_solves_the_equations(self):
         lashes = (S, replace(S, kind=SIDE, ly=700), replace(S, tier=3, hook=BOTTOM, lx=317))
@@ -302,7 +381,9 @@ class Refusals(unittest.TestCase):
 
     def test_3_to_6_head_and_tier_count(self):
         for change, due in (
-            ({"rule": 0}, (3, 0)), ({"rule": 2}, (3, 0)), ({"zero": 1}, (3, 0)),
+            ({"rule": 0}, (3, 0)), ({"rule": 1}, None), ({"rule": 2}, None), ({"rule": 3}, (3, 0)), ({"rule": 255}, (3, 0)),
+            ({"zero": 1}, (3, 0)), ({"rule": 2, "zero": 1}, (3, 0)), ({"rule": 2, "route": 13}, (4, 1)),
+            ({"rule": 3, "route": 13, "lock_material": 3}, (3, 0)),
             ({"zero": 1, "route": 13}, (3, 0)), ({"route": 12}, None), ({"route": 13}, (4, 1)),
             ({"route": 13, "lock_material": 3}, (4, 1)), ({"lock_material": 2}, None),
             ({"lock_material": 3}, (5, 2)), ({"lock_breaking": 0}, (5, 2)),

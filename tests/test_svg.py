@@ -172,7 +172,7 @@ class Drawn(unittest.TestCase):
         text = "\n".join(picture.texts())
         for words in (
             "Worst use of a limit: 119.7% at the door end, level 3: corner tension 299,001 N of 250,000 N",
-            "6 tiers of 40 feet, 82,480 kg, 15,546 mm high; rule 1; route 0, Unrestricted: A_T x 1.00",
+            "6 tiers of 40 feet, 82,480 kg, 15,546 mm high; rule 1 (class rule); route 0, Unrestricted: A_T x 1.00",
             "locks: higher strength, breaking load 500,000 N, safe working load 299,000 N; "
             "racking stiffness of each box: door end 3,730 N/mm, closed end 15,690 N/mm",
             "Warning: lash 2 (tier 6 top side, door end): its foot lies 4,000 mm to windward of the stack",
@@ -197,6 +197,13 @@ class Drawn(unittest.TestCase):
             self.assertLess(y, top + picture.boxes()[0][3])
         self.assertEqual([row for row in picture.texts("checked") if row.startswith(("1", "2", "3", "4")) and len(row) > 7],
                          ["3 turned", "4 turned"])
+
+    def test_the_rule_is_named(self):
+        for rule, words in ((1, "rule 1 (class rule); route 0"), (2, "rule 2 (fleet standard); route 0")):
+            sheet = Sheet(replace(HEAD, rule=rule), (BOX_B,), (), ())
+            text = " ".join(drawn_sheet(sheet, quiet_answer(sheet)).texts())
+            self.assertIn(words, text)
+            self.assertEqual("Rule 2 is the fleet standard, one operator's own book, and not the class rule" in text, rule == 2)
 
     def test_what_was_not_given_keeps_its_letters(self):
         sheet = describe((EXAMPLES / "three-high.toml").read_bytes()).sheet

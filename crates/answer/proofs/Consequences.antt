@@ -16,7 +16,7 @@ use Rattle.sheet.specs.Layout.{sheetOf}
 use Rattle.sheet.specs.Refusals.{refusal}
 use Rattle.statics.specs.declared.EndFigures.{EndFigures}
 use Rattle.statics.specs.declared.Figures.{Figures}
-use Rattle.statics.specs.Loads.{Rule, classRule}
+use Rattle.statics.specs.Loads.{Rule, ruleOf}
 use Rattle.statics.specs.Forces as F
 use Rattle.statics.specs.Reported.{Reported, Directed, reportedNumber, EndReported}
 use Rattle.statics.proofs.Arrays.{entry-at}
@@ -167,6 +167,6 @@ pub answered :
     {margin : ℕ} {s before after : List ℕ} {r : Outcome} →
     refusal s (length before) ≡ Taken →
     Checked margin s before after r →
-    Answered margin (classRule (sheetOf s)) (sheetOf s) before after r
+    Answered margin (ruleOf (sheetOf s)) (sheetOf s) before after r
 answered {margin} {s} {before} {after} {r} e c =
-    subst (λ (q : Reading). AnsweredAs q margin (classRule (sheetOf s)) (sheetOf s) before after r) e (c .holds)
+    subst (λ (q : Reading). AnsweredAs q margin (ruleOf (sheetOf s)) (sheetOf s) before after r) e (c .holds)

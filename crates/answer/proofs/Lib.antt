@@ -3,6 +3,7 @@ pub mod Table
 pub mod SafeLoads
 pub mod Turned
 pub mod Relief
+pub mod FleetStandard
 pub mod Solutions
 pub mod Accepted
 pub mod ReadBack

@@ -14,10 +14,10 @@ use Rattle.sheet.proofs.Refusal.{sheet-taken}
 use Rattle.sheet.proofs.SheetLimits.{sheet-limits}
 use Rattle.sheet.proofs.TakenSheets.{taken-fits}
 use Rattle.statics.specs.declared.LoadRule.{LoadRule}
-use Rattle.statics.specs.Loads.{Rule, classRule, StandsFor}
+use Rattle.statics.specs.Loads.{Rule, ruleOf, StandsFor}
 use Rattle.statics.specs.Reported.{EndFigured}
 use Rattle.statics.specs.inner.Computed.{figuresBy}
-use Rattle.statics.proofs.EndChain.{class-stands}
+use Rattle.statics.proofs.EndChain.{rule-stands}
 use Rattle.statics.proofs.Figured.{end-figured}
 use Rattle.statics.proofs.OneSolution.{one-solution}
 use Rattle.answer.specs.Findings.{figuresOf}
@@ -58,8 +58,8 @@ check-named s before = record { holds = go (refusal s (length before)) refl }
     go :
         (q : Reading) →
         refusal s (length before) ≡ q →
-        AnsweredAs q kept (classRule (sheetOf s)) (sheetOf s) before (writtenAs q (checkBytes s) before) (returnedAs q (checkBytes s))
+        AnsweredAs q kept (ruleOf (sheetOf s)) (sheetOf s) before (writtenAs q (checkBytes s) before) (returnedAs q (checkBytes s))
     go (Refused n p) e = record { refused = refl; untouched = refl }
     go Taken e =
         let fits = taken-fits s (sheet-taken s (length before) e) in
-        record { bytes = checkBytes s; answer = answer-named (class-stands (sheet-limits fits)) fits; taken = refl; written = refl }
+        record { bytes = checkBytes s; answer = answer-named (rule-stands (sheet-limits fits)) fits; taken = refl; written = refl }

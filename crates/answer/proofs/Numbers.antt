@@ -14,7 +14,7 @@ use Rattle.sheet.proofs.Numbers.{check-numbers}
 use Rattle.sheet.proofs.Refusal.{sheet-taken}
 use Rattle.sheet.proofs.TakenSheets.{taken-fits}
 use Rattle.sheet.specs.Ends.{End, door, closed, lashesOf}
-use Rattle.statics.specs.Loads.{classRule}
+use Rattle.statics.specs.Loads.{ruleOf}
 use Rattle.answer.specs.declared.Outcome.{Outcome}
 use Rattle.answer.specs.Checked.{number, second, AnsweredAs, Checked}
 use Rattle.answer.proofs.Longest.{answer-most}
@@ -37,7 +37,7 @@ module _ (s : List ℕ) (room : ℕ) (e : refusal s room ≡ Taken) where
 pub numbers : {margin : ℕ} {s before after : List ℕ} {r : Outcome} → Checked margin s before after r → Numbers r
 numbers {margin} {s} {before} {after} {r} c = go (refusal s (length before)) refl (c .holds)
   where
-    go : (q : Reading) → refusal s (length before) ≡ q → AnsweredAs q margin (classRule (sheetOf s)) (sheetOf s) before after r → Numbers r
+    go : (q : Reading) → refusal s (length before) ≡ q → AnsweredAs q margin (ruleOf (sheetOf s)) (sheetOf s) before after r → Numbers r
     go (Refused n p) e h =
         let b = check-numbers s (length before) e in
         rw (h .refused) (record { first = b .1; next = b .2 })

@@ -15,7 +15,7 @@ use Rattle.sheet.specs.Ends.{End, door, closed, tiersOf, lashesOf}
 use Rattle.sheet.proofs.SheetLimits.{sheet-limits}
 use Rattle.springs.specs.Equations.{shift}
 use Rattle.springs.proofs.OneSolution.{handedStiffness, handedLoad, shiftOf, solution}
-use Rattle.statics.specs.Loads.{weight, transverse, verticalForce, wind, load, classRule}
+use Rattle.statics.specs.Loads.{weight, transverse, verticalForce, wind, load, ruleOf}
 use Rattle.statics.specs.Lashes.{lashLength, pull, athwartPart, verticalPart}
 use Rattle.statics.specs.Ends.{chainTiers, chainLash, endLashes}
 use Rattle.statics.specs.Posts.{levelHeight, turning, moment, atMost, tension}
@@ -85,7 +85,7 @@ same-equations closed = rw (length-rod 2 1, length-rod 1 0) refl
 
 -- the tension at level 1, at the solution by elimination
 abbrev solved-tension : Sheet → End → Frac
-solved-tension t e = tension (classRule t) (tiersOf t) (lashesOf e t) (solutionOf (classRule t) e t) 1
+solved-tension t e = tension (ruleOf t) (tiersOf t) (lashesOf e t) (solutionOf (ruleOf t) e t) 1
 
 top-tension : (e : End) → solved-tension byTop e ≈ unrelieved
 unfolding tension atMost moment turning transverse verticalForce weight wind sumq recip levelHeight levelOf
@@ -109,7 +109,7 @@ below closed = record { cross = record { lt = tt } }
 
 pub relieved : Relief
 relieved =
-    let rule = classRule byTop in
+    let rule = ruleOf byTop in
     record {
       bottom-fits = bottom-fits;
       top-fits = top-fits;

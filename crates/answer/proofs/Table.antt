@@ -10,7 +10,7 @@ use Rattle.arith.specs.Fractions.{Frac, nat, _/q_, recip, sumq, _≈_, _⊏_}
 use Rattle.arith.specs.Lists.{from}
 use Rattle.arith.specs.inner.Roots.{Least}
 use Rattle.sheet.specs.declared.Sheet.{Sheet}
-use Rattle.statics.specs.Loads.{weight, transverse, verticalForce, boxLength, wind, load, classRule}
+use Rattle.statics.specs.Loads.{weight, transverse, verticalForce, boxLength, wind, load, ruleOf}
 use Rattle.statics.specs.Lashes.{lashLength, pull, athwartPart}
 use Rattle.springs.specs.Equations as S
 use Rattle.springs.specs.Equations.{shift}
@@ -20,7 +20,7 @@ use Rattle.sheet.specs.Ends.{door, tiersOf, lashesOf}
 use Rattle.statics.specs.Posts.{levelHeight, turning, moment, atMost, tension}
 use Rattle.statics.proofs.LashLength.{length-is}
 use Rattle.answer.specs.Limits.{safeLoad}
-use Rattle.answer.specs.Table.{boxB, rodS, rodOf, exposedBox, sheetWith, alone, pair, lashed, lashedAbove}
+use Rattle.answer.specs.Table.{boxB, rodS, rodOf, exposedBox, sheetBy, sheetWith, alone, pair, lashed, lashedAbove}
 use Rattle.answer.specs.Table.{doorTiers, lowestLoad, Table}
 use Rattle.answer.proofs.Solutions.{one, every-shift, every-racking}
 
@@ -64,16 +64,16 @@ figure-i-twenty : wind (exposedBox 20 2591) ≈ nat 847599012 /q nat 100000
 unfolding wind boxLength recip
 figure-i-twenty = record { cross = refl }
 
-figure-j : transverse (classRule (sheetWith 7 (boxB ∷ []) []) .factor) boxB ≈ nat 358065 /q nat 10
+figure-j : transverse (ruleOf (sheetWith 7 (boxB ∷ []) []) .factor) boxB ≈ nat 358065 /q nat 10
 unfolding transverse weight recip
 figure-j = record { cross = refl }
 
 -- (c): with no lash the shifts do not enter
-figure-c-moment : (Ds : List Frac) → moment (classRule alone) (tiersOf alone) (lashesOf door alone) Ds 0 ≈ nat 571898475 /q nat 10
+figure-c-moment : (Ds : List Frac) → moment (ruleOf alone) (tiersOf alone) (lashesOf door alone) Ds 0 ≈ nat 571898475 /q nat 10
 unfolding moment turning transverse weight wind sumq recip levelHeight
 figure-c-moment Ds = record { cross = refl }
 
-figure-c-tension : (Ds : List Frac) → tension (classRule alone) (tiersOf alone) (lashesOf door alone) Ds 0 ≈ nat 0
+figure-c-tension : (Ds : List Frac) → tension (ruleOf alone) (tiersOf alone) (lashesOf door alone) Ds 0 ≈ nat 0
 unfolding tension atMost moment turning transverse verticalForce weight wind sumq recip levelHeight
 figure-c-tension Ds = record { cross = refl }
 
@@ -83,10 +83,10 @@ unfolding athwartPart pull recip
 stiffness tier = rw (length-S tier) (record { cross = refl })
 
 -- (d), (e)
-abbrev doorLashes : Sheet → List S.Lash
+abbrev pub doorLashes : Sheet → List S.Lash
 doorLashes t = endLashes door t
 
-abbrev solved : Sheet → List Frac
+abbrev pub solved : Sheet → List Frac
 solved t = solution (doorTiers t) (doorLashes t)
 
 pub stiff-rod : (tier j : ℕ) → j < 1 → nat 0 ⊏ S.lashAt (chainLashes (rodS tier ∷ [])) j .stiffness
@@ -94,11 +94,15 @@ unfolding chainLash athwartPart pull recip
 stiff-rod tier zero h = rw (length-S tier) (record { cross = record { lt = tt } })
 stiff-rod tier (suc j) h = absurd (omega arith)
 
-stiff-d : S.Stiff (doorTiers lashed) (doorLashes lashed)
+-- B with S at level 1, by any rule
+abbrev pub lashedBy : ℕ → Sheet
+lashedBy number = sheetBy number 0 (boxB ∷ []) (rodS 1 ∷ [])
+
+pub stiff-lashed : (number : ℕ) → S.Stiff (doorTiers (lashedBy number)) (doorLashes (lashedBy number))
 unfolding chainTiers
-stiff-d = record { springs = springs; lashes = stiff-rod 1 }
+stiff-lashed number = record { springs = springs; lashes = stiff-rod 1 }
   where
-    springs : (i : ℕ) → i < 1 → nat 0 ⊏ S.tierAt (doorTiers lashed) i .K
+    springs : (i : ℕ) → i < 1 → nat 0 ⊏ S.tierAt (doorTiers (lashedBy number)) i .K
     springs zero h = record { cross = record { lt = tt } }
     springs (suc i) h = absurd (omega arith)
 
@@ -134,11 +138,11 @@ table =
       b = figure-b;
       c-moment = figure-c-moment;
       c-tension = figure-c-tension;
-      d-one = one (classRule lashed) door lashed stiff-d;
-      d = every-shift (classRule lashed) door lashed stiff-d 1 (nat 220725 /q nat 10 /q nat 10930) solved-d;
-      e-one = one (classRule lashedAbove) door lashedAbove stiff-e;
-      e-shift = every-shift (classRule lashedAbove) door lashedAbove stiff-e 2 (nat 2918475 /q nat 100 /q nat 18130) solved-e;
-      e-racking = every-racking (classRule lashedAbove) door lashedAbove stiff-e 1 (nat 0) racked-e;
+      d-one = one (ruleOf lashed) door lashed (stiff-lashed 1);
+      d = every-shift (ruleOf lashed) door lashed (stiff-lashed 1) 1 (nat 220725 /q nat 10 /q nat 10930) solved-d;
+      e-one = one (ruleOf lashedAbove) door lashedAbove stiff-e;
+      e-shift = every-shift (ruleOf lashedAbove) door lashedAbove stiff-e 2 (nat 2918475 /q nat 100 /q nat 18130) solved-e;
+      e-racking = every-racking (ruleOf lashedAbove) door lashedAbove stiff-e 1 (nat 0) racked-e;
       f = figure-f;
       g = figure-g;
       h = length-S 1;

@@ -10,7 +10,7 @@ use Rattle.sheet.specs.declared.Sheet.{Sheet}
 use Rattle.sheet.specs.Layout.{sheetOf}
 use Rattle.sheet.specs.Refusals.{refusal}
 use Rattle.statics.proofs.Margins.{figured-wider}
-use Rattle.statics.specs.Loads.{Rule, classRule}
+use Rattle.statics.specs.Loads.{Rule, ruleOf}
 use Rattle.answer.specs.declared.Outcome.{Outcome}
 use Rattle.answer.specs.Checked.{AnswerTo, Answered, AnsweredAs, Checked, kept, demanded}
 use Rattle.answer.specs.Consequences.{AnswerSays}
@@ -22,6 +22,7 @@ use Rattle.answer.proofs.Table.{table}
 use Rattle.answer.proofs.SafeLoads.{safe-loads}
 use Rattle.answer.proofs.Turned.{turned}
 use Rattle.answer.proofs.Relief.{relieved}
+use Rattle.answer.proofs.FleetStandard.{fleet-standard}
 
 module _ {m n : ℕ} (wider : m ≤ n) where
   pub answer-wider : {rule : Rule} {t : Sheet} {bytes : List ℕ} → AnswerTo m rule t bytes → AnswerTo n rule t bytes
@@ -38,8 +39,8 @@ module _ {m n : ℕ} (wider : m ≤ n) where
     where
       go :
           (q : Reading) →
-          AnsweredAs q m (classRule (sheetOf s)) (sheetOf s) before after r →
-          AnsweredAs q n (classRule (sheetOf s)) (sheetOf s) before after r
+          AnsweredAs q m (ruleOf (sheetOf s)) (sheetOf s) before after r →
+          AnsweredAs q n (ruleOf (sheetOf s)) (sheetOf s) before after r
       go (Refused c p) h = h
       go Taken h = record { bytes = h .bytes; answer = answer-wider (h .answer); taken = h .taken; written = h .written }
 
@@ -53,7 +54,7 @@ demand-three {s} {before} {after} e c =
     record {
       one = a .answer .one;
       says =
-          subst (λ (l : List ℕ). AnswerSays demanded (classRule (sheetOf s)) (sheetOf s) l) (sym (a .written))
+          subst (λ (l : List ℕ). AnswerSays demanded (ruleOf (sheetOf s)) (sheetOf s) l) (sym (a .written))
           (C.says (a .answer) (drop (length (a .bytes)) before));
     }
 
@@ -71,4 +72,5 @@ theorems =
       safe-loads = safe-loads;
       turned = turned;
       relief = relieved;
+      fleet-standard = fleet-standard;
     }

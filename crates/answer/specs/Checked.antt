@@ -10,7 +10,7 @@ use Rattle.sheet.specs.Layout.{sheetOf}
 use Rattle.sheet.specs.Refusals.{row13, first, longestAnswer, refusal}
 use Rattle.statics.specs.declared.Figures.{Figures}
 use Rattle.statics.specs.declared.LoadRule.{LoadRule}
-use Rattle.statics.specs.Loads.{Rule, classRule, StandsFor}
+use Rattle.statics.specs.Loads.{Rule, ruleOf, StandsFor}
 use Rattle.statics.specs.Ends.{OneSolution}
 use Rattle.sheet.specs.Ends.{End}
 use Rattle.statics.specs.Reported.{EndFigured}
@@ -53,9 +53,9 @@ abbrev pub AnsweredAs : Reading → ℕ → Rule → Sheet → List ℕ → List
 AnsweredAs (Refused c p) margin rule t before after r = TurnedBack c p before after r
 AnsweredAs Taken margin rule t before after r = Answered margin rule t before after r
 
--- the check of the sheet s with a buffer that held `before`, by document 01's refusals; its loads go by the class rule
+-- the check of the sheet s with a buffer that held `before`, by document 01's refusals; its loads go by the rule of the sheet
 pub record Checked (margin : ℕ) (s before after : List ℕ) (r : Outcome) : Type 0 where
-  pub holds : AnsweredAs (refusal s (length before)) margin (classRule (sheetOf s)) (sheetOf s) before after r
+  pub holds : AnsweredAs (refusal s (length before)) margin (ruleOf (sheetOf s)) (sheetOf s) before after r
 
 -- the answer to a decoded sheet t, by every rule that c stands for: only the room can be too short
 abbrev pub roomFor : ℕ → Reading

@@ -9,7 +9,7 @@ use Rattle.sheet.specs.declared.Lash.{Lash}
 use Rattle.sheet.specs.declared.Sheet.{Sheet}
 use Rattle.sheet.specs.Fits.{Fits}
 use Rattle.sheet.specs.Ends.{End, door, closed, tiersOf, lashesOf}
-use Rattle.statics.specs.Loads.{classRule}
+use Rattle.statics.specs.Loads.{ruleOf}
 use Rattle.statics.specs.Ends.{endLashes, EndSolved}
 use Rattle.statics.specs.Posts.{tension}
 use Rattle.answer.specs.Limits.{cornerTensionLimit}
@@ -59,7 +59,7 @@ byTop = lashedBy (sideRod 1 0)
 -- the exact tension at level 1 of an end is x
 abbrev pub TensionIs : Sheet → End → Frac → Type 0
 TensionIs t e x =
-    (Ds : List Frac) → EndSolved (classRule t) e t Ds → tension (classRule t) (tiersOf t) (lashesOf e t) Ds 1 ≈ x
+    (Ds : List Frac) → EndSolved (ruleOf t) e t Ds → tension (ruleOf t) (tiersOf t) (lashesOf e t) Ds 1 ≈ x
 
 -- M/2259 − V/2 at level 1, and the vertical part of the lash at each end
 abbrev pub unrelieved : Frac

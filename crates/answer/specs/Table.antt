@@ -1,4 +1,4 @@
--- Document 01, "Figures to hold it to": (a) to (j) as one statement over the definitions, (f) and (g) as document 02's P3 has them.
+-- Document 01, "Figures to hold it to": (a) to (j) by rule 1, as one statement over the definitions; (f) and (g) as 02's P3 has them.
 use mathlib.Core.Path.{_≡_}
 use mathlib.Core.List.{List, [], _∷_}
 use Prim.Native.Nat.{ℕ}
@@ -10,7 +10,7 @@ use Rattle.sheet.specs.declared.Lash.{Lash}
 use Rattle.sheet.specs.declared.Sheet.{Sheet}
 use Rattle.sheet.specs.Layout.{blankTier, blankLash}
 use Rattle.arith.specs.Lists.{padded}
-use Rattle.statics.specs.Loads.{transverse, wind, classRule}
+use Rattle.statics.specs.Loads.{transverse, wind, ruleOf}
 use Rattle.statics.specs.Lashes.{lashLength, athwartPart}
 use Rattle.statics.specs.Ends.{endTiers, EndSolved, OneSolution}
 use Rattle.sheet.specs.Ends.{door, tiersOf, lashesOf}
@@ -48,11 +48,11 @@ rodS tier = rodOf 0 tier
 abbrev pub exposedBox : ℕ → ℕ → Tier
 exposedBox size height = record { size = size; wind = 1; height = height; mass = 20000; aT = 500; aVmax = 1500; aVmin = 800 }
 
--- a sheet of these tiers, with these lashes at the door end
-abbrev pub sheetWith : ℕ → List Tier → List Lash → Sheet
-sheetWith route tiers lashes =
+-- a sheet by a rule number, of these tiers, with these lashes at the door end; by rule 1 where no other is named
+abbrev pub sheetBy : ℕ → ℕ → List Tier → List Lash → Sheet
+sheetBy number route tiers lashes =
     record {
-      head = record { rule = 1; route = route; lockMaterial = 0; zero = 0; lockBreakingLoad = 490000 };
+      head = record { rule = number; route = route; lockMaterial = 0; zero = 0; lockBreakingLoad = 490000 };
       tiers = padded 10 blankTier tiers;
       ntiers = length tiers;
       door = padded 8 blankLash lashes;
@@ -60,6 +60,9 @@ sheetWith route tiers lashes =
       closed = padded 8 blankLash [];
       nclosed = 0;
     }
+
+abbrev pub sheetWith : ℕ → List Tier → List Lash → Sheet
+sheetWith route tiers lashes = sheetBy 1 route tiers lashes
 
 -- B alone; two B; B with S at level 1; B below, the same with 2,000 kg above, S at level 2
 abbrev pub alone : Sheet
@@ -76,7 +79,7 @@ lashedAbove = sheetWith 0 (boxB ∷ boxOf 2000 ∷ []) (rodS 2 ∷ [])
 
 -- the tiers of a sheet's door end, each with its spring and its load Q
 abbrev pub doorTiers : Sheet → List S.Tier
-doorTiers t = endTiers (classRule t) door t
+doorTiers t = endTiers (ruleOf t) door t
 
 -- Q of tier 1
 abbrev pub lowestLoad : Sheet → Frac
@@ -86,20 +89,20 @@ pub record Table : Type 0 where
   pub stiffness-S : athwartPart (rodS 1) (nat 1) ≈ nat 7200
   pub a : lowestLoad alone ≈ nat 220725 /q nat 10
   pub b : lowestLoad pair ≈ nat 711225 /q nat 10
-  pub c-moment : (Ds : List Frac) → moment (classRule alone) (tiersOf alone) (lashesOf door alone) Ds 0 ≈ nat 571898475 /q nat 10
-  pub c-tension : (Ds : List Frac) → tension (classRule alone) (tiersOf alone) (lashesOf door alone) Ds 0 ≈ nat 0
-  pub d-one : OneSolution (classRule lashed) door lashed
-  pub d : (Ds : List Frac) → EndSolved (classRule lashed) door lashed Ds → S.shift Ds 1 ≈ nat 220725 /q nat 10 /q nat 10930
-  pub e-one : OneSolution (classRule lashedAbove) door lashedAbove
+  pub c-moment : (Ds : List Frac) → moment (ruleOf alone) (tiersOf alone) (lashesOf door alone) Ds 0 ≈ nat 571898475 /q nat 10
+  pub c-tension : (Ds : List Frac) → tension (ruleOf alone) (tiersOf alone) (lashesOf door alone) Ds 0 ≈ nat 0
+  pub d-one : OneSolution (ruleOf lashed) door lashed
+  pub d : (Ds : List Frac) → EndSolved (ruleOf lashed) door lashed Ds → S.shift Ds 1 ≈ nat 220725 /q nat 10 /q nat 10930
+  pub e-one : OneSolution (ruleOf lashedAbove) door lashedAbove
   pub e-shift :
       (Ds : List Frac) →
-      EndSolved (classRule lashedAbove) door lashedAbove Ds →
+      EndSolved (ruleOf lashedAbove) door lashedAbove Ds →
       S.shift Ds 2 ≈ nat 2918475 /q nat 100 /q nat 18130
-  pub e-racking : (Ds : List Frac) → EndSolved (classRule lashedAbove) door lashedAbove Ds → S.racking (doorTiers lashedAbove) Ds 1 ⊏ nat 0
+  pub e-racking : (Ds : List Frac) → EndSolved (ruleOf lashedAbove) door lashedAbove Ds → S.racking (doorTiers lashedAbove) Ds 1 ⊏ nat 0
   pub f : safeLoad 1 490000 ≡ 293000
   pub g : safeLoad 1 500000 ≡ 299000
   pub h : lashLength (rodS 1) ≡ 3250
   pub h-wider : lashLength (rodOf 1 1) ≡ 3251
   pub i-forty : wind (exposedBox 40 2896) ≈ nat 1906633728 /q nat 100000
   pub i-twenty : wind (exposedBox 20 2591) ≈ nat 847599012 /q nat 100000
-  pub j : transverse (classRule (sheetWith 7 (boxB ∷ []) []) .factor) boxB ≈ nat 358065 /q nat 10
+  pub j : transverse (ruleOf (sheetWith 7 (boxB ∷ []) []) .factor) boxB ≈ nat 358065 /q nat 10

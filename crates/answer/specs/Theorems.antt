@@ -10,7 +10,7 @@ use Rattle.sheet.specs.Layout.{sheetOf}
 use Rattle.sheet.specs.Refusals.{refusal}
 use Rattle.sheet.specs.Ends.{End}
 use Rattle.statics.specs.declared.LoadRule.{LoadRule}
-use Rattle.statics.specs.Loads.{Rule, classRule, StandsFor}
+use Rattle.statics.specs.Loads.{Rule, ruleOf, StandsFor}
 use Rattle.statics.specs.Ends.{OneSolution}
 use Rattle.answer.specs.declared.Outcome.{Outcome}
 use Rattle.answer.specs.Checked.{AnswerTo, Checked, kept, demanded}
@@ -20,14 +20,15 @@ use Rattle.answer.specs.Table.{Table}
 use Rattle.answer.specs.SafeLoads.{SafeLoads}
 use Rattle.answer.specs.Turned.{Turned}
 use Rattle.answer.specs.Relief.{Relief}
+use Rattle.answer.specs.FleetStandard.{FleetStandard}
 use Rattle.answer.specs.inner.Named.{answerBy, returned, written}
 
 -- demand 3, of a sheet t and the bytes s that begin with its answer: each end's equations have exactly one solution in fractions; every
 -- reported force is at least the exact force in size and less than 100 N above it, and a racking points the right way; an accepted stack
 -- exceeds no checked limit, and at each finding the exact force is above its limit or less than 100 N short of it
 pub record DemandThree (t : Sheet) (s : List ℕ) : Type 0 where
-  pub one : (e : End) → OneSolution (classRule t) e t
-  pub says : AnswerSays demanded (classRule t) t s
+  pub one : (e : End) → OneSolution (ruleOf t) e t
+  pub says : AnswerSays demanded (ruleOf t) t s
 
 pub record Theorems : Type 0 where
   -- what the check answers, a function of its input by name, is what it must say: of any sheet within the limits, by any rule; and of bytes
@@ -62,3 +63,5 @@ pub record Theorems : Type 0 where
   pub turned : Turned
   -- document 02's relief of the lock by a bottom hook
   pub relief : Relief
+  -- document 02's fleet standard
+  pub fleet-standard : FleetStandard

@@ -8,7 +8,7 @@ use Rattle.sheet.specs.declared.Tier.{Tier}
 use Rattle.sheet.specs.declared.Sheet.{Sheet}
 use Rattle.sheet.specs.Layout.{windCode}
 use Rattle.sheet.specs.Ends.{door, closed}
-use Rattle.statics.specs.Loads.{wind, classRule}
+use Rattle.statics.specs.Loads.{wind, ruleOf}
 use Rattle.statics.specs.Ends.{EndSolved, OneSolution}
 use Rattle.answer.specs.Table.{boxOf, rodS, sheetWith, lowestLoad}
 
@@ -31,14 +31,14 @@ pub record Turned : Type 0 where
   pub load-same : lowestLoad lashedTurned ≈ nat 220725 /q nat 10
   pub wind-same : wind exposedTurned ≈ nat 1906633728 /q nat 100000
   -- D = 22,072.5 / 22,890 mm at the door end, with S and the closed end's spring; 22,072.5 / 3,730 at the closed end, which is bare
-  pub lashed-one : OneSolution (classRule lashedTurned) door lashedTurned
+  pub lashed-one : OneSolution (ruleOf lashedTurned) door lashedTurned
   pub lashed-door :
       (Ds : List Frac) →
-      EndSolved (classRule lashedTurned) door lashedTurned Ds →
+      EndSolved (ruleOf lashedTurned) door lashedTurned Ds →
       S.shift Ds 1 ≈ nat 220725 /q nat 10 /q nat 22890
   pub lashed-closed :
-      (Ds : List Frac) → EndSolved (classRule lashedTurned) closed lashedTurned Ds → S.shift Ds 1 ≈ nat 220725 /q nat 10 /q nat 3730
+      (Ds : List Frac) → EndSolved (ruleOf lashedTurned) closed lashedTurned Ds → S.shift Ds 1 ≈ nat 220725 /q nat 10 /q nat 3730
   -- D of levels 1 and 2 of the mixture, at the door end
-  pub mixed-one : OneSolution (classRule mixed) door mixed
-  pub mixed-lower : (Ds : List Frac) → EndSolved (classRule mixed) door mixed Ds → S.shift Ds 1 ≈ nat 3719625 /q nat 2644636
-  pub mixed-upper : (Ds : List Frac) → EndSolved (classRule mixed) door mixed Ds → S.shift Ds 2 ≈ nat 18034377 /q nat 26446360
+  pub mixed-one : OneSolution (ruleOf mixed) door mixed
+  pub mixed-lower : (Ds : List Frac) → EndSolved (ruleOf mixed) door mixed Ds → S.shift Ds 1 ≈ nat 3719625 /q nat 2644636
+  pub mixed-upper : (Ds : List Frac) → EndSolved (ruleOf mixed) door mixed Ds → S.shift Ds 2 ≈ nat 18034377 /q nat 26446360

@@ -5,7 +5,7 @@ ghost use mathlib.Core.Path.{_≡_};
 ghost use lib.ListN.{length, take};
 ghost use Rattle.sheet.specs.Fits.{Fits};
 ghost use Rattle.springs.specs.inner.Elimination.{solved};
-ghost use Rattle.statics.specs.inner.Computed.{stiffnessesOf, figuresAt, figuresBy, classLoadRule};
+ghost use Rattle.statics.specs.inner.Computed.{stiffnessesOf, figuresAt, figuresBy, shareTwentieths, loadRuleOf};
 ghost use Rattle.figures.specs.inner.Ends.{Workable};
 use sheet::Lash;
 use sheet::Sheet;
@@ -17,8 +17,10 @@ use statics::LoadRule;
 mod loads; // loads.rt: the loads on the levels and the weights above them
 mod tier_springs; // tier_springs.rt: the springs of an end's tiers
 
-// The share of F that a tier's own top takes by the class rule, in twentieths: 0.45.
+// The share of F that a tier's own top takes, in twentieths: 0.45 by the class rule, half by the fleet standard.
 const CLASS_SHARE: u64 = 9;
+
+const FLEET_SHARE: u64 = 10;
 
 // The figures of one end: n tiers with a spring for each, m lashes, and the loads and weights that both ends share.
 fn end_figures(
@@ -91,14 +93,24 @@ pub fn figures_by(s: Sheet, rule: LoadRule) -> Figures
     }
 }
 
-// What the loads of a sheet go by: 0.45 of F on a tier's own top, and the route factor.
-pub fn class_rule(s: Sheet) -> LoadRule
+// The share by the rule number.
+fn share_of(number: u8) -> u64
+    ensures { λ r. ⌜ (r ≡ shareTwentieths number) × (r ≤ 20) ⌝ }
+{
+    if number == 2 {
+        return FLEET_SHARE;
+    }
+    CLASS_SHARE
+}
+
+// What the loads of a sheet go by: the share of its rule number, and the route factor.
+pub fn rule_of(s: Sheet) -> LoadRule
     requires { ⌜ Fits s ⌝ }
-    ensures { λ r. ⌜ (r ≡ classLoadRule s) × (r .share ≤ 20) × (r .factor ≤ 1000) ⌝ }
+    ensures { λ r. ⌜ (r ≡ loadRuleOf s) × (r .share ≤ 20) × (r .factor ≤ 1000) ⌝ }
 {
     let head = s.head;
     LoadRule {
-        share: CLASS_SHARE,
+        share: share_of(head.rule),
         factor: 10 * sheet::route_percent(head.route),
     }
 }

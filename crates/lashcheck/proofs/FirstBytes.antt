@@ -10,7 +10,7 @@ use Rattle.sheet.specs.Layout.{sheetOf}
 use Rattle.sheet.specs.Refusals.{decoded, refusal}
 use Rattle.sheet.proofs.FirstBytes.{first-452, refusal-452}
 use Rattle.sheet.proofs.Refusal.{decoded-reading, decoded-sheet, sheet-taken}
-use Rattle.statics.specs.Loads.{classRule}
+use Rattle.statics.specs.Loads.{ruleOf}
 use Rattle.answer.specs.Checked.{AnswerTo}
 use Rattle.lashcheck.specs.Replies.{ReplyAs, Reply}
 
@@ -32,4 +32,4 @@ module _ (s : List ℕ) where
     where
       go : (q : Reading) → refusal start 834 ≡ q → ReplyAs q margin (sheetOf start) bytes → ReplyAs q margin (sheetOf s) bytes
       go (Refused n p) e h = h
-      go Taken e h = subst (λ (t : Sheet). AnswerTo margin (classRule t) t bytes) (same-sheet 834 e) h
+      go Taken e h = subst (λ (t : Sheet). AnswerTo margin (ruleOf t) t bytes) (same-sheet 834 e) h

@@ -11,7 +11,7 @@ use Rattle.sheet.specs.Layout.{sheetOf}
 use Rattle.sheet.specs.Refusals.{refusal}
 use Rattle.answer.specs.declared.Outcome.{Outcome}
 use Rattle.answer.specs.declared.Outcome.the-variants.{Taken, Refused}
-use Rattle.statics.specs.Loads.{classRule}
+use Rattle.statics.specs.Loads.{ruleOf}
 use Rattle.answer.specs.Checked.{AnswerTo, AnsweredAs, Checked, number, second}
 use Rattle.answer.proofs.Numbers.{Numbers, numbers}
 use Rattle.lashcheck.specs.Lines.{Line}
@@ -24,13 +24,13 @@ module _ {margin : ℕ} {s before after : List ℕ} {o : Outcome} (room : length
 
   by-refusal :
       {bytes : List ℕ} →
-      ((q : Reading) → AnsweredAs q margin (classRule (sheetOf s)) (sheetOf s) before after o → ReplyAs q margin (sheetOf s) bytes) →
+      ((q : Reading) → AnsweredAs q margin (ruleOf (sheetOf s)) (sheetOf s) before after o → ReplyAs q margin (sheetOf s) bytes) →
       Reply margin s bytes
   by-refusal f =
       record {
         holds =
             f (refusal s 834)
-            (subst (λ (n : ℕ). AnsweredAs (refusal s n) margin (classRule (sheetOf s)) (sheetOf s) before after o) room (c .holds));
+            (subst (λ (n : ℕ). AnsweredAs (refusal s n) margin (ruleOf (sheetOf s)) (sheetOf s) before after o) room (c .holds));
       }
 
   pub reply-taken : {n : ℕ} → o ≡ Taken n → Reply margin s (take n after)
@@ -41,12 +41,12 @@ module _ {margin : ℕ} {s before after : List ℕ} {o : Outcome} (room : length
 
       go :
           (q : Reading) →
-          AnsweredAs q margin (classRule (sheetOf s)) (sheetOf s) before after o →
+          AnsweredAs q margin (ruleOf (sheetOf s)) (sheetOf s) before after o →
           ReplyAs q margin (sheetOf s) (take n after)
       go (R.Refused number second) h = absurd (other (sym is ∙ h .refused))
       go R.Taken h =
           let size : n ≡ length (h .bytes) = ap second (sym is ∙ h .taken) in
-          subst (AnswerTo margin (classRule (sheetOf s)) (sheetOf s))
+          subst (AnswerTo margin (ruleOf (sheetOf s)) (sheetOf s))
           (sym (ap (take n) (h .written) ∙ take-at (h .bytes) (drop (length (h .bytes)) before) n (sym size))) (h .answer)
 
   pub reply-refused : {p q : ℕ} {bytes : List ℕ} → o ≡ Refused p q → Line p q bytes → Reply margin s bytes
@@ -55,7 +55,7 @@ module _ {margin : ℕ} {s before after : List ℕ} {o : Outcome} (room : length
       other : {n : ℕ} → Refused p q ≡ Taken n → ⊥
       other e = let z : _≡_ {A = ℕ} 0 1 = cc in omega arith
 
-      go : (x : Reading) → AnsweredAs x margin (classRule (sheetOf s)) (sheetOf s) before after o → ReplyAs x margin (sheetOf s) bytes
+      go : (x : Reading) → AnsweredAs x margin (ruleOf (sheetOf s)) (sheetOf s) before after o → ReplyAs x margin (sheetOf s) bytes
       go (R.Refused number' second') h =
           let e : Refused p q ≡ Refused number' second' = sym is ∙ h .refused in
           rw (ap number e, ap second e) at line

@@ -9,9 +9,12 @@ use Rattle.arith.specs.Lists.{from, below}
 use Rattle.sheet.specs.Refusals.{offTiers, later, notLater, first, refusalOf, refusal}
 use Rattle.sheet.specs.Written.{headBytes, tierBytes, lashBytes}
 
--- rule 1, route 0, an ordinary lock of 400,000 N
+-- a rule number, route 0, an ordinary lock of 400,000 N; by rule 1 where no other is named
+abbrev headBy : ℕ → List ℕ
+headBy rule = headBytes (record { rule = rule; route = 0; lockMaterial = 0; zero = 0; lockBreakingLoad = 400000 })
+
 abbrev head : List ℕ
-head = headBytes (record { rule = 1; route = 0; lockMaterial = 0; zero = 0; lockBreakingLoad = 400000 })
+head = headBy 1
 
 -- a box like B, of a size, height, mass and A_Vmin
 abbrev box : ℕ → ℕ → ℕ → ℕ → List ℕ
@@ -77,6 +80,11 @@ cases =
     ∷ (head ++ stack 1 ++ bares ++ (7 ∷ []) gives Refused 2 23)
     ∷ (head ++ stack 10 ++ bares gives Taken)
     ∷ (head ++ stack 11 ++ bares gives Refused 6 8)
+    -- rule numbers 0, 2, 3 and the greatest
+    ∷ (headBy 0 ++ stack 1 ++ bares gives Refused 3 0)
+    ∷ (headBy 2 ++ stack 1 ++ bares gives Taken)
+    ∷ (headBy 3 ++ stack 1 ++ bares gives Refused 3 0)
+    ∷ (headBy 255 ++ stack 1 ++ bares gives Refused 3 0)
     -- mass 30,480 and 30,481; A_Vmin 1,000 and 1,001
     ∷ (head ++ (1 ∷ box 40 2591 30480 800) ++ bares gives Taken)
     ∷ (head ++ (1 ∷ box 40 2591 30481 800) ++ bares gives Refused 7 9)

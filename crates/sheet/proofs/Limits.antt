@@ -8,7 +8,7 @@ use borrow.Author.Tests.{ltb-false, leb-true, eqb-true, eqb-false, eq-eqb}
 use lib.Dec.{leb, ltb, eqb}
 use Rattle.sheet.specs.declared.Tier.{Tier}
 use Rattle.sheet.specs.declared.Lash.{Lash}
-use Rattle.sheet.specs.Layout.{within, upTo, windCode, tierFits, breakingFits, lashFits}
+use Rattle.sheet.specs.Layout.{within, upTo, ruleFits, windCode, tierFits, breakingFits, lashFits}
 use Rattle.sheet.specs.Refusals.{offTiers}
 use Rattle.sheet.specs.Lashings.{levelOf}
 use Rattle.sheet.specs.Theorems.{WindCodes}
@@ -25,10 +25,17 @@ pub breaking-limits : (x : ℕ) → breakingFits x ≡ true → BreakingLimits x
 unfolding breakingFits
 breaking-limits x e = record { some = least 1 2000000 x e; most = most 1 2000000 x e }
 
+-- one of two codes
+either-code : (x a b : ℕ) → eqb x a || eqb x b ≡ true → (x ≡ a) ⊎ (x ≡ b)
+either-code x a b e = ⊎-elim (λ q. inl (eqb-true x a q)) (λ q. inr (eqb-true x b q)) (or-true (eqb x a) (eqb x b) e)
+
+pub rule-number : (x : ℕ) → ruleFits x ≡ true → (x ≡ 1) ⊎ (x ≡ 2)
+rule-number x e = either-code x 1 2 e
+
 sized : (s h z a b : ℕ) → eqb s z && (eqb h a || eqb h b) ≡ true → (s ≡ z) × ((h ≡ a) ⊎ (h ≡ b))
 sized s h z a b e =
     let p = and-true (eqb s z) (eqb h a || eqb h b) e in
-    (eqb-true s z (p .0), ⊎-elim (λ q. inl (eqb-true h a q)) (λ q. inr (eqb-true h b q)) (or-true (eqb h a) (eqb h b) (p .1)))
+    (eqb-true s z (p .0), either-code h a b (p .1))
 
 heights : (s h : ℕ) → Box s h → (2438 ≤ h) × (h ≤ 2896)
 heights s h (inl (p, inl q)) = (omega arith, omega arith)

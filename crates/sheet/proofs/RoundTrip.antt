@@ -199,7 +199,7 @@ module _ (t : Sheet) (f : Fits t) (p : Padded t) where
       rw head-held (
         le-ltb (length s) 8 (omega (arith, tiers-held .there)),
         (
-          rw (eq-eqb (t .head .rule) 1 (f .rule), eq-eqb (t .head .zero) 0 (f .zero)),
+          rw (f .rule, eq-eqb (t .head .zero) 0 (f .zero)),
           (le-ltb 12 (t .head .route) (f .route), (rw (le-ltb 2 (t .head .lockMaterial) (f .lock), f .breaking), tt)),
         ),
       )

@@ -11,8 +11,8 @@ use lib.Seq.{take-at}
 use Rattle.sheet.specs.declared.Reading.{Reading}
 use Rattle.sheet.specs.declared.Reading.the-variants.{Taken, Refused}
 use Rattle.sheet.specs.declared.Decoded.{Decoded}
-use Rattle.sheet.specs.Layout.{headOf, tierCount, tierIn, lashIn, doorPlace, closedPlace, sparePlace, breakingFits, blankTier}
-use Rattle.sheet.specs.Layout.{blankLash, tiersIn, lashesIn, sheetOf}
+use Rattle.sheet.specs.Layout.{headOf, tierCount, tierIn, lashIn, doorPlace, closedPlace, sparePlace, ruleFits, breakingFits}
+use Rattle.sheet.specs.Layout.{blankTier, blankLash, tiersIn, lashesIn, sheetOf}
 use Rattle.arith.specs.Bytes.{byteAt}
 use Rattle.arith.specs.Lists.{below, padded}
 use Rattle.sheet.specs.Refusals.{notLater, first, endRows, sheetRows, unlessRefused, decoded}
@@ -43,7 +43,7 @@ pub taken-fits : (s : List ℕ) → first (sheetRows s) ≡ Taken → Fits (shee
 unfolding sheetOf
 taken-fits s e =
     record {
-      rule = eqb-true _ _ (not-false _ (three .0));
+      rule = not-false _ (three .0);
       zero = eqb-true _ _ (not-false _ (three .1));
       route = ltb-false _ _ (p .head .1 .1 .0);
       lock = ltb-false _ _ (five .0);
@@ -60,8 +60,8 @@ taken-fits s e =
     p : Parts s
     p = parts s e
 
-    three : (not (eqb (headOf s .rule) 1) ≡ false) × (not (eqb (headOf s .zero) 0) ≡ false)
-    three = or-false (not (eqb (headOf s .rule) 1)) (not (eqb (headOf s .zero) 0)) (p .head .1 .0)
+    three : (not (ruleFits (headOf s .rule)) ≡ false) × (not (eqb (headOf s .zero) 0) ≡ false)
+    three = or-false (not (ruleFits (headOf s .rule))) (not (eqb (headOf s .zero) 0)) (p .head .1 .0)
 
     five : (ltb 2 (headOf s .lockMaterial) ≡ false) × (not (breakingFits (headOf s .lockBreakingLoad)) ≡ false)
     five = or-false (ltb 2 (headOf s .lockMaterial)) (not (breakingFits (headOf s .lockBreakingLoad))) (p .head .1 .1 .1 .0)

@@ -1,7 +1,8 @@
 -- What is written of a sheet within its limits are bytes.
 use Prim.Native.Nat.{ℕ, zero, suc, _+_, _<_, _≤_}
 use mathlib.Core.List.{List, [], _∷_, _++_, flatMap}
-use mathlib.Core.Logic.{inl, inr}
+use mathlib.Core.Logic.{_⊎_, inl, inr}
+use mathlib.Core.Path.{_≡_}
 use native.Mathlib.Omega.{arith}
 use lib.ListN.{getD}
 use Rattle.arith.specs.Lists.{from, below, counted}
@@ -12,7 +13,7 @@ use Rattle.sheet.specs.Fits.{EndFits, Fits, tierAt, lashAt}
 use Rattle.sheet.specs.Written.{headBytes, tierBytes, lashBytes, written}
 use Rattle.sheet.specs.Theorems.{WrittenInBytes}
 use Rattle.sheet.specs.inner.Limits.{Box, TierFilled, LashLimits}
-use Rattle.sheet.proofs.Limits.{tier-filled, lash-limits}
+use Rattle.sheet.proofs.Limits.{rule-number, tier-filled, lash-limits}
 
 abbrev Bytes : List ℕ → Type 0
 Bytes [] = Unit {0}
@@ -65,7 +66,11 @@ written-bytes t f =
     (end-bytes (t .ntiers) (t .closed) (t .nclosed) (f .few) (f .closed)))))
   where
     head : Bytes (headBytes (t .head))
-    head = omega (arith, f)
+    head = (rule (rule-number (t .head .rule) (f .rule)), omega (arith, f))
+      where
+        rule : (t .head .rule ≡ 1) ⊎ (t .head .rule ≡ 2) → t .head .rule < 256
+        rule (inl e) = omega arith
+        rule (inr e) = omega arith
 
     tiers : Bytes (counted (t .ntiers) (λ k. tierBytes (tierAt (t .tiers) k)))
     tiers = (

@@ -7,7 +7,7 @@ use lib.ListN.{getD, take}
 use Rattle.sheet.specs.declared.Tier.{Tier}
 use Rattle.sheet.specs.declared.Lash.{Lash}
 use Rattle.sheet.specs.declared.Sheet.{Sheet}
-use Rattle.sheet.specs.Layout.{tierFits, breakingFits, lashFits, blankTier, blankLash}
+use Rattle.sheet.specs.Layout.{ruleFits, tierFits, breakingFits, lashFits, blankTier, blankLash}
 use Rattle.arith.specs.Lists.{padded}
 use Rattle.sheet.specs.Refusals.{offTiers, later}
 
@@ -25,9 +25,10 @@ pub record EndFits (n : ℕ) (lashes : List Lash) (count : ℕ) : Type 0 where
   pub placed : (k : ℕ) → k < count → offTiers n (lashAt lashes k) ≡ false
   pub ordered : (k : ℕ) → suc k < count → later (lashAt lashes k) (lashAt lashes (suc k)) ≡ true
 
--- a sheet: rule 1, route 0 to 12, lock material 0 to 2, its breaking load; 1 to 10 tiers, each within its limits and of the size of tier 1
+-- a sheet: rule 1 or 2, route 0 to 12, lock material 0 to 2, its breaking load; 1 to 10 tiers, each within its limits and of the size of
+-- tier 1
 pub record Fits (t : Sheet) : Type 0 where
-  pub rule : t .head .rule ≡ 1
+  pub rule : ruleFits (t .head .rule) ≡ true
   pub zero : t .head .zero ≡ 0
   pub route : t .head .route ≤ 12
   pub lock : t .head .lockMaterial ≤ 2

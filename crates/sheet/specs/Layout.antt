@@ -99,6 +99,10 @@ upTo hi x = leb x hi
 abbrev pub within : ℕ → ℕ → ℕ → Bool
 within lo hi x = leb lo x && leb x hi
 
+-- rule number 1, the class rule, or 2, the fleet standard (document 02, P10)
+abbrev pub ruleFits : ℕ → Bool
+ruleFits x = x is 1 || x is 2
+
 -- the wind byte is 0 where a box is sheltered and 1 where it is exposed, and gains 2 where the box stands turned (document 02, P1)
 abbrev pub windCode : Bool → Bool → ℕ
 windCode e t = cond e 1 0 + cond t 2 0

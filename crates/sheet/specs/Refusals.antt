@@ -10,7 +10,7 @@ use Rattle.sheet.specs.declared.Reading.{Reading}
 use Rattle.sheet.specs.declared.Reading.the-variants.{Taken, Refused}
 use Rattle.sheet.specs.declared.Decoded.{Decoded}
 use Rattle.sheet.specs.Layout.{headOf, tierCount, tierPlace, tierIn, lashPlace, lashIn, doorPlace, closedPlace, sparePlace, _is_}
-use Rattle.sheet.specs.Layout.{_above_, tierFits, breakingFits, lashFits, sheetOf, blankSheet}
+use Rattle.sheet.specs.Layout.{_above_, ruleFits, tierFits, breakingFits, lashFits, sheetOf, blankSheet}
 use Rattle.arith.specs.Bytes.{byteAt}
 use Rattle.arith.specs.Lists.{below}
 
@@ -31,9 +31,9 @@ row1 s at size = row 1 (length s) (at + size above length s)
 abbrev pub row2 : List ℕ → ℕ → Row
 row2 s at = row 2 at (length s above at)
 
--- 3, 0: rule number not 1, or the zero byte not zero
+-- 3, 0: rule number other than 1 or 2 (document 02, P10), or the zero byte not zero
 abbrev pub row3 : List ℕ → Row
-row3 s = row 3 0 (not (headOf s .rule is 1) || not (headOf s .zero is 0))
+row3 s = row 3 0 (not (ruleFits (headOf s .rule)) || not (headOf s .zero is 0))
 
 -- 4, 1: route above 12
 abbrev pub row4 : List ℕ → Row

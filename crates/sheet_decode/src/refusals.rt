@@ -66,7 +66,7 @@ fn test_head(s: &[u8]) -> Reading
         return Reading::Refused(1, s.len());
     }
     let h = sheet_fields::head_of(s);
-    if (h.rule != 1) | (h.zero != 0) {
+    if !((h.rule == 1) | (h.rule == 2)) | (h.zero != 0) {
         return Reading::Refused(3, 0);
     }
     if 12 < h.route {

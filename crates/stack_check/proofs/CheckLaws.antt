@@ -18,7 +18,7 @@ use Rattle.sheet.proofs.TakenSheets.{decoded-fits}
 use Rattle.statics.specs.declared.LoadRule.{LoadRule}
 use Rattle.statics.specs.declared.Figures.{Figures}
 use Rattle.statics.specs.Reported.{Fitting}
-use Rattle.statics.specs.inner.Computed.{figuresBy, classLoadRule}
+use Rattle.statics.specs.inner.Computed.{figuresBy, loadRuleOf}
 use Rattle.statics.proofs.EndChain.{exact-stands}
 use Rattle.statics.proofs.Figured.{end-figured}
 use Rattle.answer.specs.declared.Outcome.{Outcome}
@@ -98,11 +98,11 @@ module _ (s before : List ℕ) where
       taken-fits = decoded-fits s d is e
 
       pub taken :
-          {c : LoadRule} {after : List ℕ} {r : Outcome} → c ≡ classLoadRule (d .sheet) → ByName c (d .sheet) before after r → Checks after r
+          {c : LoadRule} {after : List ℕ} {r : Outcome} → c ≡ loadRuleOf (d .sheet) → ByName c (d .sheet) before after r → Checks after r
       taken {c} {after} {r} rule (g, h) =
           let same : d .sheet ≡ sheetOf s = ap (λ (x : Decoded). x .sheet) is ∙ decoded-sheet s (reading-is e) in
           let bytes : answerBy c (d .sheet) ≡ checkBytes s =
-          ap (λ (c : LoadRule). answerBy c (d .sheet)) rule ∙ ap (λ (t : Sheet). answerBy (classLoadRule t) t) same in
+          ap (λ (c : LoadRule). answerBy c (d .sheet)) rule ∙ ap (λ (t : Sheet). answerBy (loadRuleOf t) t) same in
           by-refusal (roomFor (length before)) (room-last s (length before) (reading-is e))
           (g ∙ ap (λ (b : List ℕ). returnedAs (roomFor (length before)) b) bytes)
           (h ∙ ap (λ (b : List ℕ). writtenAs (roomFor (length before)) b before) bytes)

@@ -40,7 +40,7 @@ pub fn check(sheet: &[u8], answer: &mut [u8]) -> Outcome
         Reading::Refused(number, second) => Outcome::Refused(number, second),
         Reading::Taken => {
             let t = decoded.sheet;
-            answer_to(t, figures::class_rule(t), answer)
+            answer_to(t, figures::rule_of(t), answer)
         }
     }
 }

@@ -5,10 +5,11 @@ use mathlib.Core.List.{List, [], _∷_}
 use Prim.Native.Nat.{ℕ, zero, suc, _*_, _-_, _^_, _≤_, _<_}
 use native.Mathlib.Decide.{decLt}
 use native.Mathlib.Omega.{arith}
+use lib.Dec.{eqb}
 use lib.ListN.{getD, length, List·getD-eq-default}
 use lib.IntN.{pos}
 use Rattle.sheet.specs.Layout.{turned, blankTier}
-use Rattle.arith.specs.Fractions.{nat, recip, _/q_, _⊏_}
+use Rattle.arith.specs.Fractions.{nat, recip, _*q_, _/q_, _≈_, _⊏_}
 use Rattle.springs.specs.Equations as S
 use Rattle.springs.specs.Equations.{loadAt}
 use Rattle.springs.specs.inner.Promise.{Rounded}
@@ -18,11 +19,11 @@ use Rattle.sheet.specs.declared.Sheet.{Sheet}
 use Rattle.sheet.specs.Routes.{routePercent}
 use Rattle.sheet.proofs.Routes.{percent-range}
 use Rattle.statics.specs.declared.LoadRule.{LoadRule}
-use Rattle.statics.specs.Loads.{Rule, classRule, StandsFor}
+use Rattle.statics.specs.Loads.{half, Rule, ruleOf, StandsFor}
 use Rattle.statics.specs.Ends.{springOf, chainTiers, chainLash, chainLashes, endTiers, endLashes}
 use Rattle.sheet.specs.Ends.{End, door, closed, tiersOf, lashesOf}
 use Rattle.statics.specs.inner.WholeNumbers.{levelLoad}
-use Rattle.statics.specs.inner.Computed.{classLoadRule}
+use Rattle.statics.specs.inner.Computed.{loadRuleOf}
 use Rattle.sheet.specs.inner.Limits.{TierLimits, SheetLimits}
 use Rattle.statics.proofs.LashStiffness.{stiffness-above}
 use Rattle.statics.proofs.EachLash.{Each, each-first, each-rest}
@@ -109,14 +110,19 @@ module _ (rule : Rule) (e : End) (t : Sheet) where
           lashes = chain-stiff (lashesOf e t) (end-each e f);
         }
 
--- the class rule: 9 twentieths are 0.45, and the factor has ten times as many thousandths as the route has percents
-pub class-stands : {t : Sheet} → SheetLimits t → StandsFor (classLoadRule t) (classRule t)
+-- the rule of a sheet: 9 twentieths are 0.45 and 10 are half, and the factor has ten times as many thousandths as the route has percents
+share-stands : (fleet : Bool) → nat 20 *q cond fleet half (nat 45 /q nat 100) ≈ nat (cond fleet 10 9)
 unfolding recip
-class-stands {t} f =
+share-stands true = record { cross = refl }
+share-stands false = record { cross = refl }
+
+pub rule-stands : {t : Sheet} → SheetLimits t → StandsFor (loadRuleOf t) (ruleOf t)
+unfolding recip
+rule-stands {t} f =
     record {
-      share = record { cross = refl };
+      share = share-stands (eqb (t .head .rule) 2);
       factor = record { cross = ap pos (omega arith) };
-      share-most = omega arith;
+      share-most = either (λ s. s ≤ 20) (eqb (t .head .rule) 2) (omega arith) (omega arith);
       factor-most = omega (arith, percent-most f);
     }
 

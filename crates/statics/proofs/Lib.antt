@@ -13,6 +13,7 @@ pub mod Inputs
 pub mod Turned
 pub mod Relief
 pub mod OneSolution
+pub mod RuleNumbers
 -- Bounds of the exact forces.
 pub mod Within
 pub mod LoadBounds

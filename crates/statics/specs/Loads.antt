@@ -43,11 +43,15 @@ pub record Rule : Type 0 where
   pub share : Frac
   pub factor : Frac
 
--- the class rule for a sheet: 0.45, and the route factor (CR 5.2.4(c))
-abbrev pub classRule : Sheet → Rule
-classRule t = record { share = nat 45 /q nat 100; factor = nat (routePercent (t .head .route)) /q nat 100 }
+-- the share by the rule number: 0.45 by 1, the class rule; half by 2, one operator's book (document 02, P10). No other is taken
+abbrev pub shareOf : ℕ → Frac
+shareOf number = cond (eqb number 2) half (nat 45 /q nat 100)
 
--- Q of a tier = 0.45 F + 0.5 P of its own, plus F + P of every tier above (CR 5.3.2)
+-- the rule of a sheet: the share of its rule number, and the route factor (CR 5.2.4(c))
+abbrev pub ruleOf : Sheet → Rule
+ruleOf t = record { share = shareOf (t .head .rule); factor = nat (routePercent (t .head .route)) /q nat 100 }
+
+-- Q of a tier = share × F + 0.5 P of its own, plus F + P of every tier above (CR 5.3.2)
 unfoldable pub load : Rule → Tier → List Tier → Frac
 load rule t above =
     rule .share *q transverse (rule .factor) t +q half *q wind t +q sumq (λ u. transverse (rule .factor) u +q wind u) above

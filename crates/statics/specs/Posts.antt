@@ -23,7 +23,7 @@ levelHeight ts zero = 0
 levelHeight [] (suc i) = 0
 levelHeight (t ∷ ts) (suc i) = t .height + levelHeight ts i
 
--- F at 45% of its box's height and P at half of it, each × its height over a level; the first box stands `foot` over the level
+-- F at the rule's share of its box's height and P at half of it, each × its height over a level; the first box stands `foot` over the level
 unfoldable pub turning : Rule → Frac → List Tier → Frac
 turning rule foot [] = nat 0
 turning rule foot (t ∷ above) =

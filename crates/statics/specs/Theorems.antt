@@ -5,7 +5,7 @@ use mathlib.Core.List.{List, [], _∷_}
 use Prim.Native.Nat.{ℕ, suc, _≤_}
 use lib.Dec.{ltb}
 use lib.ListN.{getD, drop}
-use Rattle.arith.specs.Fractions.{Frac, nat, _+q_, _*q_, _≈_, _⊑_}
+use Rattle.arith.specs.Fractions.{Frac, nat, _+q_, _*q_, _/q_, _≈_, _⊑_}
 use Rattle.springs.specs.Equations.{shift, racking, Solves, loadAt}
 use Rattle.sheet.specs.declared.Tier.{Tier}
 use Rattle.sheet.specs.declared.Lash.{Lash}
@@ -14,7 +14,7 @@ use Rattle.sheet.specs.Fits.{Fits}
 use Rattle.sheet.specs.Layout.{exposed, turned, lashFits, blankTier}
 use Rattle.sheet.specs.Refusals.{offTiers}
 use Rattle.statics.specs.declared.LoadRule.{LoadRule}
-use Rattle.statics.specs.Loads.{transverse, wind, verticalForce, Rule, StandsFor}
+use Rattle.statics.specs.Loads.{transverse, wind, verticalForce, Rule, shareOf, ruleOf, StandsFor}
 use Rattle.statics.specs.Ends.{springOf, chainTiers, chainLashes, EndSolved, OneSolution}
 use Rattle.statics.specs.Posts.{moment, inTension}
 use Rattle.sheet.specs.Ends.{End, door, closed}
@@ -54,6 +54,17 @@ HeavierTiers ts us = (i : ℕ) → HeavierTier (getD ts i blankTier) (getD us i 
 -- under heavier boxes no level's load is less
 abbrev pub LoadsGrow : Rule → End → List Tier → List Tier → Type 0
 LoadsGrow rule e ts us = (i : ℕ) → loadAt (chainTiers rule e ts) i ⊑ loadAt (chainTiers rule e us) i
+
+-- The rule numbers (document 02, P10; proofs/RuleNumbers)
+
+abbrev pub SharesByNumber : Type 0
+SharesByNumber = (shareOf 1 ≈ nat 45 /q nat 100) × (shareOf 2 ≈ nat 1 /q nat 2)
+
+-- by the rule of a sheet: a share from 0 to 1, exactly one solution at each end, and no shift to windward
+pub record ByNumber (t : Sheet) : Type 0 where
+  pub proper : Proper (ruleOf t)
+  pub one : (e : End) → OneSolution (ruleOf t) e t
+  pub leeward : (e : End) → NoWindwardShift (ruleOf t) e t
 
 -- Turned boxes (proofs/Turned)
 
@@ -107,6 +118,9 @@ pub record Theorems : Type 0 where
   pub loads-grow : (rule : Rule) → Proper rule → (e : End) (ts us : List Tier) → HeavierTiers ts us → LoadsGrow rule e ts us
   -- a rule that whole numbers stand for is such a rule
   pub stands-proper : (c : LoadRule) (rule : Rule) → StandsFor c rule → Proper rule
+  -- so by either rule number
+  pub shares-by-number : SharesByNumber
+  pub by-number : (t : Sheet) → Fits t → ByNumber t
   -- turned boxes
   pub own-springs : OwnSprings
   pub turn-swaps-springs : TurnSwapsSprings

@@ -9,7 +9,7 @@ use Rattle.sheet.specs.declared.Sheet.{Sheet}
 use Rattle.sheet.specs.Layout.{sheetOf}
 use Rattle.sheet.specs.Refusals.{refusal}
 use Rattle.statics.specs.declared.LoadRule.{LoadRule}
-use Rattle.statics.specs.inner.Computed.{figuresBy, classLoadRule}
+use Rattle.statics.specs.inner.Computed.{figuresBy, loadRuleOf}
 use Rattle.answer.specs.declared.Outcome.{Outcome}
 use Rattle.answer.specs.declared.Outcome.the-variants as O
 use Rattle.answer.specs.Answers.{answerBytes}
@@ -27,9 +27,9 @@ abbrev pub writtenAs : Reading → List ℕ → List ℕ → List ℕ
 writtenAs (Refused c p) bytes before = before
 writtenAs Taken bytes before = bytes ++ drop (length bytes) before
 
--- of a sheet's bytes, by the class rule
+-- of a sheet's bytes, by the rule of the sheet
 abbrev pub checkBytes : List ℕ → List ℕ
-checkBytes s = answerBy (classLoadRule (sheetOf s)) (sheetOf s)
+checkBytes s = answerBy (loadRuleOf (sheetOf s)) (sheetOf s)
 
 unfoldable pub returned : List ℕ → ℕ → Outcome
 returned s room = returnedAs (refusal s room) (checkBytes s)

@@ -8,7 +8,7 @@ use Rattle.stack_check.proofs.check.Tie as tie
 abbrev entered : tie.After-decode → tie.Start
 entered c = c .before .before .before
 
-abbrev decoded : tie.After-class-rule → tie.After-decode
+abbrev decoded : tie.After-rule-of → tie.After-decode
 decoded c = c .before .before .before .before
 
 decode-requires : tie.Need-decode-requires
@@ -20,8 +20,8 @@ enum-known-reading c = search needs
 enum-told : tie.Need-enum-told
 enum-told c = search needs
 
-class-rule-requires : tie.Need-class-rule-requires
-class-rule-requires c κs =
+rule-of-requires : tie.Need-rule-of-requires
+rule-of-requires c κs =
     let m = c .before in
     let d = m .before .before in
     let a = entered d .args in
@@ -33,7 +33,7 @@ answer-to-requires c κs =
     let m = r .before .before in
     let d = m .before .before in
     let a = entered d .args in
-    let e = r .class-rule .ensures in
+    let e = r .rule-of .ensures in
     (taken-fits (a .sheet .now) (a .answer .now) (d .decode .result) (d .decode .ensures) (m .enum-told .given .1), e .1, e .2)
 
 returns : tie.Need-returns
@@ -53,7 +53,7 @@ returns-2 c =
     let d = m .before .before in
     let a = entered d .args in
     taken (a .sheet .now) (a .answer .now) (d .decode .result) (d .decode .ensures) (m .enum-told .given .1)
-    (r .class-rule .ensures .0) (w .answer-to .ensures .1)
+    (r .rule-of .ensures .0) (w .answer-to .ensures .1)
 
 pub check-spec : {M : Type 1} → statement M
 check-spec =
@@ -62,7 +62,7 @@ check-spec =
     decode-requires
     enum-known-reading
     enum-told
-    class-rule-requires
+    rule-of-requires
     answer-to-requires
     returns
     same-length

@@ -1,7 +1,9 @@
 -- What the check computes of a sheet, by name: a function of the sheet and of what the loads go by. It is cited whole and need not be
 -- believed.
+use mathlib.Core.Bool.{cond}
 use mathlib.Core.List.{List, map}
 use Prim.Native.Nat.{ℕ, suc, _*_}
+use lib.Dec.{eqb}
 use lib.IntN.{pos}
 use lib.ListN.{getD, length}
 use Rattle.arith.specs.Lists.{below, padded}
@@ -52,6 +54,10 @@ endFiguresBy c e t = figuresAt (t .ntiers) (springsOf e (tiersOf t)) (tiersOf t)
 unfoldable pub figuresBy : LoadRule → Sheet → Figures
 figuresBy c t = record { door = endFiguresBy c door t; closed = endFiguresBy c closed t }
 
--- the class rule in whole numbers: 9 twentieths, and ten times the route's percents
-abbrev pub classLoadRule : Sheet → LoadRule
-classLoadRule t = record { share = 9; factor = 10 * routePercent (t .head .route) }
+-- the share by the rule number, in twentieths
+abbrev pub shareTwentieths : ℕ → ℕ
+shareTwentieths number = cond (eqb number 2) 10 9
+
+-- the rule of a sheet in whole numbers: the share of its rule number, and ten times the route's percents
+abbrev pub loadRuleOf : Sheet → LoadRule
+loadRuleOf t = record { share = shareTwentieths (t .head .rule); factor = 10 * routePercent (t .head .route) }

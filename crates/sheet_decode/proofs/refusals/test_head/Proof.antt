@@ -17,7 +17,7 @@ there : (h : tie.After-head-of) → first (rows h) ≡ first (drop 1 (rows h))
 there h = row-passed _ _ (le-ltb _ _ (h .before .if1 .left))
 
 abbrev head : tie.Else2 → tie.After-head-of
-head e = e .before .before .before
+head e = e .before .before .before .before
 
 ruled : (e : tie.Else2) → first (rows (head e)) ≡ first (drop 2 (rows (head e)))
 ruled e = there (head e) ∙ row-passed _ _ (simp (← head e .head-of .ensures, e .if2 .left))
@@ -38,7 +38,7 @@ head-of-requires c κs = search needs
 
 returns-2 : tie.Need-returns-2
 returns-2 c =
-    let h = c .before .before .before in
+    let h = c .before .before .before .before in
     sym (there h ∙ row-holds _ _ (simp (← h .head-of .ensures, c .if2 .taken)))
 
 returns-3 : tie.Need-returns-3
