@@ -20,7 +20,7 @@ use Rattle.arith.specs.Lists.{counted, from, below}
 use Rattle.statics.specs.Forces as F
 use Rattle.statics.specs.Reported.{reportedNumber, reportedSize, Fitting}
 use Rattle.answer.specs.Places.{sectionSize, entryPlace, endSize, endPlace, findingsPlace, lashesPlace, sectionPlace, forceIn}
-use Rattle.answer.specs.Places.{findingIn, noFinding, EndReadBack, ReadBack}
+use Rattle.answer.specs.Places.{noFinding, EndReadBack, ReadBack}
 
 -- xs stands in l from `at` on
 record Stands (l : List ℕ) (at : ℕ) (xs : List ℕ) : Type 0 where

@@ -2,9 +2,10 @@
 use mathlib.Core.Path.{_≡_, refl}
 use mathlib.Core.Bool.{Bool, true, false, cond}
 use mathlib.Core.List.{_∷_}
-use Prim.Native.Nat.{ℕ, suc, _+_, _*_, _/_, _<_, _≤_}
+use Prim.Native.Nat.{ℕ, suc, _+_, _*_, _/_, _%_, _<_, _≤_}
+use native.Mathlib.Nat.{div-add-mod', mod-lt, mul-comm, add-mul, mul-le-mul-right}
 use native.Mathlib.Omega.{arith}
-use lib.Dec.{eqb}
+use lib.Dec.{eqb, lit≤}
 use borrow.Author.Tests.{lt-ltb}
 use Rattle.sheet.specs.declared.Sheet.{Sheet}
 use Rattle.sheet.specs.Ends.{End}
@@ -13,29 +14,48 @@ use Rattle.answer.specs.Limits.{safetyFactor, safeLoad}
 use Rattle.answer.specs.Findings.{Kind, endCode, kindCode, limitAt, sizeAt, findingsFrom}
 use Rattle.answer.specs.SafeLoads.{GreatestSafe, SafeLoads}
 
--- breaking load / factor in whole kilonewtons, by the factor in hundredths
-module _ (breaking : ℕ) where
-  load : ℕ → ℕ
-  load factor = breaking * 100 / factor / 1000 * 1000
+-- breaking load / factor in whole kilonewtons, by any factor in hundredths
+module _ (breaking factor : ℕ) (h : 0 < factor) where
+  abbrev newtons : ℕ
+  newtons = breaking * 100 / factor
 
-  safe : (higher : Bool) → cond higher 167 200 * load (cond higher 167 200) ≤ 100 * breaking
-  unfolding load
-  safe true = omega arith
-  safe false = omega arith
+  abbrev load : ℕ
+  load = newtons / 1000 * 1000
 
-  most : (higher : Bool) → 100 * breaking < cond higher 167 200 * (load (cond higher 167 200) + 1000)
-  unfolding load
-  most true = omega arith
-  most false = omega arith
+  parts : newtons * factor + breaking * 100 % factor ≡ breaking * 100
+  parts = div-add-mod' (breaking * 100) factor
+
+  safe : factor * load ≤ 100 * breaking
+  safe = omega (arith, parts, mul-comm factor load, mul-le-mul-right {m = load} {n = newtons} factor (omega arith))
+
+  most : 100 * breaking < factor * (load + 1000)
+  most =
+      omega (
+        arith,
+        parts,
+        mod-lt (breaking * 100) h,
+        mul-comm factor (load + 1000),
+        add-mul newtons 1 factor,
+        mul-le-mul-right {m = newtons + 1} {n = load + 1000} factor (omega arith),
+      )
+
+either : (b : Bool) (x y : ℕ) → 0 < x → 0 < y → 0 < cond b x y
+either true x y p q = p
+either false x y p q = q
+
+positive : (material : ℕ) → 0 < safetyFactor material
+positive material = either (eqb material 1) _ _ (lit≤ tt) (lit≤ tt)
 
 pub greatest : (material breaking : ℕ) → GreatestSafe material breaking (safeLoad material breaking)
-unfolding safeLoad load
+unfolding safeLoad
 greatest material breaking =
+    let factor = safetyFactor material in
+    let positive = positive material in
     record {
-      kilonewtons = breaking * 100 / safetyFactor material / 1000;
+      kilonewtons = breaking * 100 / factor / 1000;
       whole = refl;
-      safe = safe breaking (eqb material 1);
-      most = most breaking (eqb material 1);
+      safe = safe breaking factor positive;
+      most = most breaking factor positive;
     }
 
 none-safe :
@@ -52,10 +72,8 @@ safe-loads =
     record {
       of-lock = λ e t i. greatest (t .head .lockMaterial) (t .head .lockBreakingLoad);
       of-lash = λ e t j. greatest _ _;
-      rod = refl;
-      lock = refl;
       plate = refl;
-      bridge = refl;
+      bridge = λ material other. rw (other) refl;
       none-higher = refl;
       none-other = refl;
       none-safe = none-safe;

@@ -1,6 +1,6 @@
 -- The theorems of specs/Theorems hold.
-use mathlib.Core.Path.{_≡_, refl, sym, subst}
-use mathlib.Core.List.{List, _++_}
+use mathlib.Core.Path.{_≡_, sym, subst}
+use mathlib.Core.List.{List}
 use Prim.Native.Nat.{ℕ, _≤_}
 use lib.Dec.{lit≤}
 use lib.ListN.{length, drop}
@@ -12,7 +12,7 @@ use Rattle.sheet.specs.Refusals.{refusal}
 use Rattle.statics.proofs.Margins.{figured-wider}
 use Rattle.statics.specs.Loads.{Rule, ruleOf}
 use Rattle.answer.specs.declared.Outcome.{Outcome}
-use Rattle.answer.specs.Checked.{AnswerTo, Answered, AnsweredAs, Checked, kept, demanded}
+use Rattle.answer.specs.Checked.{AnswerTo, AnsweredAs, Checked, kept, demanded}
 use Rattle.answer.specs.Consequences.{AnswerSays}
 use Rattle.answer.specs.Theorems.{DemandThree, Theorems}
 use Rattle.answer.proofs.Consequences as C

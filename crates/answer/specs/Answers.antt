@@ -1,6 +1,6 @@
 -- Document 01, "The answer sheet": its bytes.
 use mathlib.Core.List.{List, [], _∷_, _++_, flatMap}
-use Prim.Native.Nat.{ℕ, zero, suc}
+use Prim.Native.Nat.{ℕ, suc}
 use lib.IntN.{pos}
 use lib.ListN.{getD, length}
 use Rattle.arith.specs.Bytes.{bytes4, twos}

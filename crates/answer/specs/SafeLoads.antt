@@ -1,7 +1,9 @@
 -- Document 02, P3: safe working loads in whole kilonewtons; what the definition means, and figures of gear certificates.
 use mathlib.Core.Path.{_≡_}
+use mathlib.Core.Bool.{false}
 use mathlib.Core.List.{_∷_}
 use Prim.Native.Nat.{ℕ, suc, _+_, _*_, _<_, _≤_}
+use lib.Dec.{eqb}
 use lib.ListN.{getD}
 use Rattle.sheet.specs.declared.Sheet.{Sheet}
 use Rattle.sheet.specs.declared.Lash.{Lash}
@@ -25,11 +27,9 @@ pub record SafeLoads : Type 0 where
   -- the limit of a lock and of a lash
   pub of-lock : (e : End) (t : Sheet) (i : ℕ) → GreatestSafe (t .head .lockMaterial) (t .head .lockBreakingLoad) (limitAt e t lockTension i)
   pub of-lash : (e : End) (t : Sheet) (j : ℕ) → GreatestOfLash (getD (lashesOf e t) j blankLash) (limitAt e t lashTension j)
-  -- CR Table 3-4: 490, 500 and 460 kN of higher strength steel, and 400 kN with factor 2
-  pub rod : safeLoad 1 490000 ≡ 293000
-  pub lock : safeLoad 1 500000 ≡ 299000
+  -- CR Table 3-4, beside (f) and (g) of Table: 460 kN of higher strength steel, and 400 kN of anything else
   pub plate : safeLoad 1 460000 ≡ 275000
-  pub bridge : safeLoad 0 400000 ≡ 200000
+  pub bridge : (material : ℕ) → eqb material 1 ≡ false → safeLoad material 400000 ≡ 200000
   -- less than one kilonewton is none; where none is safe, any reported force above 0 is a finding
   pub none-higher : safeLoad 1 1669 ≡ 0
   pub none-other : safeLoad 0 1999 ≡ 0

@@ -1,11 +1,9 @@
 -- Fields held one after another.
-use mathlib.Core.Bool.{cond}
 use mathlib.Core.List.{List}
-use mathlib.Core.Path.{_≡_, refl, sym, ap, _∙_}
+use mathlib.Core.Path.{_≡_, refl}
 use Prim.Native.Nat.{ℕ, suc, _+_, _-_, _/_, _<_, _≤_}
 use native.Mathlib.Omega.{arith}
 use borrow.Author.Tests.{eq-eqb, ne-eqb}
-use lib.Dec.{eqb}
 use Rattle.cases.specs.declared.fields.Held.{Held}
 use Rattle.cases.specs.declared.fields.Held.the-variants.{Inside, Outside}
 use Rattle.cases.specs.inner.Fields.{sizeWithin, heldFrom}

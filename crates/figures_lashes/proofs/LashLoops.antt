@@ -117,11 +117,11 @@ module _ {m : ℕ} {ls : List Lash} (g : Listed m ls) where
       )
 
 -- a post takes no more than the whole vertical part
-pub lee-kept : (g : Lashing) (x : ℕ) → leePart g x ≤ x
+lee-kept : (g : Lashing) (x : ℕ) → leePart g x ≤ x
 lee-kept (Cross l) x = omega arith
 lee-kept (Side l) x = omega arith
 
-pub windward-kept : (g : Lashing) (x : ℕ) → windwardPart g x ≤ x
+windward-kept : (g : Lashing) (x : ℕ) → windwardPart g x ≤ x
 windward-kept (Cross l) x = omega arith
 windward-kept (Side l) x = omega arith
 
@@ -198,7 +198,7 @@ module _ {m : ℕ} {ls : List Lash} {d : List ℕ} (g : Listed m ls) (small : (i
     abbrev up : ℕ
     up = verticalFrom x (carriedLash (lashingOf l))
 
-    pub post-fits :
+    post-fits :
         (post : Lashing → ℕ → ℕ) →
         ((g : Lashing) (x : ℕ) → post g x ≤ x) →
         {r : List ℕ} →
@@ -206,6 +206,15 @@ module _ {m : ℕ} {ls : List Lash} {d : List ℕ} (g : Listed m ls) (small : (i
         getD r corner 0 + post (lashingOf l) up < 2 ^ 64
     post-fits post kept t =
         rw (is-upward d l ea ex) (omega (arith, tallied-le t (first g h own) (only-at ec), post-le d g small post kept corner))
+
+    -- what a turn adds on each post stays in range
+    pub sums-fit :
+        {k : Lashing} {p q : ℕ} →
+        k ≡ lashingOf l →
+        p ≡ leePart k (verticalFrom x (carriedLash k)) →
+        q ≡ windwardPart k (verticalFrom x (carriedLash k)) →
+        (getD lee corner 0 + p < 2 ^ 64) × (getD windward corner 0 + q < 2 ^ 64)
+    sums-fit ek ep eq = rw (ep, eq, ek) (post-fits leePart lee-kept (s .lees), post-fits windwardPart windward-kept (s .windwards))
 
     post-more :
         (post : Lashing → ℕ → ℕ) {r : List ℕ} →

@@ -8,8 +8,7 @@ use lib.ListN.{getD}
 use Rattle.arith.specs.Lists.{from, below, counted}
 use Rattle.sheet.specs.declared.Tier.{Tier}
 use Rattle.sheet.specs.declared.Lash.{Lash}
-use Rattle.sheet.specs.declared.Sheet.{Sheet}
-use Rattle.sheet.specs.Fits.{EndFits, Fits, tierAt, lashAt}
+use Rattle.sheet.specs.Fits.{EndFits, tierAt, lashAt}
 use Rattle.sheet.specs.Written.{headBytes, tierBytes, lashBytes, written}
 use Rattle.sheet.specs.Theorems.{WrittenInBytes}
 use Rattle.sheet.specs.inner.Limits.{Box, TierFilled, LashLimits}

@@ -1,10 +1,10 @@
 -- Document 01, "The stack sheet": where each field lies, the codes and limits of the fields, and what a sheet holds.
 -- A byte past the end reads 0, so that each field has a value on any bytes; the refusals say when the bytes are too few.
-use Prim.Native.Nat.{ℕ, zero, suc, _+_, _*_, _-_, _/_, _%_}
+use Prim.Native.Nat.{ℕ, zero, _+_, _*_, _/_, _%_}
 use mathlib.Core.Bool.{Bool, cond, _&&_, _||_}
-use mathlib.Core.List.{List, [], _∷_, _++_, map}
+use mathlib.Core.List.{List, map}
 use lib.Dec.{leb, ltb, eqb}
-use lib.ListN.{length, getD, replicate}
+use lib.ListN.{replicate}
 use Rattle.arith.specs.Bytes.{byteAt, le2, le4}
 use Rattle.arith.specs.Lists.{below, padded}
 use Rattle.sheet.specs.declared.Head.{Head}

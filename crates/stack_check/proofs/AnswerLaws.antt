@@ -13,7 +13,7 @@ use lib.Seq.{sets, take-at}
 use Rattle.sheet.specs.declared.Lash.{Lash}
 use Rattle.sheet.specs.declared.Sheet.{Sheet}
 use Rattle.sheet.specs.Layout.{blankLash, lashFits}
-use Rattle.sheet.specs.Fits.{lashAt, EndFits, Fits}
+use Rattle.sheet.specs.Fits.{EndFits, Fits}
 use Rattle.statics.specs.declared.EndFigures.{EndFigures}
 use Rattle.statics.specs.declared.Figures.{Figures}
 use Rattle.sheet.specs.Ends.{End, door, closed, lashesOf}

@@ -2,7 +2,7 @@
 use mathlib.Core.Path.{_≡_, sym, _∙_}
 use mathlib.Core.Bool.{Bool}
 use mathlib.Core.List.{List}
-use Prim.Native.Nat.{ℕ, suc, _+_, _*_, _^_, _≤_, _<_}
+use Prim.Native.Nat.{ℕ, suc, _*_, _^_, _≤_, _<_}
 use native.Mathlib.Decide.{decLt}
 use native.Mathlib.Omega.{arith}
 use lib.ListN.{getD, length, drop, length-drop}
@@ -26,7 +26,7 @@ use Rattle.statics.specs.Loads.{Rule, StandsFor}
 use Rattle.statics.specs.Lashes.{pull, athwartPart, verticalPart}
 use Rattle.statics.specs.Ends.{EndSolved, endTiers, endLashes}
 use Rattle.sheet.specs.Ends.{End, tiersOf, lashesOf}
-use Rattle.statics.specs.Posts.{athwartOf, moment, weightAbove, verticals, inCompression, inTension, onLee, onWindward, lee, windward}
+use Rattle.statics.specs.Posts.{athwartOf, moment, weightAbove, inCompression, inTension, onLee, onWindward, lee, windward}
 use Rattle.statics.specs.Posts.{compression, tension, greater, lower, atMost}
 use Rattle.statics.specs.Forces as F
 use Rattle.statics.specs.Forces.{lashForce}

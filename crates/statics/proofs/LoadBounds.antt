@@ -9,7 +9,7 @@ use lib.ListN.{getD, length, drop, length-drop}
 use lib.Seq.{getD-drop}
 use lib.IntN.{pos}
 use Rattle.sheet.specs.Layout.{blankTier}
-use Rattle.arith.specs.Fractions.{Frac, nat, _+q_, _*q_, _≈_, sumq}
+use Rattle.arith.specs.Fractions.{Frac, nat, _+q_, sumq}
 use Rattle.arith.proofs.Rings.{∀₁, ∀₂, ∀₃, ∀₇, ∀₉, by-cert, to, num, _⊞_, _⊠_}
 use Rattle.arith.proofs.Rationals.{ℚR, ℚ, mk, int, _+ℚ_, _*ℚ_, _≤ℚ_, nn-int, nn-plus}
 use Rattle.arith.proofs.RationalTerms.{qq}

@@ -1,14 +1,14 @@
 -- Level loads in fractions, for any share from 0 to 1 and any factor not below zero: none is below zero, and none is less under
 -- heavier boxes.
-use mathlib.Core.Path.{_≡_, refl, sym, ap, subst, _∙_}
+use mathlib.Core.Path.{_≡_, sym, ap}
 use mathlib.Core.List.{List}
-use Prim.Native.Nat.{ℕ, suc, _*_, _≤_}
+use Prim.Native.Nat.{suc, _*_, _≤_}
 use native.Mathlib.Nat.{mul-le-mul, le-of-eq}
 use native.Mathlib.Omega.{arith}
 use lib.ListN.{getD}
 use lib.IntN.{pos}
-use Rattle.arith.specs.Fractions.{Frac, nat, _*q_, _⊑_}
-use Rattle.arith.proofs.Rings.{∀₂, ∀₃, ∀₅, ∀₆, ∀₈, by-cert, part, to, times, num, _⊞_, _⊠_}
+use Rattle.arith.specs.Fractions.{nat, _*q_, _⊑_}
+use Rattle.arith.proofs.Rings.{∀₂, ∀₅, ∀₆, ∀₈, by-cert, part, to, times, num, _⊞_, _⊠_}
 use Rattle.arith.proofs.Polynomials.{v, kp, kn, _⊖_, ⊖_}
 use Rattle.arith.proofs.Rationals.{ℚR, ℚ, mk, _+ℚ_, _-ℚ_, _*ℚ_, _≤ℚ_, nn-int, to-⊑, of-⊑}
 use Rattle.arith.proofs.RationalTerms.{qq}

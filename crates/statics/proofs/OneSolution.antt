@@ -1,7 +1,6 @@
 -- One solution for every taken sheet: the equations of each end have one, any two agree at every level, and no level shifts to windward.
 use mathlib.Core.List.{List}
-use Prim.Native.Nat.{ℕ}
-use Rattle.arith.specs.Fractions.{Frac, nat, _⊑_}
+use Rattle.arith.specs.Fractions.{Frac}
 use Rattle.springs.specs.Theorems.{Agree}
 use Rattle.springs.proofs.OneSolution as O
 use Rattle.springs.proofs.Growth.{no-shift-to-windward}

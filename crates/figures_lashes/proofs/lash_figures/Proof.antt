@@ -1,17 +1,17 @@
 -- `figures_lashes::lash_figures`: one turn finds the figures of a lash and adds its vertical part to its post (LashLoops).
 use borrow.Author.Needs.{needs}
-use Prim.Native.Nat.{_*_, _/_, _^_, _-_}
+use Prim.Native.Nat.{_+_, _*_, _/_, _^_, _-_, _<_}
 use mathlib.Core.Path.{_≡_}
 use native.Mathlib.Numerals.{add-one}
 use native.Mathlib.Omega.{arith}
 use lib.ListN.{getD, take}
 use lib.Seq.{getD-take}
 use Rattle.sheet.specs.inner.Limits.{LashLimits}
-use Rattle.statics.specs.inner.WholeNumbers.{stiffnessOf, leePart, windwardPart}
+use Rattle.statics.specs.inner.WholeNumbers.{stiffnessOf}
 use Rattle.statics.proofs.LashStiffness.{stiffness-most}
 use Rattle.sheet.specs.Layout.{blankLash}
-use Rattle.figures_lashes.proofs.LashLoops.{Listed, listed, carried, lee-kept, windward-kept}
-use Rattle.figures_lashes.proofs.LashLoops.{FiguredTo, figured-none, post-fits, figured-more, figured-all}
+use Rattle.figures_lashes.proofs.LashLoops.{Listed, listed, carried}
+use Rattle.figures_lashes.proofs.LashLoops.{FiguredTo, figured-none, sums-fit, figured-more, figured-all}
 use Rattle.figures_lashes.proofs.lash_figures.Statement.{statement}
 use Rattle.figures_lashes.proofs.lash_figures.Tie as tie
 
@@ -72,6 +72,24 @@ athwart :
     c .athwart-part .result
     ≡ stiffnessOf (getD (a .t1) (t .before .loop .j) blankLash) * getD (a .d .now) (k .hook-level .result) 0 / 2 ^ 32
 athwart c = rw (stiffness (turn (hooked (cornered c)))) at (c .athwart-part .ensures .0)
+
+-- the sums of the two posts at the lash's corner, with what on_posts found of it
+sums :
+    (o : tie.After-on-posts Inv-loop μ-loop) →
+    let r = cornered (parted (figured o)) in
+    let l = turn (hooked r) .before .loop in
+    let u = o .on-posts .result in
+    (getD (l .lee) (r .hook-corner .result) 0 + u .lee < 2 ^ 64)
+    × (getD (l .windward) (r .hook-corner .result) 0 + u .windward < 2 ^ 64)
+sums o =
+    let x = parted (figured o) in
+    let r = cornered x in
+    let k = hooked r in
+    let t = turn k in
+    let b = start (t .before) in
+    let e = o .on-posts .ensures in
+    sums-fit (lashes-of b) (b .pre .1 .0 .1) (t .before .loop .inv) (t .loop-test .taken) (own t) (k .hook-level .ensures .0)
+    (r .hook-corner .ensures .0) (athwart x) (o .before .lashing-of .ensures) (e .0) (e .1)
 
 loop-holds : tie.Need-loop-holds Inv-loop μ-loop
 loop-holds c =
@@ -154,20 +172,7 @@ slice-read-lee : tie.Need-slice-read-lee Inv-loop μ-loop
 slice-read-lee c = search needs
 
 add-lee : tie.Need-add-lee Inv-loop μ-loop
-add-lee c =
-    let o = c .before .before in
-    let x = parted (figured o) in
-    let r = cornered x in
-    let k = hooked r in
-    let t = turn k in
-    let l = t .before .loop in
-    let b = start (t .before) in
-    rw (o .on-posts .ensures .0, o .before .lashing-of .ensures)
-    (record {
-      fits =
-          post-fits (lashes-of b) (b .pre .1 .0 .1) (l .inv) (t .loop-test .taken) (own t) (k .hook-level .ensures .0)
-          (r .hook-corner .ensures .0) (athwart x) leePart lee-kept (l .inv .lees);
-    })
+add-lee c = record { fits = sums (c .before .before) .0 }
 
 mul-lee-2 : tie.Need-mul-lee-2 Inv-loop μ-loop
 mul-lee-2 c = search needs
@@ -182,20 +187,7 @@ slice-read-windward : tie.Need-slice-read-windward Inv-loop μ-loop
 slice-read-windward c = search needs
 
 add-windward : tie.Need-add-windward Inv-loop μ-loop
-add-windward c =
-    let o = c .before .before .before .before in
-    let x = parted (figured o) in
-    let r = cornered x in
-    let k = hooked r in
-    let t = turn k in
-    let l = t .before .loop in
-    let b = start (t .before) in
-    rw (o .on-posts .ensures .1, o .before .lashing-of .ensures)
-    (record {
-      fits =
-          post-fits (lashes-of b) (b .pre .1 .0 .1) (l .inv) (t .loop-test .taken) (own t) (k .hook-level .ensures .0)
-          (r .hook-corner .ensures .0) (athwart x) windwardPart windward-kept (l .inv .windwards);
-    })
+add-windward c = record { fits = sums (c .before .before .before .before) .1 }
 
 mul-windward-2 : tie.Need-mul-windward-2 Inv-loop μ-loop
 mul-windward-2 c = search needs

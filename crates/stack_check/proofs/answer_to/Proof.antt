@@ -1,5 +1,5 @@
 -- `stack_check::answer_to`: a short buffer, or the answer by its figures (CheckLaws).
-use mathlib.Core.Path.{_≡_, sym, subst}
+use mathlib.Core.Path.{sym, subst}
 use Rattle.statics.specs.declared.Figures.{Figures}
 use Rattle.statics.specs.Reported.{Fitting}
 use Rattle.stack_check.proofs.AnswerLaws.{sized}

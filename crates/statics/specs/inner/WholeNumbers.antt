@@ -2,9 +2,9 @@
 -- Scales: stiffness in 2^-22 N/mm, shifts in 2^-28 mm, level loads in 2^-28 N; lash parts, rackings and post sums in 2^-18 N, moments in
 -- 2^-18 N·mm.
 use mathlib.Core.Path.{_≡_}
-use mathlib.Core.Bool.{Bool, true, false, cond}
+use mathlib.Core.Bool.{Bool, false, cond}
 use mathlib.Core.List.{List, [], _∷_}
-use Prim.Native.Nat.{ℕ, zero, suc, _+_, _*_, _-_, _/_, _^_, _<_, _≤_, max}
+use Prim.Native.Nat.{ℕ, suc, _+_, _*_, _-_, _/_, _^_, _<_, _≤_, max}
 use lib.Dec.{eqb}
 use lib.ListN.{drop, getD, length}
 use lib.IntN.{ℤ, pos, negsuc, negℤ, _+ℤ_, _-ℤ_, _*ℤ_}

@@ -1,5 +1,4 @@
 -- `cases::fields::within`, by the size that the field asks for.
-use mathlib.Core.Path.{_∙_}
 use native.Mathlib.Omega.{arith}
 use borrow.Author.Tests.{lt-ltb, le-ltb, eq-eqb, ne-eqb}
 use Rattle.cases.specs.inner.Fields.{sizeWithin}

@@ -1,6 +1,4 @@
 -- `cases::layout::case_at`, by the tests of the head; the parts of a case that is there follow one another.
-use mathlib.Core.Path.{_∙_}
-use native.Mathlib.Omega.{arith}
 use borrow.Author.Tests.{lt-ltb, le-ltb}
 use borrow.Author.Needs.{needs}
 use Rattle.cases.proofs.layout.case_at.Statement.{statement}
