@@ -1,11 +1,12 @@
 -- Document 02's relief of the lock by a bottom hook, computed from the definitions.
 use mathlib.Core.Bool.{true, false}
+use mathlib.Core.List.{List, [], _∷_}
 use mathlib.Core.Path.{_≡_, refl, sym}
 use Prim.Native.Nat.{ℕ, zero, suc, _<_}
 use native.Mathlib.Omega.{arith}
 use lib.Dec.{lit≤}
-use Rattle.arith.specs.Fractions.{Frac, nat, _-q_, recip, sumq, _≈_, _⊏_}
-use Rattle.arith.specs.Lists.{from}
+use lib.ListN.{length}
+use Rattle.arith.specs.Fractions.{Frac, nat, _-q_, _/q_, recip, sumq, _≈_, _⊏_}
 use Rattle.sheet.specs.declared.Sheet.{Sheet}
 use Rattle.sheet.specs.Layout.{tierFits, breakingFits, lashFits}
 use Rattle.sheet.specs.Refusals.{offTiers}
@@ -13,15 +14,14 @@ use Rattle.sheet.specs.Fits.{tierAt, lashAt, EndFits, Fits}
 use Rattle.sheet.specs.Lashings.{levelOf}
 use Rattle.sheet.specs.Ends.{End, door, closed, tiersOf, lashesOf}
 use Rattle.sheet.proofs.SheetLimits.{sheet-limits}
+use Rattle.springs.specs.Equations as S
 use Rattle.springs.specs.Equations.{shift}
-use Rattle.springs.proofs.OneSolution.{handedStiffness, handedLoad, shiftOf, solution}
 use Rattle.statics.specs.Loads.{weight, transverse, verticalForce, wind, load, ruleOf}
 use Rattle.statics.specs.Lashes.{lashLength, pull, athwartPart, verticalPart}
-use Rattle.statics.specs.Ends.{chainTiers, chainLash, endLashes}
+use Rattle.statics.specs.Ends.{chainTiers, chainLash, endTiers, endLashes, EndSolved}
 use Rattle.statics.specs.Posts.{levelHeight, turning, moment, atMost, tension}
 use Rattle.statics.proofs.EndChain.{end-stiff}
 use Rattle.statics.proofs.LashLength.{length-is}
-use Rattle.statics.proofs.OneSolution.{solutionOf}
 use Rattle.answer.specs.Limits.{cornerTensionLimit}
 use Rattle.answer.specs.Relief.{sideRod, lashedBy, byBottom, byTop, unrelieved, relief, Relief}
 use Rattle.answer.proofs.Solutions.{every-tension}
@@ -83,18 +83,43 @@ unfolding chainLash levelOf athwartPart pull
 same-equations door = rw (length-rod 2 1, length-rod 1 0) refl
 same-equations closed = rw (length-rod 2 1, length-rod 1 0) refl
 
--- the tension at level 1, at the solution by elimination
-abbrev solved-tension : Sheet → End → Frac
-solved-tension t e = tension (ruleOf t) (tiersOf t) (lashesOf e t) (solutionOf (ruleOf t) e t) 1
-
-top-tension : (e : End) → solved-tension byTop e ≈ unrelieved
+-- by a top hook the shifts do not enter
+top-tension : (e : End) (Ds : List Frac) → tension (ruleOf byTop) (tiersOf byTop) (lashesOf e byTop) Ds 1 ≈ unrelieved
 unfolding tension atMost moment turning transverse verticalForce weight wind sumq recip levelHeight levelOf
-top-tension door = record { cross = refl }
-top-tension closed = record { cross = refl }
+top-tension door Ds = record { cross = refl }
+top-tension closed Ds = record { cross = refl }
 
-bottom-tension : (e : End) → solved-tension byBottom e ≈ unrelieved -q relief e
-unfolding tension atMost moment turning transverse verticalForce weight wind sumq recip levelHeight levelOf from solution shiftOf
-    handedStiffness handedLoad shift chainTiers load chainLash athwartPart verticalPart pull
+-- the shifts by a bottom hook
+abbrev shifts : End → List Frac
+shifts door = (nat 3940677 /q nat 672980) ∷ (nat 5504833431 /q nat 125510770) ∷ (nat 3792221289 /q nat 62755385) ∷ []
+shifts closed = (nat 1313559 /q nat 327980) ∷ (nat 1118373027 /q nat 85766770) ∷ (nat 728104413 /q nat 42883385) ∷ []
+
+abbrev Balanced : End → ℕ → Type 0
+Balanced e i =
+    let ts = endTiers (ruleOf byBottom) e byBottom in
+    S.racking ts (shifts e) i ≈ S.tierAt ts i .Q -q S.athwartFrom (endLashes e byBottom) (shifts e) (suc i)
+
+balanced : (e : End) (i : ℕ) → i < 3 → Balanced e i
+unfolding shift sumq recip chainTiers load transverse weight wind chainLash athwartPart pull levelOf
+balanced door zero h = rw (length-rod 2 1) (record { cross = refl })
+balanced door (suc zero) h = record { cross = refl }
+balanced door (suc (suc zero)) h = record { cross = refl }
+balanced closed zero h = rw (length-rod 2 1) (record { cross = refl })
+balanced closed (suc zero) h = record { cross = refl }
+balanced closed (suc (suc zero)) h = record { cross = refl }
+balanced e (suc (suc (suc i))) h = absurd (omega arith)
+
+levels : (e : End) → length (shifts e) ≡ length (endTiers (ruleOf byBottom) e byBottom)
+unfolding chainTiers
+levels door = refl
+levels closed = refl
+
+solved : (e : End) → EndSolved (ruleOf byBottom) e byBottom (shifts e)
+unfolding chainTiers
+solved e = record { solves = record { levels = levels e; balance = balanced e } }
+
+bottom-tension : (e : End) → tension (ruleOf byBottom) (tiersOf byBottom) (lashesOf e byBottom) (shifts e) 1 ≈ unrelieved -q relief e
+unfolding tension atMost moment turning transverse verticalForce weight wind sumq recip levelHeight levelOf shift verticalPart pull
 bottom-tension door = rw (length-rod 2 1) (record { cross = refl })
 bottom-tension closed = rw (length-rod 2 1) (record { cross = refl })
 
@@ -109,16 +134,16 @@ below closed = record { cross = record { lt = tt } }
 
 pub relieved : Relief
 relieved =
-    let rule = ruleOf byTop in
+    let rule = ruleOf byBottom in
     record {
       bottom-fits = bottom-fits;
       top-fits = top-fits;
       same-equations = same-equations;
-      top = λ e. every-tension rule e byTop (end-stiff rule e byTop (sheet-limits top-fits)) 1 unrelieved (top-tension e);
+      top = λ e Ds s. top-tension e Ds;
       above = above;
       bottom =
           λ e.
-          every-tension rule e byBottom (end-stiff rule e byBottom (sheet-limits bottom-fits)) 1 (unrelieved -q relief e)
-          (bottom-tension e);
+          every-tension rule e byBottom (end-stiff rule e byBottom (sheet-limits bottom-fits)) (shifts e) (solved e) 1
+          (unrelieved -q relief e) (bottom-tension e);
       below = below;
     }

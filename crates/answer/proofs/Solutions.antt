@@ -1,4 +1,4 @@
--- The solution of an end's equations by elimination, which every other agrees with: what holds of it holds of every solution.
+-- Any two solutions of an end's equations agree: what holds of one, as of that by elimination, holds of every solution.
 use mathlib.Core.List.{List}
 use Prim.Native.Nat.{ℕ}
 use Rattle.arith.specs.Fractions.{Frac, _≈_, _⊏_}
@@ -51,12 +51,15 @@ module _ (rule : Rule) (e : End) (t : Sheet) (stiff : S.Stiff (endTiers rule e t
   abbrev tension-at : List Frac → ℕ → Frac
   tension-at Ds i = tension rule (tiersOf t) (lashesOf e t) Ds i
 
+  -- at the shifts Es of a solution
   pub every-tension :
+      (Es : List Frac) →
+      EndSolved rule e t Es →
       (i : ℕ) (x : Frac) →
-      tension rule (tiersOf t) (lashesOf e t) (solution (endTiers rule e t) (endLashes e t)) i ≈ x →
+      tension rule (tiersOf t) (lashesOf e t) Es i ≈ x →
       (Ds : List Frac) →
       EndSolved rule e t Ds →
       tension rule (tiersOf t) (lashesOf e t) Ds i ≈ x
-  every-tension i x q Ds s =
-      ≈-trans (tension-at Ds i) (tension-at solved i) x
-      (tension-same rule (tiersOf t) (lashesOf e t) Ds solved (agree Ds solved s there) i) q
+  every-tension Es r i x q Ds s =
+      ≈-trans (tension-at Ds i) (tension-at Es i) x
+      (tension-same rule (tiersOf t) (lashesOf e t) Ds Es (agree Ds Es s r) i) q
