@@ -21,7 +21,8 @@ use Rattle.sheet.specs.Ends.{End, tiersOf, lashesOf}
 use Rattle.statics.specs.inner.WholeNumbers.{Filled, levelStiffness, leePart, windwardPart, rackingPart, rackingFigure}
 use Rattle.statics.specs.inner.WholeNumbers.{momentPart, compressionFigure, tensionFigure, pullFigure, athwartFigure, verticalFigure}
 use Rattle.statics.specs.inner.Computed.{springsOf, stiffnessesOf, figuresAt}
-use Rattle.figures.specs.inner.Ends.{Loaded, Weighed, Workable}
+use Rattle.figures_tiers.specs.inner.Loads.{Loaded, Weighed}
+use Rattle.figures.specs.inner.Ends.{Workable}
 use Rattle.figures_levels.specs.inner.Levels.{LevelInputs, LevelsFigured}
 use Rattle.figures_lashes.specs.inner.Lashes.{LevelStiffnesses, LashesFigured, VerticalsOn}
 use Rattle.arith.specs.Lists.{below}

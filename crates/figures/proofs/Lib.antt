@@ -1,5 +1,3 @@
--- Loads and weights, and the figures of an end put together.
-pub mod LoadLaws
-pub mod SpringLaws
+-- The figures of an end put together.
 pub mod Corners
 pub mod EndLaws

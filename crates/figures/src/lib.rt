@@ -5,22 +5,18 @@ ghost use mathlib.Core.Path.{_≡_};
 ghost use lib.ListN.{length, take};
 ghost use Rattle.sheet.specs.Fits.{Fits};
 ghost use Rattle.springs.specs.inner.Elimination.{solved};
-ghost use Rattle.statics.specs.inner.Computed.{stiffnessesOf, figuresAt, figuresBy, shareTwentieths, loadRuleOf};
+ghost use Rattle.statics.specs.inner.Computed.{stiffnessesOf, figuresAt, figuresBy};
 ghost use Rattle.figures.specs.inner.Ends.{Workable};
+use figures_tiers::loads::loads_of;
+use figures_tiers::tier_springs::CLOSED_SPRING;
+use figures_tiers::tier_springs::DOOR_SPRING;
+use figures_tiers::tier_springs::springs_of;
 use sheet::Lash;
 use sheet::Sheet;
 use sheet::Tier;
 use statics::EndFigures;
 use statics::Figures;
 use statics::LoadRule;
-
-mod loads; // loads.rt: the loads on the levels and the weights above them
-mod tier_springs; // tier_springs.rt: the springs of an end's tiers
-
-// The share of F that a tier's own top takes, in twentieths: 0.45 by the class rule, half by the fleet standard.
-const CLASS_SHARE: u64 = 9;
-
-const FLEET_SHARE: u64 = 10;
 
 // The figures of one end: n tiers with a spring for each, m lashes, and the loads and weights that both ends share.
 fn end_figures(
@@ -42,7 +38,7 @@ fn end_figures(
     let mut stiffnesses = [0u64; 8];
     let mut kappa = [0u64; 10];
     figures_lashes::lash_stiffnesses(lashes, m, &mut lengths, &mut stiffnesses, &mut kappa);
-    let d = springs::solve(n, k, &kappa, loads);
+    let d = springs_solve::solve(n, k, &kappa, loads);
     let mut lee = [0u64; 22];
     let mut windward = [0u64; 22];
     let lash_forces = figures_lashes::lash_figures(
@@ -83,34 +79,12 @@ pub fn figures_by(s: Sheet, rule: LoadRule) -> Figures
     let mut loads = [0u64; 10];
     let mut vmax = [0u64; 11];
     let mut vmin = [0u64; 11];
-    loads::loads_of(n, tiers, rule, &mut loads, &mut vmax, &mut vmin);
-    let mut k = [tier_springs::DOOR_SPRING; 10];
-    let mut h = [tier_springs::CLOSED_SPRING; 10];
-    tier_springs::springs_of(n, tiers, &mut k, &mut h);
+    loads_of(n, tiers, rule, &mut loads, &mut vmax, &mut vmin);
+    let mut k = [DOOR_SPRING; 10];
+    let mut h = [CLOSED_SPRING; 10];
+    springs_of(n, tiers, &mut k, &mut h);
     Figures {
         door: end_figures(n, &k, tiers, door, s.ndoor, &loads, &vmax, &vmin),
         closed: end_figures(n, &h, tiers, closed, s.nclosed, &loads, &vmax, &vmin),
-    }
-}
-
-// The share by the rule number.
-fn share_of(number: u8) -> u64
-    ensures { λ r. ⌜ (r ≡ shareTwentieths number) × (r ≤ 20) ⌝ }
-{
-    if number == 2 {
-        return FLEET_SHARE;
-    }
-    CLASS_SHARE
-}
-
-// What the loads of a sheet go by: the share of its rule number, and the route factor.
-pub fn rule_of(s: Sheet) -> LoadRule
-    requires { ⌜ Fits s ⌝ }
-    ensures { λ r. ⌜ (r ≡ loadRuleOf s) × (r .share ≤ 20) × (r .factor ≤ 1000) ⌝ }
-{
-    let head = s.head;
-    LoadRule {
-        share: share_of(head.rule),
-        factor: 10 * sheet::route_percent(head.route),
     }
 }

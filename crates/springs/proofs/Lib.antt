@@ -7,10 +7,8 @@ pub mod OneSolution
 pub mod Stability
 pub mod Recursion
 pub mod Ranges
-pub mod Unheld
 pub mod Inputs
 pub mod Residuals
 pub mod Bound
 pub mod Solved
-pub mod Loops
 pub mod Examples

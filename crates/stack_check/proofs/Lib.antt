@@ -1,4 +1,2 @@
 -- What the functions' proofs rest on.
-mod Stores
-mod AnswerLaws
-mod CheckLaws
+pub mod CheckLaws

@@ -1,7 +1,5 @@
 // The check: bytes of a stack sheet in, bytes of an answer out; and the answer to a decoded sheet, for calls whose sheet no bytes hold.
 
-mod encode; // encode.rt: the answer's bytes
-
 ghost use mathlib.Core.Path.{_≡_};
 ghost use Prim.Native.Nat.{_≤_};
 ghost use lib.ListN.{length};
@@ -9,9 +7,13 @@ ghost use Rattle.sheet.specs.Fits.{Fits};
 ghost use Rattle.answer.specs.Checked.{Checked, AnsweredBy, roomFor, kept};
 ghost use Rattle.answer.specs.inner.Named.{answerBy, returnedAs, writtenAs, returned, written};
 use answer::Outcome;
+use answer_encode::write_answer;
 use sheet::Reading;
 use sheet::Sheet;
 use statics::LoadRule;
+
+// The longest answer, in bytes.
+const LONGEST: usize = 834;
 
 // The answer to a sheet within the limits, by what its loads go by, written from the buffer's start; a short buffer is left as it was.
 pub fn answer_to(t: Sheet, rule: LoadRule, answer: &mut [u8]) -> Outcome
@@ -20,11 +22,11 @@ pub fn answer_to(t: Sheet, rule: LoadRule, answer: &mut [u8]) -> Outcome
     ensures named { λ r. ⌜ (r ≡ returnedAs (roomFor (length (now (answer .entry)))) (answerBy rule t))
         × (now (answer .exit) ≡ writtenAs (roomFor (length (now (answer .entry)))) (answerBy rule t) (now (answer .entry))) ⌝ }
 {
-    if answer.len() < encode::LONGEST {
-        return Outcome::Refused(13, encode::LONGEST);
+    if answer.len() < LONGEST {
+        return Outcome::Refused(13, LONGEST);
     }
     let f = figures::figures_by(t, rule);
-    let n = encode::write_answer(answer, t, f);
+    let n = write_answer(answer, t, f);
     Outcome::Taken(n)
 }
 
@@ -40,7 +42,7 @@ pub fn check(sheet: &[u8], answer: &mut [u8]) -> Outcome
         Reading::Refused(number, second) => Outcome::Refused(number, second),
         Reading::Taken => {
             let t = decoded.sheet;
-            answer_to(t, figures::rule_of(t), answer)
+            answer_to(t, figures_tiers::rules::rule_of(t), answer)
         }
     }
 }

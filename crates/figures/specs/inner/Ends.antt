@@ -1,5 +1,4 @@
--- Contracts of inner functions: what each step of the computation of an end's figures takes and gives.
-use mathlib.Core.Path.{_≡_}
+-- Contracts of inner functions: what the computation of an end's figures takes.
 use mathlib.Core.List.{List}
 use Prim.Native.Nat.{ℕ, _^_, _<_, _≤_}
 use lib.ListN.{getD, length}
@@ -8,21 +7,7 @@ use Rattle.sheet.specs.Layout.{blankLash, blankTier}
 use Rattle.sheet.specs.declared.Tier.{Tier}
 use Rattle.sheet.specs.declared.Lash.{Lash}
 use Rattle.springs.specs.Equations.{doorSpring, closedSpring}
-use Rattle.statics.specs.declared.LoadRule.{LoadRule}
-use Rattle.statics.specs.inner.WholeNumbers.{halfWeight}
-use Rattle.statics.specs.inner.Computed.{loadsOf}
-
--- the loads on the levels over n tiers
-pub record Loaded (rule : LoadRule) (n : ℕ) (ts : List Tier) (r : List ℕ) : Type 0 where
-  pub named : r ≡ loadsOf rule ts
-  pub small : (i : ℕ) → i < n → getD r i 0 ≤ 2 ^ 46
-
--- half of the weight above each level
-pub record Weighed (ts : List Tier) (vmax vmin : List ℕ) : Type 0 where
-  pub vmax-is : (i : ℕ) → getD vmax i 0 ≡ halfWeight (λ t. t .aVmax) ts i
-  pub vmin-is : (i : ℕ) → getD vmin i 0 ≡ halfWeight (λ t. t .aVmin) ts i
-  pub most-light : (i : ℕ) → getD vmax i 0 ≤ 2 ^ 40
-  pub least-light : (i : ℕ) → getD vmin i 0 ≤ 2 ^ 40
+use Rattle.figures_tiers.specs.inner.Loads.{Weighed}
 
 -- an end may be worked: n tiers ts with springs k, m lashes ls, the loads ω on the levels, and half of the weights above them
 pub record Workable (n : ℕ) (k : List ℕ) (ts : List Tier) (m : ℕ) (ls : List Lash) (ω vmax vmin : List ℕ) : Type 0 where

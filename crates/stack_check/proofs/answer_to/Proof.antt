@@ -2,7 +2,7 @@
 use mathlib.Core.Path.{sym, subst}
 use Rattle.statics.specs.declared.Figures.{Figures}
 use Rattle.statics.specs.Reported.{Fitting}
-use Rattle.stack_check.proofs.AnswerLaws.{sized}
+use Rattle.answer_encode.proofs.AnswerLaws.{sized}
 use Rattle.stack_check.proofs.CheckLaws.{short-room, answered, by-rule, figures-fit}
 use borrow.Author.Needs.{needs}
 use Rattle.stack_check.proofs.answer_to.Statement.{statement}

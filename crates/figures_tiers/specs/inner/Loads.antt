@@ -1,0 +1,21 @@
+-- Contracts of inner functions: the loads on the levels and the weights above them.
+use mathlib.Core.Path.{_≡_}
+use mathlib.Core.List.{List}
+use Prim.Native.Nat.{ℕ, _^_, _<_, _≤_}
+use lib.ListN.{getD}
+use Rattle.sheet.specs.declared.Tier.{Tier}
+use Rattle.statics.specs.declared.LoadRule.{LoadRule}
+use Rattle.statics.specs.inner.WholeNumbers.{halfWeight}
+use Rattle.statics.specs.inner.Computed.{loadsOf}
+
+-- the loads on the levels over n tiers
+pub record Loaded (rule : LoadRule) (n : ℕ) (ts : List Tier) (r : List ℕ) : Type 0 where
+  pub named : r ≡ loadsOf rule ts
+  pub small : (i : ℕ) → i < n → getD r i 0 ≤ 2 ^ 46
+
+-- half of the weight above each level
+pub record Weighed (ts : List Tier) (vmax vmin : List ℕ) : Type 0 where
+  pub vmax-is : (i : ℕ) → getD vmax i 0 ≡ halfWeight (λ t. t .aVmax) ts i
+  pub vmin-is : (i : ℕ) → getD vmin i 0 ≡ halfWeight (λ t. t .aVmin) ts i
+  pub most-light : (i : ℕ) → getD vmax i 0 ≤ 2 ^ 40
+  pub least-light : (i : ℕ) → getD vmin i 0 ≤ 2 ^ 40

@@ -1,0 +1,3 @@
+-- Laws of the loops and of levels that nothing holds.
+pub mod Unheld
+pub mod Loops

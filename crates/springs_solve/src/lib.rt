@@ -1,0 +1,96 @@
+// One end of a stack as a chain of springs: the shifts of its levels, in whole numbers. From the top down, each level learns what stiffness
+// and load the tiers over it hand down to it; then, from the deck up, each level's shift follows from the one under it.
+// Arrays are lent as slices, so that no call copies them.
+ghost use mathlib.Core.Path.{_≡_};
+ghost use Prim.Native.Nat.{_+_, _<_, _≤_};
+ghost use lib.ListN.{length, getD};
+ghost use Rattle.springs.specs.inner.Promise.{farthest, Solvable, Promised};
+ghost use Rattle.springs.specs.inner.Elimination.{stiffnessDown, loadDown, shiftUp, solved, InRange, mostLoadTogether, HandedDown};
+use arith::rounding::scaled;
+
+// Stiffnesses are in 2^-22 N/mm. At a level that nothing holds, above the uppermost lash, the scale cancels: that spares divisions.
+const SCALE: u64 = 4194304;
+
+// The stiffness that a level hands down by the spring k under it, of its lashes kappa and the stiffness x handed to it.
+fn stiffness_down(k: u64, kappa: u64, x: u64) -> u64
+    requires { ⌜ InRange k kappa x ⌝ }
+    ensures { λ r. ⌜ r ≡ stiffnessDown k kappa x ⌝ }
+{
+    let stiffness = kappa + x;
+    if stiffness == 0 {
+        return 0;
+    }
+    scaled(k * stiffness, SCALE, k * SCALE + stiffness)
+}
+
+// The load that it hands down, of its own, omega, and the load y handed to it.
+fn load_down(k: u64, kappa: u64, omega: u64, x: u64, y: u64) -> u64
+    requires { ⌜ InRange k kappa x × (omega + y ≤ mostLoadTogether) ⌝ }
+    ensures { λ r. ⌜ r ≡ loadDown k kappa omega x y ⌝ }
+{
+    let stiffness = kappa + x;
+    let load = omega + y;
+    if stiffness == 0 {
+        return load;
+    }
+    scaled(k * load, SCALE, k * SCALE + stiffness)
+}
+
+// Its shift, where the level under it has the shift p.
+fn shift_up(k: u64, kappa: u64, omega: u64, x: u64, y: u64, p: u64) -> u64
+    requires { ⌜ InRange k kappa x × (omega + y ≤ mostLoadTogether) × (p ≤ farthest) ⌝ }
+    ensures { λ r. ⌜ r ≡ shiftUp k kappa omega x y p ⌝ }
+{
+    let stiffness = kappa + x;
+    let load = omega + y;
+    if stiffness == 0 {
+        return p + load / k;
+    }
+    scaled(load + k * p, SCALE, k * SCALE + stiffness)
+}
+
+// What is handed down to each level, 1 to n: stiffness to x, load to y, where level n gets nothing. The deck needs nothing.
+fn hand_down(n: usize, k: &[u64], kappa: &[u64], omega: &[u64], x: &mut [u64], y: &mut [u64])
+    requires { ⌜ Solvable n (now k) (now kappa) (now omega) × (n ≤ length (now k)) × (n ≤ length (now kappa)) × (n ≤ length (now omega)) ⌝ }
+    requires { ⌜ (length (now x) ≡ 11) × (length (now y) ≡ 11) × (getD (now x) n 0 ≡ 0) × (getD (now y) n 0 ≡ 0) ⌝ }
+    ensures { λ _. ⌜ HandedDown 1 n (now (k .entry)) (now (kappa .entry)) (now (omega .entry)) (now (x .exit)) (now (y .exit)) ⌝ }
+{
+    let mut i = n;
+    while 1 < i {
+        let j = i - 1;
+        let stiffness = stiffness_down(k[j], kappa[j], x[i]);
+        let load = load_down(k[j], kappa[j], omega[j], x[i], y[i]);
+        x[j] = stiffness;
+        y[j] = load;
+        i = j;
+    }
+}
+
+// The shifts of levels 0 to n, where x and y are handed down.
+fn climb(n: usize, k: &[u64], kappa: &[u64], omega: &[u64], x: &[u64], y: &[u64]) -> [u64; 11]
+    requires { ⌜ Solvable n (now k) (now kappa) (now omega) × (n ≤ length (now k)) × (n ≤ length (now kappa)) × (n ≤ length (now omega)) ⌝ }
+    requires { ⌜ HandedDown 1 n (now k) (now kappa) (now omega) (now x) (now y) × (n < length (now x)) × (n < length (now y)) ⌝ }
+    ensures { λ r. ⌜ r ≡ solved n (now (k .entry)) (now (kappa .entry)) (now (omega .entry)) ⌝ }
+{
+    let mut d = [0u64; 11];
+    let mut i = 0;
+    while i < n {
+        let j = i + 1;
+        d[j] = shift_up(k[i], kappa[i], omega[i], x[j], y[j], d[i]);
+        i = j;
+    }
+    d
+}
+
+// The shifts of levels 0 to n, in 2^-28 mm, of n tiers: k their springs, in N/mm; of the level over each, kappa the stiffness of its
+// lashes, in 2^-22 N/mm, and omega its load, in 2^-28 N. Behind n stand zeros.
+pub fn solve(n: usize, k: &[u64], kappa: &[u64], omega: &[u64]) -> [u64; 11]
+    requires { ⌜ Solvable n (now k) (now kappa) (now omega) × (n ≤ length (now k)) × (n ≤ length (now kappa)) × (n ≤ length (now omega)) ⌝ }
+    ensures promised { λ r. ⌜ Promised n (now (k .entry)) (now (kappa .entry)) (now (omega .entry)) r ⌝ }
+    ensures named { λ r. ⌜ r ≡ solved n (now (k .entry)) (now (kappa .entry)) (now (omega .entry)) ⌝ }
+{
+    let mut x = [0u64; 11];
+    let mut y = [0u64; 11];
+    hand_down(n, k, kappa, omega, &mut x, &mut y);
+    climb(n, k, kappa, omega, &x, &y)
+}
