@@ -15,7 +15,7 @@ use Rattle.springs.specs.Equations.{closedSpring}
 use Rattle.statics.specs.inner.WholeNumbers.{rackingPart, rackingFigure, momentPart, compressionFrom, tensionFrom}
 use Rattle.figures_levels.specs.inner.Levels.{total, LevelInputs, compressionAt, tensionAt, LevelsFigured}
 use Rattle.statics.proofs.Arrays.{Between, between-none, fill-below, fill-above, filled, peel, peeled-off}
-use Rattle.figures_levels.proofs.LevelLaws.{tier-moment-small, racking-small}
+use Rattle.figures_posts.proofs.LevelLaws.{tier-moment-small, racking-small}
 
 -- sums over the corners from i on, of m
 pub total-peel : (v : List ℕ) (m i : ℕ) → i < m → m ≤ length v → total (drop i (take m v)) ≡ total (drop (suc i) (take m v)) + getD v i 0

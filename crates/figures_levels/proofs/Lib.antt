@@ -1,4 +1,2 @@
--- One level, and the loop from the top down.
-pub mod Words
-pub mod LevelLaws
+-- The loop from the top level down.
 pub mod Descent

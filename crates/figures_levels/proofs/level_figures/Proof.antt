@@ -13,7 +13,7 @@ use Rattle.sheet.specs.declared.Tier.{Tier}
 use Rattle.sheet.specs.Layout.{blankTier}
 use Rattle.statics.specs.inner.WholeNumbers.{leeFound, windwardFound}
 use Rattle.figures_levels.proofs.Descent.{FiguredFrom, at-top, turned-once, at-foot}
-use Rattle.figures_levels.proofs.Words.{held}
+use Rattle.figures_posts.proofs.Words.{held}
 use Rattle.figures_levels.proofs.level_figures.Statement.{statement}
 use Rattle.figures_levels.proofs.level_figures.Tie as tie
 

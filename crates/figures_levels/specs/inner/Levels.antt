@@ -1,31 +1,17 @@
 -- Contracts of inner functions: the figures of tiers and levels, from shifts, weights and vertical parts. Nothing here need be believed.
 use mathlib.Core.Path.{_≡_}
-use mathlib.Core.Bool.{cond}
 use mathlib.Core.List.{List, [], _∷_}
 use Prim.Native.Nat.{ℕ, suc, _+_, _*_, _^_, _<_, _≤_}
 use lib.ListN.{drop, take, getD, length}
-use lib.IntN.{ℤ, pos, _+ℤ_, _-ℤ_}
-use lib.Signed.{ltZ}
+use lib.IntN.{ℤ, pos}
 use Rattle.sheet.specs.declared.Tier.{Tier}
 use Rattle.sheet.specs.Layout.{blankTier}
 use Rattle.springs.specs.Equations.{closedSpring}
-use Rattle.statics.specs.declared.PostParts.{PostParts}
 use Rattle.statics.specs.inner.WholeNumbers.{Filled, rackingPart, rackingFigure, momentPart, compressionFrom, tensionFrom}
 
 unfoldable pub total : List ℕ → ℕ
 total [] = 0
 total (x ∷ xs) = x + total xs
-
--- the greater of two signed numbers
-abbrev pub greaterOf : ℤ → ℤ → ℤ
-greaterOf x y = cond (ltZ x y) y x
-
--- the sums of the two posts, from half the weight above, the moment over the post spacing, and the vertical parts
-abbrev pub leeOf : ℕ → ℤ → PostParts → ℤ
-leeOf weight couple parts = pos weight +ℤ couple +ℤ pos (parts .lee)
-
-abbrev pub windwardOf : ℕ → ℤ → PostParts → ℤ
-windwardOf weight couple parts = pos weight -ℤ couple +ℤ pos (parts .windward)
 
 -- what the figures of the levels are computed from: vmax and vmin are half of V, with A_Vmax and A_Vmin; lee and windward the vertical
 -- parts by corner, of which 2 i and 2 i + 1 lie at level i (figures_lashes, `cornerOf`)

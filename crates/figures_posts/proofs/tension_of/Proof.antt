@@ -1,10 +1,10 @@
--- `figures_levels::tension_of`: the figure of the two sums with their signs reversed.
+-- `figures_posts::tension_of`: the figure of the two sums with their signs reversed.
 use lib.Dec.{lit<, lit≤}
 use Rattle.arith.proofs.Sizes.{small-neg, small-weaken}
-use Rattle.figures_levels.proofs.Words.{held}
+use Rattle.figures_posts.proofs.Words.{held}
 use borrow.Author.Needs.{needs}
-use Rattle.figures_levels.proofs.tension_of.Statement.{statement}
-use Rattle.figures_levels.proofs.tension_of.Tie as tie
+use Rattle.figures_posts.proofs.tension_of.Statement.{statement}
+use Rattle.figures_posts.proofs.tension_of.Tie as tie
 
 post-sum-requires : tie.Need-post-sum-requires
 post-sum-requires c κs = search needs

@@ -1,8 +1,8 @@
--- `figures_levels::greater`: by the test of the two.
+-- `figures_posts::greater`: by the test of the two.
 use mir.Syntax.{w64}
 use mir.ValLaws.{toZ-ofZ}
-use Rattle.figures_levels.proofs.greater.Statement.{statement}
-use Rattle.figures_levels.proofs.greater.Tie as tie
+use Rattle.figures_posts.proofs.greater.Statement.{statement}
+use Rattle.figures_posts.proofs.greater.Tie as tie
 
 returns : tie.Need-returns
 returns c =

@@ -1,4 +1,4 @@
--- `figures_levels::racking_figure`: the padded size rounded up, with the racking's sign.
+-- `figures_posts::racking_figure`: the padded size rounded up, with the racking's sign.
 use Prim.Native.Nat.{_+_, _^_}
 use mathlib.Core.Path.{_≡_, _∙_}
 use lib.Dec.{lit<, lit≤}
@@ -8,11 +8,11 @@ use mir.ValLaws.{toZ-ofZ}
 use Rattle.arith.specs.inner.Rounding.{roundedUp}
 use Rattle.arith.proofs.Sizes.{fits32, fits64, small-weaken, small-neg}
 use Rattle.statics.specs.inner.WholeNumbers.{rackingPad}
-use Rattle.figures_levels.proofs.LevelLaws.{size-small, size-padded, newtons-small, newtons-of, figure-below, figure-from}
-use Rattle.figures_levels.proofs.Words.{held, minus}
+use Rattle.figures_posts.proofs.LevelLaws.{size-small, size-padded, newtons-small, newtons-of, figure-below, figure-from}
+use Rattle.figures_posts.proofs.Words.{held, minus}
 use borrow.Author.Needs.{needs}
-use Rattle.figures_levels.proofs.racking_figure.Statement.{statement}
-use Rattle.figures_levels.proofs.racking_figure.Tie as tie
+use Rattle.figures_posts.proofs.racking_figure.Statement.{statement}
+use Rattle.figures_posts.proofs.racking_figure.Tie as tie
 
 -- the size, and in newtons
 sized : (c : tie.After-size) → c .size .result ≡ pos (natAbs (c .before .args .part))

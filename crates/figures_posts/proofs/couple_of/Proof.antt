@@ -1,11 +1,11 @@
--- `figures_levels::couple_of`: the quotient towards zero, and its size.
+-- `figures_posts::couple_of`: the quotient towards zero, and its size.
 use mathlib.Core.Path.{refl}
 use lib.Dec.{lit<}
 use Rattle.arith.proofs.Sizes.{fits64}
-use Rattle.figures_levels.proofs.LevelLaws.{lean-small}
-use Rattle.figures_levels.proofs.Words.{held}
-use Rattle.figures_levels.proofs.couple_of.Statement.{statement}
-use Rattle.figures_levels.proofs.couple_of.Tie as tie
+use Rattle.figures_posts.proofs.LevelLaws.{lean-small}
+use Rattle.figures_posts.proofs.Words.{held}
+use Rattle.figures_posts.proofs.couple_of.Statement.{statement}
+use Rattle.figures_posts.proofs.couple_of.Tie as tie
 
 div-result : tie.Need-div-result
 div-result c = rw (held (c .pre) (lit< tt)) (lit< tt, fits64 (lean-small (c .pre)) (lit< tt))

@@ -1,9 +1,9 @@
--- `figures_levels::negative`: no number of this size is the least of 64 bits.
+-- `figures_posts::negative`: no number of this size is the least of 64 bits.
 use lib.Dec.{lit<}
 use Rattle.arith.proofs.Sizes.{fits64, small-neg}
-use Rattle.figures_levels.proofs.Words.{held, minus}
-use Rattle.figures_levels.proofs.negative.Statement.{statement}
-use Rattle.figures_levels.proofs.negative.Tie as tie
+use Rattle.figures_posts.proofs.Words.{held, minus}
+use Rattle.figures_posts.proofs.negative.Statement.{statement}
+use Rattle.figures_posts.proofs.negative.Tie as tie
 
 sub-result : tie.Need-sub-result
 sub-result c = rw (held (c .pre) (lit< tt), minus (c .args .x)) (fits64 (small-neg (c .pre)) (lit< tt))

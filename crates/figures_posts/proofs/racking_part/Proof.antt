@@ -1,14 +1,14 @@
--- `figures_levels::racking_part`: both products, their difference and its quotient stay within 64 bits.
-use Rattle.figures_levels.proofs.Words.{held}
+-- `figures_posts::racking_part`: both products, their difference and its quotient stay within 64 bits.
+use Rattle.figures_posts.proofs.Words.{held}
 use Prim.Native.Nat.{_*_}
 use mathlib.Core.Path.{refl}
 use native.Mathlib.Omega.{arith}
 use lib.Dec.{lit<}
 use Rattle.arith.proofs.Sizes.{fits64}
 use Rattle.arith.proofs.Ceilings.{divisor}
-use Rattle.figures_levels.proofs.LevelLaws.{spring-le, difference, racking-small}
-use Rattle.figures_levels.proofs.racking_part.Statement.{statement}
-use Rattle.figures_levels.proofs.racking_part.Tie as tie
+use Rattle.figures_posts.proofs.LevelLaws.{spring-le, difference, racking-small}
+use Rattle.figures_posts.proofs.racking_part.Statement.{statement}
+use Rattle.figures_posts.proofs.racking_part.Tie as tie
 
 mul-result : tie.Need-mul-result
 mul-result c = omega (arith, spring-le (c .pre .0) (c .pre .1) (c .pre .2))

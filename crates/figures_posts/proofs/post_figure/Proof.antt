@@ -1,16 +1,16 @@
--- `figures_levels::post_figure`: rounding up and cutting off at 0 go in either order (LevelLaws).
+-- `figures_posts::post_figure`: rounding up and cutting off at 0 go in either order (LevelLaws).
 use mathlib.Core.Path.{_≡_, ap, _∙_}
 use lib.Dec.{lit<}
 use mir.Syntax.{w64}
 use mir.ValLaws.{toZ-ofZ}
 use Rattle.arith.proofs.Sizes.{fits64}
 use Rattle.statics.specs.inner.WholeNumbers.{notBelow}
-use Rattle.figures_levels.specs.inner.Levels.{greaterOf}
-use Rattle.figures_levels.proofs.LevelLaws.{greater-small, padded, post-rounded}
-use Rattle.figures_levels.proofs.Words.{held}
+use Rattle.figures_posts.specs.inner.Posts.{greaterOf}
+use Rattle.figures_posts.proofs.LevelLaws.{greater-small, padded, post-rounded}
+use Rattle.figures_posts.proofs.Words.{held}
 use borrow.Author.Needs.{needs}
-use Rattle.figures_levels.proofs.post_figure.Statement.{statement}
-use Rattle.figures_levels.proofs.post_figure.Tie as tie
+use Rattle.figures_posts.proofs.post_figure.Statement.{statement}
+use Rattle.figures_posts.proofs.post_figure.Tie as tie
 
 -- the greater sum
 sum : (c : tie.After-greater) → c .greater .result ≡ greaterOf (c .before .args .x) (c .before .args .y)

@@ -1,14 +1,14 @@
--- `figures_levels::moment_under`: the product and the sum stay within 64 bits.
+-- `figures_posts::moment_under`: the product and the sum stay within 64 bits.
 use mathlib.Core.Path.{refl}
 use native.Mathlib.Omega.{arith}
 use lib.Dec.{lit<}
 use Rattle.arith.proofs.Sizes.{fits64}
 use Rattle.arith.proofs.Ceilings.{divisor}
-use Rattle.figures_levels.proofs.LevelLaws.{tier-moment-small, moment-small}
-use Rattle.figures_levels.proofs.Words.{held}
+use Rattle.figures_posts.proofs.LevelLaws.{tier-moment-small, moment-small}
+use Rattle.figures_posts.proofs.Words.{held}
 use borrow.Author.Needs.{needs}
-use Rattle.figures_levels.proofs.moment_under.Statement.{statement}
-use Rattle.figures_levels.proofs.moment_under.Tie as tie
+use Rattle.figures_posts.proofs.moment_under.Statement.{statement}
+use Rattle.figures_posts.proofs.moment_under.Tie as tie
 
 cast-result : tie.Need-cast-result
 cast-result c = search needs

@@ -1,9 +1,9 @@
--- `figures_levels::not_below`: by the sign.
-use Rattle.figures_levels.proofs.Words.{from-pos, size-fits, below-none, from-all}
+-- `figures_posts::not_below`: by the sign.
+use Rattle.figures_posts.proofs.Words.{from-pos, size-fits, below-none, from-all}
 use mir.Syntax.{w64}
 use mir.ValLaws.{toZ-ofZ}
-use Rattle.figures_levels.proofs.not_below.Statement.{statement}
-use Rattle.figures_levels.proofs.not_below.Tie as tie
+use Rattle.figures_posts.proofs.not_below.Statement.{statement}
+use Rattle.figures_posts.proofs.not_below.Tie as tie
 
 returns : tie.Need-returns
 returns c =

@@ -1,12 +1,12 @@
--- `figures_levels::size`: the number or its negative, by its sign.
+-- `figures_posts::size`: the number or its negative, by its sign.
 use lib.Dec.{lit<}
 use mir.Syntax.{w64}
 use mir.ValLaws.{toZ-ofZ}
 use Rattle.arith.proofs.Sizes.{small-neg}
-use Rattle.figures_levels.proofs.Words.{held, below-neg, from-pos}
+use Rattle.figures_posts.proofs.Words.{held, below-neg, from-pos}
 use borrow.Author.Needs.{needs}
-use Rattle.figures_levels.proofs.size.Statement.{statement}
-use Rattle.figures_levels.proofs.size.Tie as tie
+use Rattle.figures_posts.proofs.size.Statement.{statement}
+use Rattle.figures_posts.proofs.size.Tie as tie
 
 negative-requires : tie.Need-negative-requires
 negative-requires c κs = search needs

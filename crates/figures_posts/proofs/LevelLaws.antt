@@ -14,8 +14,8 @@ use Rattle.arith.proofs.Sizes.{small-weaken, small-pos, small-add, small-sub, s
 use Rattle.springs.specs.Equations.{closedSpring}
 use Rattle.statics.specs.Posts.{postSpacing}
 use Rattle.statics.specs.inner.WholeNumbers.{rackingPad, rackingFigure, postPad, notBelow, postFigure}
-use Rattle.figures_levels.specs.inner.Levels.{greaterOf}
-use Rattle.figures_levels.proofs.Words.{not-below, small-quot}
+use Rattle.figures_posts.specs.inner.Posts.{greaterOf}
+use Rattle.figures_posts.proofs.Words.{not-below, small-quot}
 
 -- a racking
 module _ {k u l : ℕ} (hk : k ≤ closedSpring) (hu : u ≤ 2 ^ 40) (hl : l ≤ 2 ^ 40) where

@@ -1,14 +1,14 @@
--- `figures_levels::post_sum`: the steps of the sum stay within 64 bits.
+-- `figures_posts::post_sum`: the steps of the sum stay within 64 bits.
 use mathlib.Core.Path.{refl}
 use native.Mathlib.Omega.{arith}
 use lib.Dec.{lit<}
 use Rattle.arith.proofs.Sizes.{fits64}
 use Rattle.arith.proofs.Ceilings.{divisor}
-use Rattle.figures_levels.proofs.LevelLaws.{leaned, post-small}
-use Rattle.figures_levels.proofs.Words.{held}
+use Rattle.figures_posts.proofs.LevelLaws.{leaned, post-small}
+use Rattle.figures_posts.proofs.Words.{held}
 use borrow.Author.Needs.{needs}
-use Rattle.figures_levels.proofs.post_sum.Statement.{statement}
-use Rattle.figures_levels.proofs.post_sum.Tie as tie
+use Rattle.figures_posts.proofs.post_sum.Statement.{statement}
+use Rattle.figures_posts.proofs.post_sum.Tie as tie
 
 cast-result : tie.Need-cast-result
 cast-result c = search needs

@@ -1,10 +1,10 @@
--- `figures_levels::compression_of`: the figure of the two sums, which are in range.
+-- `figures_posts::compression_of`: the figure of the two sums, which are in range.
 use Rattle.arith.proofs.Sizes.{small-neg, small-weaken}
 use lib.Dec.{lit<, lit≤}
-use Rattle.figures_levels.proofs.Words.{held}
+use Rattle.figures_posts.proofs.Words.{held}
 use borrow.Author.Needs.{needs}
-use Rattle.figures_levels.proofs.compression_of.Statement.{statement}
-use Rattle.figures_levels.proofs.compression_of.Tie as tie
+use Rattle.figures_posts.proofs.compression_of.Statement.{statement}
+use Rattle.figures_posts.proofs.compression_of.Tie as tie
 
 post-sum-requires : tie.Need-post-sum-requires
 post-sum-requires c κs = search needs

@@ -1,0 +1,3 @@
+-- Signed words, and the sizes of what a level's figures are made of.
+pub mod Words
+pub mod LevelLaws

@@ -1,0 +1,17 @@
+-- Contracts of inner functions: the sums of the two posts of a level. Nothing here need be believed.
+use mathlib.Core.Bool.{cond}
+use Prim.Native.Nat.{ℕ}
+use lib.IntN.{ℤ, pos, _+ℤ_, _-ℤ_}
+use lib.Signed.{ltZ}
+use Rattle.statics.specs.declared.PostParts.{PostParts}
+
+-- the greater of two signed numbers
+abbrev pub greaterOf : ℤ → ℤ → ℤ
+greaterOf x y = cond (ltZ x y) y x
+
+-- the sums of the two posts, from half the weight above, the moment over the post spacing, and the vertical parts
+abbrev pub leeOf : ℕ → ℤ → PostParts → ℤ
+leeOf weight couple parts = pos weight +ℤ couple +ℤ pos (parts .lee)
+
+abbrev pub windwardOf : ℕ → ℤ → PostParts → ℤ
+windwardOf weight couple parts = pos weight -ℤ couple +ℤ pos (parts .windward)
