@@ -40,7 +40,13 @@ pub fn lower_of(lock: u64) -> PullLimit
     ensures { λ r. ⌜ r ≡ lowerOf lock ⌝ }
 {
     if lock < Limits::CORNER_TENSION {
-        return PullLimit { kind: 4, limit: lock };
+        return PullLimit {
+            kind: 4,
+            limit: lock,
+        };
     }
-    PullLimit { kind: 3, limit: Limits::CORNER_TENSION }
+    PullLimit {
+        kind: 3,
+        limit: Limits::CORNER_TENSION,
+    }
 }
