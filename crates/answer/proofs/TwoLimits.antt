@@ -1,33 +1,31 @@
 -- One pull against two limits: which of them is named at a level.
 use mathlib.Core.Path.{_≡_, refl, ap, ap₂, _∙_}
-use mathlib.Core.Bool.{Bool, true, false, cond, not, _&&_, _||_, and-false, or-false, or-comm}
+use mathlib.Core.Bool.{Bool, true, false, cond, not, _&&_, _||_, and-true, and-false, or-false, or-comm}
 use Prim.Native.Nat.{ℕ, _≤_, _<_}
 use native.Mathlib.Omega.{arith}
-use borrow.Author.Tests.{ltb-true, ltb-false, lt-ltb, le-ltb, le-leb, lt-leb}
+use borrow.Author.Tests.{ltb-true, ltb-false, leb-true, lt-ltb, le-ltb, le-leb, lt-leb}
 use lib.Dec.{ltb, leb}
 use Rattle.sheet.specs.declared.Sheet.{Sheet}
 use Rattle.sheet.specs.Ends.{End}
-use Rattle.sheet.proofs.Bools.{and-true}
+use Rattle.sheet.proofs.Bools as B
 use Rattle.statics.specs.declared.EndFigures.{EndFigures}
 use Rattle.answer.specs.Findings.{Kind, racking, compression, cornerTension, lockTension, lashTension, lashVertical, lashAthwart}
 use Rattle.answer.specs.Findings.{limitAt, sizeAt, exceeded, named}
 use Rattle.answer.specs.OnePull.{lockLower, lower, other}
 
-kept : (x y : Bool) → x && not (y && false) ≡ x
-kept true y = rw (and-false y) refl
-kept false y = refl
-
--- x: the higher limit is exceeded; y: the lower one is. The higher is passed over, and adds nothing
-passed : (x y : Bool) → (x ≡ true → y ≡ true) → x && not (y && true) ≡ false
-passed true y h = rw (h refl) refl
-passed false y h = refl
-
+-- a limit that is exceeded only where another is adds nothing
 adds-none : (x y : Bool) → (x ≡ true → y ≡ true) → y ≡ x || y
 adds-none true y h = h refl
 adds-none false y h = refl
 
-lower-too : (low high s : ℕ) → low ≤ high → ltb high s ≡ true → ltb low s ≡ true
-lower-too low high s h o = lt-ltb low s (omega (arith, ltb-true high s o))
+-- a limit is passed over where the other one goes before it, which is not above it: what exceeds the one exceeds the other
+passed-over : (limit other s : ℕ) (before : Bool) → (before ≡ true → other ≤ limit) → ltb limit s && not (ltb other s && before) ≡ ltb limit s && not before
+passed-over limit other s true h = go (ltb limit s) refl
+  where
+    go : (x : Bool) → ltb limit s ≡ x → x && not (ltb other s && true) ≡ x && false
+    go true over = rw (lt-ltb other s (omega (arith, h refl, ltb-true limit s over))) refl
+    go false over = refl
+passed-over limit other s false h = rw (and-false (ltb other s)) refl
 
 pub lowest : (e : End) (t : Sheet) (i : ℕ) → limitAt e t (lower e t i) i ≤ limitAt e t (other e t i) i
 lowest e t i = go (lockLower e t i) refl
@@ -36,7 +34,6 @@ lowest e t i = go (lockLower e t i) refl
     go true h = omega (arith, ltb-true (limitAt e t lockTension i) (limitAt e t cornerTension i) h)
     go false h = ltb-false (limitAt e t lockTension i) (limitAt e t cornerTension i) h
 
--- a level whose lock has the lower limit, and one whose corner has it or where they are equal
 module _ (e : End) (t : Sheet) (f : EndFigures) (i : ℕ) where
   abbrev corner : ℕ
   corner = limitAt e t cornerTension i
@@ -47,25 +44,34 @@ module _ (e : End) (t : Sheet) (f : EndFigures) (i : ℕ) where
   abbrev over : Kind → Bool
   over k = exceeded e t f k i
 
-  module _ (h : lock < corner) where
-    lock-too : over cornerTension ≡ true → over lockTension ≡ true
-    lock-too = lower-too lock corner (sizeAt f lockTension i) (omega arith)
+  -- the corner is named unless the lock's limit is lower, the lock unless the corner's is not higher
+  corner-short : named e t f cornerTension i ≡ over cornerTension && not (ltb lock corner)
+  corner-short =
+      passed-over corner lock (sizeAt f cornerTension i) (ltb lock corner) (λ h. omega (arith, ltb-true lock corner h))
 
+  lock-short : named e t f lockTension i ≡ over lockTension && not (leb corner lock)
+  lock-short = passed-over lock corner (sizeAt f lockTension i) (leb corner lock) (leb-true corner lock)
+
+  -- a level whose lock has the lower limit, and one whose corner has it or where they are equal
+  module _ (h : lock < corner) where
     pub corner-passed : named e t f cornerTension i ≡ false
-    corner-passed = rw (lt-ltb lock corner h) (passed (over cornerTension) (over lockTension) lock-too)
+    corner-passed = corner-short ∙ rw (lt-ltb lock corner h) (and-false (over cornerTension))
 
     pub lock-kept : named e t f lockTension i ≡ over lockTension
-    lock-kept = rw (lt-leb corner lock h) (kept (over lockTension) (over cornerTension))
+    lock-kept = lock-short ∙ rw (lt-leb corner lock h) (and-true (over lockTension))
+
+    lock-too : over cornerTension ≡ true → over lockTension ≡ true
+    lock-too o = lt-ltb lock (sizeAt f lockTension i) (omega (arith, ltb-true corner (sizeAt f cornerTension i) o))
 
   module _ (h : corner ≤ lock) where
-    corner-too : over lockTension ≡ true → over cornerTension ≡ true
-    corner-too = lower-too corner lock (sizeAt f cornerTension i) h
-
     pub lock-passed : named e t f lockTension i ≡ false
-    lock-passed = rw (le-leb corner lock h) (passed (over lockTension) (over cornerTension) corner-too)
+    lock-passed = lock-short ∙ rw (le-leb corner lock h) (and-false (over lockTension))
 
     pub corner-kept : named e t f cornerTension i ≡ over cornerTension
-    corner-kept = rw (le-ltb lock corner h) (kept (over cornerTension) (over lockTension))
+    corner-kept = corner-short ∙ rw (le-ltb lock corner h) (and-true (over cornerTension))
+
+    corner-too : over lockTension ≡ true → over cornerTension ≡ true
+    corner-too o = lt-ltb corner (sizeAt f cornerTension i) (omega (arith, ltb-true lock (sizeAt f lockTension i) o))
 
   -- by cases on the lower limit
   lower-by : (b : Bool) → lockLower e t i ≡ b → named e t f (cond b lockTension cornerTension) i ≡ over (cond b lockTension cornerTension)
@@ -107,8 +113,8 @@ module _ (e : End) (t : Sheet) (f : EndFigures) (i : ℕ) where
   pub named-exceeded : (k : Kind) → named e t f k i ≡ true → exceeded e t f k i ≡ true
   named-exceeded racking h = h
   named-exceeded compression h = h
-  named-exceeded cornerTension h = and-true (over cornerTension) _ h .0
-  named-exceeded lockTension h = and-true (over lockTension) _ h .0
+  named-exceeded cornerTension h = B.and-true (over cornerTension) _ h .0
+  named-exceeded lockTension h = B.and-true (over lockTension) _ h .0
   named-exceeded lashTension h = h
   named-exceeded lashVertical h = h
   named-exceeded lashAthwart h = h
