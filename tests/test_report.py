@@ -121,6 +121,15 @@ class Table(unittest.TestCase):
             _, text, _ = lash(EXAMPLES / f"{example}.toml", output=answer)
             self.assertEqual("\n  tension: the lashes above the level count, and at it those on bottom corners;" in text, said)
 
+    def test_one_line_for_one_pull(self):
+        """At level 3 of the door end 299,001 N are over both limits: one finding, both limits in the table, and a note."""
+        _, text, _ = lash(EXAMPLES / "pulled-back.toml", output=PULLED_BACK_ANSWER)
+        self.assertEqual(text.count("door end, level 3: 299,001 N"), 1)
+        self.assertIn("119.7% !   100.1% !", text)
+        note = "Corner and lock tension are one pull against two limits"
+        self.assertIn(note, text)
+        self.assertNotIn(note, lash(EXAMPLES / "box-b.toml", output=B_ANSWER)[1])
+
     def test_turned_boxes_are_marked(self):
         end = ((1_000, 1_000), (1_000,) * 3, (1_000, 1_000), ())
         for winds, tiers, other_way in (((3, 0), ["1 turned", "2"], True), ((1, 2), ["1", "2 turned"], True), ((0, 1), ["1", "2"], False)):
