@@ -58,12 +58,12 @@ module _ {margin : ℕ} {exact : Frac} {size limit : ℕ} (r : Reported margin e
       (of-⊏ (nat size) (absq exact +q nat margin) (r .close)))
 
 -- lists of findings
+pub not-none : (x : Finding) (xs : List Finding) → x ∷ xs ≡ [] → ⊥
+not-none x xs e = let z : _≡_ {A = ℕ} 0 1 = cc in omega arith
+
 nil-left : (xs ys : List Finding) → xs ++ ys ≡ [] → xs ≡ []
 nil-left [] ys e = refl
-nil-left (x ∷ xs) ys e = absurd (never e)
-  where
-    never : x ∷ (xs ++ ys) ≡ [] → ⊥
-    never q = let z : _≡_ {A = ℕ} 0 1 = cc in omega arith
+nil-left (x ∷ xs) ys e = absurd (not-none x (xs ++ ys) e)
 
 nil-right : (xs ys : List Finding) → xs ++ ys ≡ [] → ys ≡ []
 nil-right xs ys e = sym (ap (λ (l : List Finding). l ++ ys) (nil-left xs ys e)) ∙ e
@@ -120,16 +120,13 @@ module _ (said : Said) (e : End) (t : Sheet) (f : EndFigures) (k : Kind) where
       rest : List Finding
       rest = findingsFrom said e t f k (suc i) n
 
-      never : here ∷ rest ≡ [] → ⊥
-      never q = let z : _≡_ {A = ℕ} 0 1 = cc in omega arith
-
       go :
           (b : Bool) →
           said e t f k i ≡ b →
           cond b (here ∷ rest) rest ≡ [] →
           (rest ≡ [] → (j : ℕ) → suc i ≤ j → j < suc i + n → said e t f k j ≡ false) →
           said e t f k j ≡ false
-      go true h p r = absurd (never p)
+      go true h p r = absurd (not-none here rest p)
       go false h p r =
           ⊎-elim
           (λ (s : i ≡ j). subst (λ (m : ℕ). said e t f k m ≡ false) s h)
@@ -221,7 +218,10 @@ module _ (t : Sheet) (f : Figures) (none : findings t f ≡ []) where
   unnamed : (e : End) (k : Kind) (i : ℕ) → CheckedAt e t k i → named e t (figuresOf e f) k i ≡ false
   unnamed = none-said named t f none
 
-  either-kept : (e : End) (i : ℕ) → CheckedAt e t cornerTension i → (exceeded e t (figuresOf e f) cornerTension i ≡ false) × (exceeded e t (figuresOf e f) lockTension i ≡ false)
+  either-kept :
+      (e : End) (i : ℕ) →
+      CheckedAt e t cornerTension i →
+      (exceeded e t (figuresOf e f) cornerTension i ≡ false) × (exceeded e t (figuresOf e f) lockTension i ≡ false)
   either-kept e i c =
       let g = figuresOf e f in
       let l : CheckedAt e t lockTension i = record { least = c .least; most = c .most } in

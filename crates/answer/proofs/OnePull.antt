@@ -3,35 +3,31 @@ use mathlib.Core.Path.{_≡_, refl, sym, _∙_}
 use mathlib.Core.Bool.{Bool, true, false}
 use mathlib.Core.List.{List, [], _∷_}
 use Prim.Native.Nat.{ℕ}
-use native.Mathlib.Omega.{arith}
 use borrow.Author.Tests.{ltb-false}
 use Rattle.sheet.specs.declared.Sheet.{Sheet}
 use Rattle.sheet.specs.Ends.{End}
 use Rattle.statics.specs.declared.Figures.{Figures}
 use Rattle.answer.specs.Findings.{Kind, Finding, figuresOf, limitAt, sizeAt, exceeded, named, findingsBy, findings, verdict}
-use Rattle.answer.specs.Consequences.{CheckedAt}
 use Rattle.answer.specs.OnePull.{OnePull}
 use Rattle.answer.proofs.TwoLimits.{lower-named, other-unnamed, lowest, never-both, one, named-exceeded}
-use Rattle.answer.proofs.Accepted.{none-said, none-anywhere, unexceeded, none-broken}
+use Rattle.answer.proofs.Accepted.{not-none, none-said, none-anywhere, unexceeded, none-broken}
 
 -- two lists that are empty together have one verdict
 same : (xs ys : List Finding) → (xs ≡ [] → ys ≡ []) → (ys ≡ [] → xs ≡ []) → verdict xs ≡ verdict ys
 same [] [] p q = refl
-same [] (y ∷ ys) p q = absurd (never (p refl))
-  where
-    never : y ∷ ys ≡ [] → ⊥
-    never e = let z : _≡_ {A = ℕ} 0 1 = cc in omega arith
-same (x ∷ xs) [] p q = absurd (never (q refl))
-  where
-    never : x ∷ xs ≡ [] → ⊥
-    never e = let z : _≡_ {A = ℕ} 0 1 = cc in omega arith
+same [] (y ∷ ys) p q = absurd (not-none y ys (p refl))
+same (x ∷ xs) [] p q = absurd (not-none x xs (q refl))
 same (x ∷ xs) (y ∷ ys) p q = refl
 
 module _ (t : Sheet) (f : Figures) where
   fewer : findingsBy exceeded t f ≡ [] → findings t f ≡ []
   fewer none = none-anywhere named t f (λ e k i c. go e k i (named e t (figuresOf e f) k i) refl (none-said exceeded t f none e k i c))
     where
-      go : (e : End) (k : Kind) (i : ℕ) (b : Bool) → named e t (figuresOf e f) k i ≡ b → exceeded e t (figuresOf e f) k i ≡ false → b ≡ false
+      go :
+          (e : End) (k : Kind) (i : ℕ) (b : Bool) →
+          named e t (figuresOf e f) k i ≡ b →
+          exceeded e t (figuresOf e f) k i ≡ false →
+          b ≡ false
       go e k i true h n = sym (named-exceeded e t (figuresOf e f) i k h) ∙ n
       go e k i false h n = refl
 

@@ -19,7 +19,10 @@ adds-none true y h = h refl
 adds-none false y h = refl
 
 -- a limit is passed over where the other one goes before it, which is not above it: what exceeds the one exceeds the other
-passed-over : (limit other s : ℕ) (before : Bool) → (before ≡ true → other ≤ limit) → ltb limit s && not (ltb other s && before) ≡ ltb limit s && not before
+passed-over :
+    (limit other s : ℕ) (before : Bool) →
+    (before ≡ true → other ≤ limit) →
+    ltb limit s && not (ltb other s && before) ≡ ltb limit s && not before
 passed-over limit other s true h = go (ltb limit s) refl
   where
     go : (x : Bool) → ltb limit s ≡ x → x && not (ltb other s && true) ≡ x && false
@@ -30,7 +33,10 @@ passed-over limit other s false h = rw (and-false (ltb other s)) refl
 pub lowest : (e : End) (t : Sheet) (i : ℕ) → limitAt e t (lower e t i) i ≤ limitAt e t (other e t i) i
 lowest e t i = go (lockLower e t i) refl
   where
-    go : (b : Bool) → lockLower e t i ≡ b → limitAt e t (cond b lockTension cornerTension) i ≤ limitAt e t (cond b cornerTension lockTension) i
+    go :
+        (b : Bool) →
+        lockLower e t i ≡ b →
+        limitAt e t (cond b lockTension cornerTension) i ≤ limitAt e t (cond b cornerTension lockTension) i
     go true h = omega (arith, ltb-true (limitAt e t lockTension i) (limitAt e t cornerTension i) h)
     go false h = ltb-false (limitAt e t lockTension i) (limitAt e t cornerTension i) h
 

@@ -42,9 +42,9 @@ returns c =
     let l = k .before in
     let s = l .before .before in
     let both = then (p .put-end .ensures .0) (q .put-end2 .ensures .0) in
+    let lower = k .lower-of .ensures ∙ ap lowerOf (l .safe-load .ensures) in
     let room : q .put-end2 .result ≤ 324 = omega arith in (
-      found-is (s .args .t) (s .args .f) (s .pre) (k .lower-of .result) (k .lower-of .ensures ∙ ap lowerOf (l .safe-load .ensures)) both room refl refl
-          (w .put-where .ensures .1),
+      found-is (s .args .t) (s .args .f) (s .pre) (k .lower-of .result) lower both room refl refl (w .put-where .ensures .1),
       omega arith,
     )
 
