@@ -270,6 +270,7 @@ static uint8_t *put_findings(uint8_t *p, const struct sheet *t, int end, const s
 {
     int n = t->tiers, m = t->lashes[end];
     uint32_t lock = safe_load(t->lock, t->breaking);
+    int weak = lock < 250000; /* corner and lock tension are one pull, checked against the lower limit */
     for (int i = 0; i < n; i++)
         if (f->racking[i] > 150000 || f->racking[i] < -150000)
             p = put_finding(p, end, 1, i + 1);
@@ -277,11 +278,8 @@ static uint8_t *put_findings(uint8_t *p, const struct sheet *t, int end, const s
         if (f->compression[i] > 848000)
             p = put_finding(p, end, 2, i);
     for (int i = 0; i < n; i++)
-        if (f->tension[i] > 250000)
-            p = put_finding(p, end, 3, i);
-    for (int i = 0; i < n; i++)
-        if (f->tension[i] > lock)
-            p = put_finding(p, end, 4, i);
+        if (f->tension[i] > (weak ? lock : 250000))
+            p = put_finding(p, end, weak ? 4 : 3, i);
     for (int j = 0; j < m; j++)
         if (f->pull[j] > safe_load(t->lash[end][j].material, t->lash[end][j].breaking))
             p = put_finding(p, end, 5, j);

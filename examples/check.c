@@ -91,7 +91,7 @@ static int print_answer(const struct checked *c)
     if (accepted)
         printf("accepted: no limit is exceeded\n");
     else
-        printf("not accepted: %u limit%s exceeded\n", findings, findings == 1 ? " is" : "s are");
+        printf("not accepted: %u finding%s\n", findings, findings == 1 ? "" : "s");
     for (unsigned i = 0; i < findings; i++)
         print_finding(c, lash_finding_of(c->result, c->answer, i));
     printf("%-18s%-34s%s\n", "largest", end_names[LASH_DOOR], end_names[LASH_CLOSED]);

@@ -16,7 +16,7 @@ extern "C" {
 
 /* The version of the header and of the library built beside it; the text is LASH_VERSION, as "0.5.0". */
 #define LASH_VERSION_MAJOR 0
-#define LASH_VERSION_MINOR 5
+#define LASH_VERSION_MINOR 6
 #define LASH_VERSION_PATCH 0
 #define LASH_TEXT_(number) #number
 #define LASH_TEXT(number) LASH_TEXT_(number)
@@ -48,7 +48,8 @@ enum lash_number {
 
 enum lash_end { LASH_DOOR = 0, LASH_CLOSED = 1 };
 
-/* Kinds of finding, and what the index of each is. Safe working loads are rounded down to whole kilonewtons. */
+/* Kinds of finding, and what the index of each is. Safe working loads are rounded down to whole kilonewtons. Corner and lock tension
+   are one pull against two limits: over both, only the lower limit is named, and the corner if they are equal. */
 enum lash_finding {
     LASH_OVER_RACKING = 1,     /* tier, from 1 */
     LASH_OVER_COMPRESSION = 2, /* level: 0 is the deck, i the top of tier i */

@@ -23,7 +23,7 @@ class Figure:
     index: int
     force: int
     limit: int
-    over: bool  # the check found it so
+    over: bool  # the limit is exceeded, named by a finding or not
 
     @property
     def use(self):
@@ -124,6 +124,10 @@ class Result:
         """Of a level's two tension figures the one that uses more of its limit."""
         return greatest(self.figure(end, kind, level) for kind in (CORNER, LOCK))
 
+    def over_both(self):
+        """Whether a tension exceeds the corner's limit and the lock's, which is one finding."""
+        return any(f.over and f.kind == CORNER and self.figure(f.end, LOCK, f.index).over for f in self.figures.values())
+
     def governing(self, end, index):
         """Of a lash's three figures the one that uses the most of its limit."""
         return greatest(self.figure(end, kind, index) for kind in LASH_KINDS)
@@ -137,13 +141,15 @@ def result(title, sheet, answer, assumed, numbers=None):
 
 def figures(sheet, answer):
     """Every reported force beside its limit, in the answer's order of findings."""
-    limits = {(c.end, c.kind, c.index): c.limit for c in checks(sheet, answer.ends)}
+    checked = {(c.end, c.kind, c.index): c for c in checks(sheet, answer.ends)}
     found = {}
     for end, forces in enumerate(answer.ends):
         for kind, by_index in by_kind(forces).items():
             for index, force in by_index.items():
                 place = (end, kind, index)
-                found[place] = Figure(*place, force, limits.get(place), place in answer.findings)
+                check = checked.get(place)
+                limit, over = (check.limit, check.size > check.limit) if check else (None, False)
+                found[place] = Figure(*place, force, limit, over)
     return found
 
 

@@ -8,7 +8,7 @@ from lashtool.fields import ENDS, LASH_FIELDS, TIER_FIELDS, lash_place, word
 from lashtool.figures import CALM, LASH_KINDS, OVER, greatest
 from lashtool.geometry import foot_height, lash_length
 from lashtool.words import (
-    KIND_WORDS, NOT_CHECKED, PAD_WORDS, assumed_words, ends_words, force_words, lock_words, route_words,
+    KIND_WORDS, NOT_CHECKED, ONE_PULL_WORDS, PAD_WORDS, assumed_words, ends_words, force_words, lock_words, route_words,
     rule_notes, stack_words, stiffness_words, verdict_words, warnings, way_words, where, worst_words,
 )
 from sheets.limits import (
@@ -206,6 +206,8 @@ def notes(outcome):
     if outcome.listed():
         texts.append("foot at: height of a lash's lower end above the deck.")
         texts.append("tension: the lashes above the level count, and at it those on bottom corners; in compression all at it do.")
+    if outcome.over_both():
+        texts.append(ONE_PULL_WORDS)
     if any(figure.force_text.startswith("<") for figure in outcome.figures.values()):
         texts.append(PAD_WORDS)
     return bulleted("NOTES", [*texts, NOT_CHECKED])

@@ -30,7 +30,10 @@ PAD_WORDS = (
     f"< {KEPT}: every figure is proved to be at least the exact force in size and less than {KEPT} N above it; "
     "so small a figure may stand for no force at all."
 )
-
+ONE_PULL_WORDS = (
+    "Corner and lock tension are one pull against two limits: where it is over both, the finding names the lower limit, and the "
+    "corner if they are equal."
+)
 FLEET_WORDS = (
     "Rule 2 is the fleet standard, one operator's own book, and not the class rule: a box's centre lies at half its height, and its "
     "transverse force F is shared half and half between its top and its bottom. The class rule takes 45% of the height, and "

@@ -1,6 +1,6 @@
 #!/usr/bin/env python3
 """Prints named sheets and what must come out of each: document 01's list and its plausible slips, and 02's turned boxes (P1),
-safe loads (P3), bottom hooks (P4) and fleet standard (P10).
+safe loads (P3), bottom hooks (P4), fleet standard (P10) and one finding for one pull (P11).
 
 A case is a block of lines, ended by an empty one:
 
@@ -29,7 +29,7 @@ sys.path.insert(0, str(Path(__file__).resolve().parent.parent))
 from reference.judge import MARGIN, figures
 from reference.script import finish
 from reference.stack import exact
-from sheets.limits import checks
+from sheets.limits import checks, named
 from sheets.sheet import (
     ANSWER_ROOM, BOTTOM, CROSS, SIDE, TOP, Head, Lash, Refused, Sheet, Tier, pack, parse,
 )
@@ -133,7 +133,7 @@ SLIPS = [
     ),
     Case(
         "slip-every-kind",
-        "a finding of every kind",
+        "a finding of every kind but the lock's, whose limit is the higher",
         stack(OVERLOADED, [rod(), rod(2, ly=700, lz=5_000)], [rod(area=1_000), rod(2, BOTTOM, **FLAT)]),
     ),
 ]
@@ -250,7 +250,27 @@ FLEET = [
     Case("rule-255", "nor the greatest number of a byte", stack([B], rule=255)),
 ]
 
-CASES = RUN_BY_A_PROGRAM + FIGURES + SLIPS + ORDER + KILONEWTONS + TURNED + HOOKED + FLEET
+# Five light boxes in the wind pull at the deck alone beyond 200,000 N: by more than 251,000 N, or by less than 249,000 N.
+LIFTED = [box(mass=4_000, wind=1, a_t=300, a_vmax=1_200, a_vmin=900)] * 5
+LIFTED_LESS = [box(mass=5_000, wind=1, a_t=120, a_vmax=1_200, a_vmin=900)] * 5
+
+
+def on_locks(tiers, breaking):
+    """A stack on locks of ordinary steel, factor 2."""
+    return stack(tiers, lock_material=0, lock_breaking=breaking)
+
+
+PULLS = [
+    Case("pull-lock-lower", "over corner and lock, of 249,000 N: the lock is named", on_locks(LIFTED, 499_999)),
+    Case("pull-equal", "over both of 250,000 N: the corner is named", on_locks(LIFTED, 500_000)),
+    Case("pull-equal-most", "the last breaking load of that safe load", on_locks(LIFTED, 501_999)),
+    Case("pull-corner-lower", "over corner and lock, of 251,000 N: the corner is named", on_locks(LIFTED, 502_000)),
+    Case("pull-corner-alone", "over the corner alone", on_locks(LIFTED, 600_000)),
+    Case("pull-lock-alone", "over the lock alone", on_locks(LIFTED_LESS, 400_000)),
+    Case("pull-neither", "over neither", on_locks(LIFTED_LESS, 500_000)),
+]
+
+CASES = RUN_BY_A_PROGRAM + FIGURES + SLIPS + ORDER + KILONEWTONS + TURNED + HOOKED + FLEET + PULLS
 
 
 def reported_range(kind, force):
@@ -278,13 +298,17 @@ def stands(check):
     return None if ceil(check.size) + MARGIN - 1 > check.limit else False
 
 
+def may_be_named(sheet, ends):
+    """The limits that a right answer may name. What exceeds the higher of two limits exceeds the lower, whatever the last 100 N are."""
+    return named([check for check in checks(sheet, ends) if stands(check) is not False])
+
+
 def finding_lines(sheet, ends):
     """Findings that stand whatever the last 100 N are, those that hang on them, and the verdict."""
-    found = [(stands(check), f"{check.end} {check.kind} {check.index}") for check in checks(sheet, ends)]
-    for standing, where in found:
-        if standing is not False:
-            yield f"{'finding' if standing else 'open'} {where}"
-    seen = {standing for standing, _ in found}
+    seen = set()
+    for check in may_be_named(sheet, ends):
+        seen.add(stands(check))
+        yield f"{'finding' if stands(check) else 'open'} {check.end} {check.kind} {check.index}"
     yield f"verdict {1 if True in seen else 'open' if None in seen else 0}"
 
 

@@ -5,8 +5,8 @@ from fractions import Fraction
 
 from reference.stack import exact, exact_end
 from sheets.limits import (
-    COMPRESSION_LIMIT, CORNER_LIMIT, HIGHER_STRENGTH, LASH_ATHWART_LIMIT, LASH_VERTICAL_LIMIT,
-    RACKING_LIMIT,
+    COMPRESSION_LIMIT, CORNER, CORNER_LIMIT, HIGHER_STRENGTH, LASH_ATHWART_LIMIT, LASH_VERTICAL_LIMIT, LOCK, RACKING_LIMIT,
+    safe_working_load,
 )
 from sheets.sheet import (
     BOTTOM, CLOSED, CROSS, DOOR, HEAD_LIMITS, HEIGHTS, LASH_LIMITS, MOST_LASHES, MOST_TIERS, SIDE,
@@ -163,11 +163,11 @@ ATTEMPTS = 20
 
 def near(random, turn):
     """A stack with a force within some newtons of its limit."""
-    names = (*LIMITED, *GEAR, "every gear")
+    names = (*LIMITED, *GEAR, "every gear", "two limits")
     name = names[turn % len(names)]
     if name == "every gear":
         return near_gear(random)
-    draw = near_safe_load if name in GEAR else near_force
+    draw = near_two_limits if name == "two limits" else near_safe_load if name in GEAR else near_force
     for _ in range(ATTEMPTS):
         sheet = draw(random, name)
         if sheet:
@@ -211,6 +211,33 @@ def near_safe_load(random, name):
     kilonewtons = int(found[index] // KILONEWTON)
     sheet = trimmed(sheet, end, name, index, kilonewtons * KILONEWTON + Fraction(aim(random)))
     return sheet and with_safe_load(random, sheet, end, name, index, kilonewtons)
+
+
+def near_two_limits(random, name):
+    """A tension close to the corner's limit or the lock's, whose safe working load is that limit or a kilonewton beside it."""
+    sheet = heavy(random)
+    end = random.choice((DOOR, CLOSED))
+    corner_kilonewtons = CORNER_LIMIT // KILONEWTON
+    kilonewtons = corner_kilonewtons + random.choice((-1, 0, 1))
+    target = random.choice((kilonewtons, corner_kilonewtons)) * KILONEWTON + Fraction(random.uniform(-12, 12))
+    over = [index for index, size in enumerate(sizes(exact_end(sheet, end), "lock")) if size > target]
+    sheet = trimmed(sheet, end, "lock", random.choice(over), target) if over else None
+    return sheet and with_safe_load(random, sheet, end, "lock", None, kilonewtons)
+
+
+def pulls_about(sheet, ends):
+    """(-1, 0 or 1 where the lock's safe load lies below, at or above the corner's limit, the kind of a limit, whether it is
+    exceeded) of each tension within 25 N of either limit; of stacks whose two limits lie up to two kilonewtons apart."""
+    lock = safe_working_load(sheet.head.lock_breaking, sheet.head.lock_material)
+    if abs(lock - CORNER_LIMIT) <= 2 * KILONEWTON:
+        side = (lock > CORNER_LIMIT) - (lock < CORNER_LIMIT)
+        for tension in (tension for end in ends for tension in end.tension):
+            for kind, limit in ((CORNER, CORNER_LIMIT), (LOCK, lock)):
+                if abs(tension - limit) <= 25:
+                    yield side, kind, tension > limit
+
+
+PULLS_ABOUT = {(side, kind, over) for side in (-1, 0, 1) for kind in (CORNER, LOCK) for over in (False, True)}
 
 
 def with_safe_load(random, sheet, end, name, index, kilonewtons):

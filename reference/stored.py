@@ -12,12 +12,11 @@ from pathlib import Path
 ROOT = Path(__file__).resolve().parent.parent
 sys.path.insert(0, str(ROOT))
 
-from reference.cases import CASES, reported_range, stands
+from reference.cases import CASES, may_be_named, reported_range, stands
 from reference.judge import figures
 from reference.script import finish
 from reference.stack import exact
 from sheets.answer import counts
-from sheets.limits import checks
 from sheets.sheet import Refused, parse
 
 HEAD = struct.Struct("<BHHH")
@@ -55,12 +54,10 @@ def end_fields(end):
 
 def findings_due(sheet, ends):
     """The findings that stand in every right answer."""
-    for check in checks(sheet, ends):
-        standing = stands(check)
-        if standing is None:
+    for check in may_be_named(sheet, ends):
+        if not stands(check):
             raise Undecided(f"a finding of kind {check.kind} is open at {float(check.size)} N")
-        if standing:
-            yield check.end, check.kind, check.index
+        yield check.end, check.kind, check.index
 
 
 def fields(sheet):

@@ -62,6 +62,18 @@ def lash_checks(lashes, end, results):
         yield Check(end, LASH_ATHWART, index, forces.athwart, LASH_ATHWART_LIMIT)
 
 
+def named(exceeded):
+    """Of the limits exceeded those that are named. Corner and lock tension are one pull: where both are exceeded at a level
+    only the lower limit is named, and the corner if they are equal."""
+    corners, locks = ({(c.end, c.index): c.limit for c in exceeded if c.kind == kind} for kind in (CORNER, LOCK))
+    for check in exceeded:
+        corner, lock = (limits.get((check.end, check.index)) for limits in (corners, locks))
+        both = check.kind in (CORNER, LOCK) and None not in (corner, lock)
+        if not both or check.kind == (LOCK if lock < corner else CORNER):
+            yield check
+
+
 def findings(sheet, ends):
-    """(end, kind, index) exactly where the reported size exceeds the limit."""
-    return [(c.end, c.kind, c.index) for c in checks(sheet, ends) if c.size > c.limit]
+    """(end, kind, index) of each limit that the reported size exceeds and that is named."""
+    exceeded = [check for check in checks(sheet, ends) if check.size > check.limit]
+    return [(check.end, check.kind, check.index) for check in named(exceeded)]

@@ -33,7 +33,8 @@ B_END = ((22_073,), (98_892, 1), (1,))
 B_ANSWER = answer_bytes(B_END, B_END)
 
 # Figures of no real stack, each once, for examples/pulled-back.toml: six tiers, two lashes an end. The
-# door end exceeds racking (to windward), compression, corner, lock and all three limits of lash 1.
+# door end exceeds racking (to windward), compression, the corner at level 1, corner and lock at level 3, and all three limits of
+# lash 1.
 DOOR = (
     (11_001, 11_002, 11_003, -11_004, -11_005, -155_949),
     (900_000, 12_001, 848_001, 12_003, 12_004, 12_005, 12_006),
@@ -47,7 +48,7 @@ CLOSED = (
     ((293_000, 24_100, 24_200), (24_001, 150_000, 300_000)),
 )
 FINDINGS = (
-    (0, 1, 6), (0, 2, 2), (0, 3, 1), (0, 3, 3), (0, 4, 3), (0, 5, 1), (0, 6, 1), (0, 7, 1),
+    (0, 1, 6), (0, 2, 2), (0, 3, 1), (0, 3, 3), (0, 5, 1), (0, 6, 1), (0, 7, 1),
 )
 PULLED_BACK_ANSWER = answer_bytes(DOOR, CLOSED, FINDINGS)
 

@@ -94,9 +94,9 @@ class Cases(unittest.TestCase):
         self.assertEqual(judged, ["finding 0 1 6", "verdict 1"])
 
     def test_a_bottom_hook_relieves_the_corners(self):
-        """Corners and locks at the deck and corners at level 1, at both ends; a lash relieves level 1 by a bottom hook alone."""
+        """Corners at the deck and at level 1, at both ends; a lash relieves level 1 by a bottom hook alone."""
         for name, due in (
-            ("hooked-nowhere", [(3, 0), (3, 1), (4, 0)]), ("hooked-top", [(3, 1)]), ("hooked-bottom", []),
+            ("hooked-nowhere", [(3, 0), (3, 1)]), ("hooked-top", [(3, 1)]), ("hooked-bottom", []),
             ("hooked-heavy-top", [(3, 1)]), ("hooked-heavy-bottom", []),
         ):
             judged = [line for line in block(name) if line.startswith(("finding", "open", "verdict"))]
@@ -104,8 +104,24 @@ class Cases(unittest.TestCase):
             self.assertEqual(judged, [*lines, f"verdict {1 if due else 0}"])
 
     def test_every_kind_is_found(self):
-        kinds = {line.split()[2] for line in block("slip-every-kind") if line.startswith("finding")}
-        self.assertEqual(kinds, set("1234567"))
+        """Of corner and lock, which are one pull, a stack's findings have one."""
+        for name, due in (("slip-every-kind", "123567"), ("pull-lock-lower", "4")):
+            kinds = {line.split()[2] for line in block(name) if line.startswith("finding")}
+            self.assertEqual(kinds, set(due))
+
+    def test_one_finding_for_one_pull(self):
+        """At the deck, at both ends: 283,120 N against 250,000 N and a lock of 249,000 to 300,000, then 230,730 N."""
+        for name, tension, kind in (
+            ("pull-lock-lower", 283, 4), ("pull-equal", 283, 3), ("pull-equal-most", 283, 3), ("pull-corner-lower", 283, 3),
+            ("pull-corner-alone", 283, 3), ("pull-lock-alone", 230, 4), ("pull-neither", 230, None),
+        ):
+            with self.subTest(name):
+                lines = block(name)
+                forces = [line.split()[4] for line in lines if line[1:].startswith(" tension 0 ")]
+                self.assertEqual({int(Fraction(force) // 1_000) for force in forces}, {tension})
+                judged = [line for line in lines if line.startswith(("finding", "open", "verdict"))]
+                found = [f"finding {end} {kind} 0" for end in (0, 1)] if kind else []
+                self.assertEqual(judged, [*found, f"verdict {1 if kind else 0}"])
 
     def test_reported_range(self):
         for kind, force, due in (

@@ -15,11 +15,12 @@ from fractions import Fraction
 from pathlib import Path
 from typing import NamedTuple
 
-from reference.cases import CASES, FLEET, HOOKED, KILONEWTONS, SLIPS, TURNED
+from reference.cases import CASES, FLEET, HOOKED, KILONEWTONS, PULLS, SLIPS, TURNED
 from reference.faults import EDGES
 from reference.judge import KEPT, MARGIN, expected, figure_fault, judge
 from reference.making import KINDS, make
-from reference.samples import BOTTOM_HOOKS, bottom_hooks
+from reference.samples import BOTTOM_HOOKS, PULLS_ABOUT, bottom_hooks, pulls_about
+from reference.stack import exact
 from sheets.answer import read_answer
 from sheets.limits import HIGHER_STRENGTH
 from sheets.sheet import ANSWER_ROOM, CLOSED, CROSS, DOOR, SIDE, Refused, parse
@@ -293,6 +294,10 @@ class StandIn:
 
     safe_lock = safe_lash = whole_kilonewtons
 
+    def named_of_both(self, corner, lock):
+        """The kinds named at a level where corner and lock are both exceeded."""
+        return (4,) if lock < corner else (3,)
+
     def findings(self, data, lashes, ends):
         lock = self.safe_lock(self.safe(number(data, 4, 4), data[2]))
         for end, (racking, pressed, pulled, forces) in enumerate(ends):
@@ -306,10 +311,16 @@ class StandIn:
                 sizes[5].append((i, tension, self.safe_lash(self.safe(lash.breaking, lash.material))))
                 sizes[6].append((i, vertical, self.limits[6]))
                 sizes[7].append((i, athwart, self.limits[7]))
-            for kind, rows in sizes.items():
-                for index, size, limit in rows:
-                    if self.exceeds(size, limit + self.more.get(kind, 0)):
-                        yield end, kind, index
+            over = [
+                (kind, index)
+                for kind, rows in sizes.items()
+                for index, size, limit in rows
+                if self.exceeds(size, limit + self.more.get(kind, 0))
+            ]
+            kinds = self.named_of_both(self.limits[3] + self.more.get(3, 0), lock + self.more.get(4, 0))
+            for kind, index in over:
+                if kind not in (3, 4) or (7 - kind, index) not in over or kind in kinds:
+                    yield end, kind, index
 
     def __call__(self, data):
         data = data[: self.most_bytes]
@@ -365,6 +376,11 @@ def gear(whole):
 
 def newtons(load):
     return load
+
+
+def two_limits(names):
+    """A slip in which of the corner's and the lock's limit is named."""
+    return {"named_of_both": lambda self, corner, lock: names(corner, lock)}
 
 
 BY_45, BY_HALF, EXCHANGED = {1: 0.45, 2: 0.45}, {1: 0.5, 2: 0.5}, {1: 0.5, 2: 0.45}
@@ -431,6 +447,12 @@ SLIPS_CAUGHT = {
     "safe loads to the nearest": (gear(lambda load: (load + 500) // 1_000 * 1_000), "findings"),
     "a kilonewton at least": (gear(lambda load: max(1_000, load - load % 1_000)), "findings"),
     "Table 2-3 by the factor": ({"limits": {k: v // 2_000 * 1_000 for k, v in StandIn.limits.items()}}, "findings"),
+    "the higher limit named": (two_limits(lambda corner, lock: (4,) if lock > corner else (3,)), "findings"),
+    "the lock named when equal": (two_limits(lambda corner, lock: (4,) if lock <= corner else (3,)), "findings"),
+    "both limits named": (two_limits(lambda corner, lock: (3, 4)), "findings"),
+    "neither limit named": (two_limits(lambda corner, lock: ()), "findings"),
+    "the corner always named": (two_limits(lambda corner, lock: (3,)), "findings"),
+    "the lock always named": (two_limits(lambda corner, lock: (4,)), "findings"),
     "findings by kind, then end": ({"listed": by_kind}, "findings"),
     "no findings": ({"listed": lambda s, found: []}, "findings"),
     "every stack flagged": ({"verdict_of": lambda s, found: 1}, "verdict"),
@@ -491,7 +513,7 @@ TURNED_SHOWS = {
     "wind-255": (),
 }
 
-# of its bottom hooks
+# of its bottom hooks,
 HOOKED_SHOWS = {
     "hooked-nowhere": (),
     "hooked-top": ("own top hooks in tension",),
@@ -507,7 +529,7 @@ HOOKED_SHOWS = {
     ),
 }
 
-# and of its fleet standard.
+# of its fleet standard
 IN_Q_OR_M = ("share of rule 2 in Q but not in M", "share of rule 2 in M but not in Q")
 FLEET_SHOWS = {
     "fleet-a-c": ("rule 2 as rule 1", *IN_Q_OR_M, "rule 2 refused"),
@@ -520,6 +542,17 @@ FLEET_SHOWS = {
     "rule-0": ("rule 0 taken",),
     "rule-3": ("rule 3 taken", "any rule but 0 taken"),
     "rule-255": ("any rule but 0 taken",),
+}
+
+# and of its one finding for one pull.
+PULLS_SHOW = {
+    "pull-lock-lower": ("the higher limit named", "both limits named", "neither limit named", "the corner always named"),
+    "pull-equal": ("the lock named when equal", "both limits named", "neither limit named", "the lock always named"),
+    "pull-equal-most": ("the lock named when equal", "both limits named"),
+    "pull-corner-lower": ("the higher limit named", "both limits named", "neither limit named", "the lock always named"),
+    "pull-corner-alone": ("no findings",),
+    "pull-lock-alone": ("no findings",),
+    "pull-neither": (),
 }
 
 
@@ -571,9 +604,9 @@ class Comparison(unittest.TestCase):
                 self.assertTrue(fault.startswith(begins), fault)
 
     def test_named_cases_show_their_slips(self):
-        shows = KILONEWTONS_SHOW | TURNED_SHOWS | HOOKED_SHOWS | FLEET_SHOWS
+        shows = KILONEWTONS_SHOW | TURNED_SHOWS | HOOKED_SHOWS | FLEET_SHOWS | PULLS_SHOW
         shown = {name: (slip,) for name, slip in SHOWN_BY.items()} | shows
-        cases = SLIPS + KILONEWTONS + TURNED + HOOKED + FLEET
+        cases = SLIPS + KILONEWTONS + TURNED + HOOKED + FLEET + PULLS
         self.assertEqual({case.name for case in cases}, set(shown))
         for case in cases:
             due = expected(case.data)
@@ -602,12 +635,12 @@ class Comparison(unittest.TestCase):
 class Drawn(unittest.TestCase):
     """What the sheets by seed have among them."""
 
-    SHEETS = {"realistic": 400, "extreme": 400, "edge": 4 * len(EDGES), "damaged": 1_500}  # of the last two most are refused
-    OTHERS = 300
+    # Of the last two most are refused.
+    SHEETS = {"realistic": 400, "extreme": 400, "near a limit": 700, "edge": 4 * len(EDGES), "damaged": 1_500}
 
     @classmethod
     def setUpClass(cls):
-        cls.made = {kind: [make(seed).data for seed in seeds(kind, range(cls.SHEETS.get(kind, cls.OTHERS)))] for kind in KINDS}
+        cls.made = {kind: [make(seed).data for seed in seeds(kind, range(cls.SHEETS[kind]))] for kind in KINDS}
         cls.lashed = cls.made["realistic"] + cls.made["extreme"]
 
     def taken(self, kind):
@@ -650,6 +683,11 @@ class Drawn(unittest.TestCase):
                 highest = max((lash.level for lash in sheet.lashes(end)), default=0)
                 pairs = enumerate(zip(due.tension, wrong.tension))
                 yield from ((level, kind, level < highest) for level, pair in pairs if len(set(pair)) == 2)
+
+    def test_pulls_about_two_limits(self):
+        """Locks of a safe load below, at and above a corner's limit, with tensions just below and just above either limit."""
+        found = {place for sheet in self.taken("near a limit") for place in pulls_about(sheet, exact(sheet))}
+        self.assertEqual(found, PULLS_ABOUT)
 
     def test_both_rules_in_every_kind_of_sheet(self):
         for kind in KINDS:

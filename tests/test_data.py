@@ -29,12 +29,14 @@ class Data(unittest.TestCase):
         tensions = [row["force"] for row in closed["corner_tension"]]
         self.assertEqual(tensions, [23_000, 250_000, 23_002, 23_003, 23_004, 23_005])
         self.assertEqual({row["limit"] for row in closed["lock_tension"]}, {299_000})
+        both = [(door[name][3]["limit"], door[name][3]["over"]) for name in ("corner_tension", "lock_tension")]
+        self.assertEqual(both, [(250_000, True), (299_000, True)])
         self.assertEqual((closed["lashes"][1]["lash"], closed["lashes"][1]["place"]), (4, "tier 5 top cross"))
         forces = [closed["lashes"][1][name]["force"] for name in ("tension", "vertical", "athwart")]
         self.assertEqual(forces, [24_001, 300_000, 150_000])
-        self.assertEqual([row["kind"] for row in data["findings"]], [1, 2, 3, 3, 4, 5, 6, 7])
+        self.assertEqual([row["kind"] for row in data["findings"]], [1, 2, 3, 3, 5, 6, 7])
         self.assertEqual(data["findings"][0]["tier"], 6)
-        self.assertEqual(data["findings"][5]["lash"], 2)
+        self.assertEqual(data["findings"][4]["lash"], 2)
         text = "door end, level 2: compression 848,001 N exceeds 848,000 N"
         self.assertEqual(data["findings"][1]["text"], text)
 

@@ -30,6 +30,7 @@ SHOWN = {
     "corner-tension": ("unacceptable corner tension", [(end, CORNER, 0) for end in BOTH]),
     "top-hook": ("unacceptable corner tension", [(end, CORNER, 1) for end in BOTH]),
     "lock": ("unacceptable tension in the locks", [(end, LOCK, 0) for end in BOTH]),
+    "two-limits": ("unacceptable tension in the locks, and in the corners too", [(end, LOCK, 0) for end in BOTH]),
     "lash-force": ("unacceptable lash force", [(0, LASH_TENSION, 0)]),
     "fleet-standard": ("unacceptable corner tension by the fleet standard", [(1, CORNER, 0)]),
 }
@@ -68,7 +69,7 @@ class Examples(unittest.TestCase):
     def test_the_route_decides(self):
         sheet = sheet_of("route")
         unrestricted = replace(sheet, head=replace(sheet.head, route=0))
-        self.assertEqual(findings(unrestricted, exact(unrestricted)), [(1, CORNER, 0), (1, LOCK, 0)])
+        self.assertEqual(findings(unrestricted, exact(unrestricted)), [(1, CORNER, 0)])
 
     def test_the_turn_decides(self):
         """With no box turned it is the stack of lash-force; with all of them the wire at the other end is overloaded."""
@@ -94,6 +95,14 @@ class Examples(unittest.TestCase):
         self.assertEqual((sheet.head.rule, findings(by_class, exact(by_class))), (2, []))
         tensions = [exact(each)[1].tension[0] for each in (by_class, sheet)]
         self.assertEqual([round(float(tension), 1) for tension in tensions], [245_816.8, 254_301.5])
+
+    def test_one_pull_over_two_limits(self):
+        """Both limits are exceeded at the deck of each end; on stronger locks the finding names the corner."""
+        sheet = sheet_of("two-limits")
+        over = [(c.end, c.kind, c.index) for c in checks(sheet, exact(sheet)) if c.size > c.limit]
+        self.assertEqual(over, [(end, kind, 0) for end in BOTH for kind in (CORNER, LOCK)])
+        stronger = replace(sheet, head=replace(sheet.head, lock_breaking=500_000))
+        self.assertEqual(stronger, sheet_of("corner-tension"))
 
     def test_the_template_is_accepted(self):
         sheet = describe(template().encode()).sheet

@@ -340,8 +340,20 @@ class Forces(unittest.TestCase):
         self.assertEqual(findings(sheet, (at, bare)), [])
         self.assertEqual(
             findings(sheet, (over, bare)),
-            [(0, 1, 1), (0, 2, 1), (0, 3, 0), (0, 4, 0), (0, 5, 0), (0, 6, 0), (0, 7, 0)],
+            [(0, 1, 1), (0, 2, 1), (0, 3, 0), (0, 5, 0), (0, 6, 0), (0, 7, 0)],
         )
+
+    def test_one_finding_for_one_pull(self):
+        """Of the corner's 250,000 N and a lock's safe load the lower is named, the corner's if they are equal."""
+        for breaking, tension, due in (
+            (499_999, 249_000, []), (499_999, 249_001, [4]), (499_999, 250_000, [4]), (499_999, 250_001, [4]),
+            (500_000, 250_000, []), (500_000, 250_001, [3]), (501_999, 250_001, [3]),
+            (502_000, 250_000, []), (502_000, 250_001, [3]), (502_000, 251_000, [3]), (502_000, 251_001, [3]),
+        ):
+            sheet = stack(B)
+            sheet = replace(sheet, head=replace(sheet.head, lock_material=0, lock_breaking=breaking))
+            end, calm = (End((0,), (0, 0), (pull,), ()) for pull in (tension, 0))
+            self.assertEqual(findings(sheet, (calm, end)), [(1, kind, 0) for kind in due], (breaking, tension))
 
 
 class Refusals(unittest.TestCase):

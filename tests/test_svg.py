@@ -251,7 +251,7 @@ class Drawn(unittest.TestCase):
 
     def test_what_exceeds_is_dark(self):
         picture = drawn(EXAMPLES / "pulled-back.toml", output=PULLED_BACK_ANSWER)
-        self.assertIn("NOT ACCEPTED: 8 findings", picture.texts())
+        self.assertIn("NOT ACCEPTED: 7 findings", picture.texts())
         over = picture.texts("figure over")
         # Racking, compression, both tensions, lash tension with its vertical and athwart part.
         due = ["155,949", "848,001", "250,001", "299,001", "293,001", "300,001", "150,001"]
@@ -324,7 +324,7 @@ class Drawn(unittest.TestCase):
         sheet = Sheet(HEAD, (replace(BOX_B, height=2896),) * count, lashes, lashes)
         forces = ((90_000_000, 2_000_000, 80_000_000),) * len(lashes)
         posts = ((-2_000_000,) * count, (70_000_000,) * (count + 1), (70_000_000,) * count)
-        indices = {**dict.fromkeys((1, 2), range(1, count + 1)), **dict.fromkeys((3, 4), range(count))}
+        indices = {**dict.fromkeys((1, 2), range(1, count + 1)), 3: range(count)}
         indices.update(dict.fromkeys((5, 6, 7), range(len(lashes))))
         findings = [(e, kind, i) for e in (0, 1) for kind, rows in indices.items() for i in rows]
         end = (*posts, forces)

@@ -1,10 +1,9 @@
 -- An answer's bytes say by themselves what the exact forces are: the forces read back report them, and findings and verdict are the rule's.
 use mathlib.Core.Path.{_≡_, refl, sym, ap, ap₂, subst, _∙_}
-use mathlib.Core.Bool.{cond}
+use mathlib.Core.Bool.{Bool, cond}
 use mathlib.Core.List.{List, [], _∷_, _++_, flatMap, List·Memᴰ, List·Memᴰ·head, List·Memᴰ·tail}
 use Prim.Native.Nat.{ℕ, zero, suc, _+_, _-_, _≤_, _<_}
 use native.Mathlib.Omega.{arith}
-use lib.Dec.{ltb}
 use lib.IntN.{ℤ, pos, natAbs}
 use lib.ListN.{getD, length}
 use Rattle.arith.specs.Fractions.{Frac}
@@ -23,11 +22,12 @@ use Rattle.statics.proofs.Arrays.{entry-at}
 use Rattle.answer.specs.declared.Outcome.{Outcome}
 use Rattle.answer.specs.Findings.{Kind, racking, compression, cornerTension, lockTension, lashTension, lashVertical, lashAthwart}
 use Rattle.answer.specs.Findings.{kinds}
-use Rattle.answer.specs.Findings.{Finding, endCode, kindCode, figuresOf, firstIndex, indexCount, sizeAt, limitAt, findingsFrom}
-use Rattle.answer.specs.Findings.{endFindings, findings, verdict}
+use Rattle.answer.specs.Findings.{Finding, endCode, kindCode, figuresOf, firstIndex, indexCount, sizeAt, named, findingsFrom}
+use Rattle.answer.specs.Findings.{endFindings, findingsBy, findings, verdict}
 use Rattle.answer.specs.Checked.{AnswerTo, Answered, AnsweredAs, Checked}
 use Rattle.answer.specs.Places.{EndReadBack, noFinding, ReadBack, forceIn, reportedIn, figuresIn}
 use Rattle.answer.specs.Consequences.{CheckedAt, Justified, AnswerSays}
+use Rattle.answer.proofs.TwoLimits.{named-same}
 use Rattle.answer.proofs.Accepted as A
 use Rattle.answer.proofs.ReadBack as R
 
@@ -36,14 +36,14 @@ module _ (t : Sheet) where
   from-same :
       (e : End) (f g : EndFigures) (k : Kind) (i n : ℕ) →
       ((j : ℕ) → i ≤ j → j < i + n → sizeAt f k j ≡ sizeAt g k j) →
-      findingsFrom e t f k i n ≡ findingsFrom e t g k i n
+      findingsFrom named e t f k i n ≡ findingsFrom named e t g k i n
   unfolding findingsFrom
   from-same e f g k i zero h = refl
   from-same e f g k i (suc n) h =
       let x : Finding = record { end = endCode e; kind = kindCode k; index = i } in
       ap₂
-      (λ (s : ℕ) (rest : List Finding). cond (ltb (limitAt e t k i) s) (x ∷ rest) rest)
-      (h i (omega arith) (omega arith))
+      (λ (b : Bool) (rest : List Finding). cond b (x ∷ rest) rest)
+      (named-same e t f g k i (h i (omega arith) (omega arith)))
       (from-same e f g k (suc i) n (λ j l u. h j (omega arith) (omega arith)))
 
   kinds-same : (f g : Kind → List Finding) (ks : List Kind) → ((k : Kind) → f k ≡ g k) → flatMap f ks ≡ flatMap g ks
@@ -55,10 +55,10 @@ module _ (t : Sheet) where
       (f g : Figures) →
       ((e : End) (k : Kind) (i : ℕ) → CheckedAt e t k i → sizeAt (figuresOf e f) k i ≡ sizeAt (figuresOf e g) k i) →
       findings t f ≡ findings t g
-  unfolding findings
+  unfolding findingsBy
   findings-same f g h = ap₂ (λ (a b : List Finding). a ++ b) (end door) (end closed)
     where
-      end : (e : End) → endFindings t f e ≡ endFindings t g e
+      end : (e : End) → endFindings named t f e ≡ endFindings named t g e
       end e =
           kinds-same _ _ kinds
           (λ k.

@@ -5,7 +5,9 @@ pub mod Turned
 pub mod Relief
 pub mod FleetStandard
 pub mod Solutions
+pub mod TwoLimits
 pub mod Accepted
+pub mod OnePull
 pub mod ReadBack
 pub mod Longest
 pub mod Numbers

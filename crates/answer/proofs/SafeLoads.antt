@@ -1,5 +1,5 @@
 -- Safe loads in whole kilonewtons: the definition's meaning, and its figures.
-use mathlib.Core.Path.{_≡_, refl}
+use mathlib.Core.Path.{_≡_, refl, _∙_}
 use mathlib.Core.Bool.{Bool, true, false, cond}
 use mathlib.Core.List.{_∷_}
 use Prim.Native.Nat.{ℕ, suc, _+_, _*_, _/_, _%_, _<_, _≤_}
@@ -11,8 +11,10 @@ use Rattle.sheet.specs.declared.Sheet.{Sheet}
 use Rattle.sheet.specs.Ends.{End}
 use Rattle.statics.specs.declared.EndFigures.{EndFigures}
 use Rattle.answer.specs.Limits.{safetyFactor, safeLoad}
-use Rattle.answer.specs.Findings.{Kind, endCode, kindCode, limitAt, sizeAt, findingsFrom}
+use Rattle.answer.specs.Findings.{Kind, racking, compression, cornerTension, lockTension, lashTension, lashVertical, lashAthwart}
+use Rattle.answer.specs.Findings.{endCode, kindCode, limitAt, sizeAt, exceeded, named, findingsFrom}
 use Rattle.answer.specs.SafeLoads.{GreatestSafe, SafeLoads}
+use Rattle.answer.proofs.TwoLimits.{corner-kept, lock-kept}
 
 -- breaking load / factor in whole kilonewtons, by any factor in hundredths
 module _ (breaking factor : ℕ) (h : 0 < factor) where
@@ -58,13 +60,28 @@ greatest material breaking =
       most = most breaking factor positive;
     }
 
-none-safe :
-    (e : End) (t : Sheet) (f : EndFigures) (k : Kind) (i more : ℕ) →
-    limitAt e t k i ≡ 0 →
-    0 < sizeAt f k i →
-    findingsFrom e t f k i (suc more) ≡ record { end = endCode e; kind = kindCode k; index = i } ∷ findingsFrom e t f k (suc i) more
-unfolding findingsFrom
-none-safe e t f k i more z h = rw (z, lt-ltb 0 (sizeAt f k i) h) refl
+module _ (e : End) (t : Sheet) (f : EndFigures) (i : ℕ) where
+  over-none : (k : Kind) → limitAt e t k i ≡ 0 → 0 < sizeAt f k i → exceeded e t f k i ≡ true
+  over-none k z h = lt-ltb (limitAt e t k i) (sizeAt f k i) (omega arith)
+
+  -- of corner and lock, a limit of 0 is the lower one
+  named-none : (k : Kind) → limitAt e t k i ≡ 0 → 0 < sizeAt f k i → named e t f k i ≡ true
+  named-none racking z h = over-none racking z h
+  named-none compression z h = over-none compression z h
+  named-none cornerTension z h = corner-kept e t f i (omega arith) ∙ over-none cornerTension z h
+  named-none lockTension z h = lock-kept e t f i (omega (arith, z)) ∙ over-none lockTension z h
+  named-none lashTension z h = over-none lashTension z h
+  named-none lashVertical z h = over-none lashVertical z h
+  named-none lashAthwart z h = over-none lashAthwart z h
+
+  none-safe :
+      (k : Kind) (more : ℕ) →
+      limitAt e t k i ≡ 0 →
+      0 < sizeAt f k i →
+      findingsFrom named e t f k i (suc more) ≡
+      record { end = endCode e; kind = kindCode k; index = i } ∷ findingsFrom named e t f k (suc i) more
+  unfolding findingsFrom
+  none-safe k more z h = rw (named-none k z h) refl
 
 pub safe-loads : SafeLoads
 unfolding safeLoad
@@ -76,5 +93,5 @@ safe-loads =
       bridge = λ material other. rw (other) refl;
       none-higher = refl;
       none-other = refl;
-      none-safe = none-safe;
+      none-safe = λ e t f k i more. none-safe e t f i k more;
     }

@@ -23,6 +23,7 @@ use Rattle.answer.proofs.SafeLoads.{safe-loads}
 use Rattle.answer.proofs.Turned.{turned}
 use Rattle.answer.proofs.Relief.{relieved}
 use Rattle.answer.proofs.FleetStandard.{fleet-standard}
+use Rattle.answer.proofs.OnePull.{one-pull}
 
 module _ {m n : ℕ} (wider : m ≤ n) where
   pub answer-wider : {rule : Rule} {t : Sheet} {bytes : List ℕ} → AnswerTo m rule t bytes → AnswerTo n rule t bytes
@@ -73,4 +74,5 @@ theorems =
       turned = turned;
       relief = relieved;
       fleet-standard = fleet-standard;
+      one-pull = one-pull;
     }

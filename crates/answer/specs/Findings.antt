@@ -1,8 +1,8 @@
 -- Document 01, "The answer sheet": the seven kinds of checked limits, the findings and the verdict.
-use mathlib.Core.Bool.{Bool, cond}
+use mathlib.Core.Bool.{Bool, cond, not, _&&_}
 use mathlib.Core.List.{List, [], _∷_, _++_, flatMap}
 use Prim.Native.Nat.{ℕ, zero, suc, _-_}
-use lib.Dec.{ltb, eqb}
+use lib.Dec.{leb, ltb, eqb}
 use lib.ListN.{getD, length}
 use Rattle.sheet.specs.Layout.{blankLash}
 use Rattle.arith.specs.Fractions.{Frac}
@@ -103,25 +103,49 @@ limitAt e t lashTension j = safeLoad (getD (lashesOf e t) j blankLash .material)
 limitAt e t lashVertical j = lashVerticalLimit
 limitAt e t lashAthwart j = lashAthwartLimit
 
+-- what is said of a kind at an index of an end with these figures: its limit is exceeded, by the reported size
+abbrev pub Said : Type 0
+Said = End → Sheet → EndFigures → Kind → ℕ → Bool
+
+abbrev pub exceeded : Said
+exceeded e t f k i = ltb (limitAt e t k i) (sizeAt f k i)
+
+-- its limit is named, by document 02, P11: corner tension and lock tension are the same pull against two limits. Where both are exceeded at
+-- a level, only the lower limit is named, and the corner if they are equal
+abbrev pub named : Said
+named e t f racking i = exceeded e t f racking i
+named e t f compression i = exceeded e t f compression i
+named e t f cornerTension i =
+    exceeded e t f cornerTension i && not (exceeded e t f lockTension i && ltb (limitAt e t lockTension i) (limitAt e t cornerTension i))
+named e t f lockTension i =
+    exceeded e t f lockTension i && not (exceeded e t f cornerTension i && leb (limitAt e t cornerTension i) (limitAt e t lockTension i))
+named e t f lashTension i = exceeded e t f lashTension i
+named e t f lashVertical i = exceeded e t f lashVertical i
+named e t f lashAthwart i = exceeded e t f lashAthwart i
+
 pub record Finding : Type 0 where
   pub end : ℕ
   pub kind : ℕ
   pub index : ℕ
 
--- a finding stands exactly where the reported size exceeds the limit: of `more` indexes from i on
-unfoldable pub findingsFrom : End → Sheet → EndFigures → Kind → ℕ → ℕ → List Finding
-findingsFrom e t f k i zero = []
-findingsFrom e t f k i (suc more) =
-    cond (ltb (limitAt e t k i) (sizeAt f k i))
-    (record { end = endCode e; kind = kindCode k; index = i } ∷ findingsFrom e t f k (suc i) more)
-    (findingsFrom e t f k (suc i) more)
+-- a finding stands exactly where `said` holds: of `more` indexes from i on
+unfoldable pub findingsFrom : Said → End → Sheet → EndFigures → Kind → ℕ → ℕ → List Finding
+findingsFrom said e t f k i zero = []
+findingsFrom said e t f k i (suc more) =
+    cond (said e t f k i)
+    (record { end = endCode e; kind = kindCode k; index = i } ∷ findingsFrom said e t f k (suc i) more)
+    (findingsFrom said e t f k (suc i) more)
 
 -- order by end, kind, index
-abbrev pub endFindings : Sheet → Figures → End → List Finding
-endFindings t f e = flatMap (λ k. findingsFrom e t (figuresOf e f) k (firstIndex k) (indexCount e t k)) kinds
+abbrev pub endFindings : Said → Sheet → Figures → End → List Finding
+endFindings said t f e = flatMap (λ k. findingsFrom said e t (figuresOf e f) k (firstIndex k) (indexCount e t k)) kinds
 
-unfoldable pub findings : Sheet → Figures → List Finding
-findings t f = endFindings t f door ++ endFindings t f closed
+unfoldable pub findingsBy : Said → Sheet → Figures → List Finding
+findingsBy said t f = endFindings said t f door ++ endFindings said t f closed
+
+-- the findings of an answer: the limits that are named
+abbrev pub findings : Sheet → Figures → List Finding
+findings t f = findingsBy named t f
 
 -- the verdict is 0 exactly with no findings
 abbrev pub verdict : List Finding → ℕ

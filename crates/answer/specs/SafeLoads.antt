@@ -11,7 +11,7 @@ use Rattle.sheet.specs.Layout.{blankLash}
 use Rattle.sheet.specs.Ends.{End, lashesOf}
 use Rattle.statics.specs.declared.EndFigures.{EndFigures}
 use Rattle.answer.specs.Limits.{safetyFactor, safeLoad}
-use Rattle.answer.specs.Findings.{Kind, lockTension, lashTension, endCode, kindCode, limitAt, sizeAt, findingsFrom}
+use Rattle.answer.specs.Findings.{Kind, lockTension, lashTension, endCode, kindCode, limitAt, sizeAt, named, findingsFrom}
 
 -- the greatest load of whole kilonewtons that, times the factor, is at most the breaking load
 pub record GreatestSafe (material breaking load : ℕ) : Type 0 where
@@ -37,4 +37,5 @@ pub record SafeLoads : Type 0 where
       (e : End) (t : Sheet) (f : EndFigures) (k : Kind) (i more : ℕ) →
       limitAt e t k i ≡ 0 →
       0 < sizeAt f k i →
-      findingsFrom e t f k i (suc more) ≡ record { end = endCode e; kind = kindCode k; index = i } ∷ findingsFrom e t f k (suc i) more
+      findingsFrom named e t f k i (suc more) ≡
+      record { end = endCode e; kind = kindCode k; index = i } ∷ findingsFrom named e t f k (suc i) more

@@ -21,6 +21,7 @@ use Rattle.answer.specs.SafeLoads.{SafeLoads}
 use Rattle.answer.specs.Turned.{Turned}
 use Rattle.answer.specs.Relief.{Relief}
 use Rattle.answer.specs.FleetStandard.{FleetStandard}
+use Rattle.answer.specs.OnePull.{OnePull}
 use Rattle.answer.specs.inner.Named.{answerBy, returned, written}
 
 -- demand 3, of a sheet t and the bytes s that begin with its answer: each end's equations have exactly one solution in fractions; every
@@ -65,3 +66,5 @@ pub record Theorems : Type 0 where
   pub relief : Relief
   -- document 02's fleet standard
   pub fleet-standard : FleetStandard
+  -- document 02's one finding for one pull
+  pub one-pull : OnePull

@@ -48,7 +48,7 @@ verdict-is (x ∷ xs) = rw (ne-eqb (suc (length xs)) 0 some) refl
 pub found-bytes : (t : Sheet) (f : Figures) → take (3 * length (findings t f)) (found t f .bytes) ≡ flatMap findingBytes (findings t f)
 found-bytes t f =
     let bytes = flatMap findingBytes (findings t f) in
-    take-at bytes (replicate (387 - length bytes) 0) (3 * length (findings t f)) (bytes-length (findings t f))
+    take-at bytes (replicate (327 - length bytes) 0) (3 * length (findings t f)) (bytes-length (findings t f))
 
 module _ (t : Sheet) (f : Figures) (s : Sized t) {r : Found} (is : r ≡ found t f) where
   count-is : r .count ≡ length (findings t f)

@@ -5,6 +5,7 @@ use mathlib.Core.List.{List, [], _∷_, _++_, flatMap, append-assoc, append-nil}
 use Prim.Native.Nat.{ℕ, zero, suc, _+_, _-_, _/_, _<_, _≤_}
 use native.Mathlib.Nat.{add-zero}
 use native.Mathlib.Omega.{arith}
+use borrow.Author.Tests.{ltb-true, ltb-false}
 use lib.Dec.{ltb}
 use lib.ListN.{length, getD, take, drop, replicate, length-replicate}
 use lib.Seq.{sets, sets-eq, getD-take}
@@ -14,15 +15,19 @@ use Rattle.sheet.specs.declared.Sheet.{Sheet}
 use Rattle.statics.specs.declared.EndFigures.{EndFigures}
 use Rattle.statics.specs.declared.Figures.{Figures}
 use Rattle.sheet.specs.Ends.{End, door, closed, lashesOf}
-use Rattle.answer.specs.Limits.{safeLoad}
+use Rattle.answer.specs.Limits.{cornerTensionLimit, safeLoad}
 use Rattle.answer.specs.Findings.{Finding, Kind, racking, compression, cornerTension, lockTension, lashTension, lashVertical, lashAthwart}
-use Rattle.answer.specs.Findings.{endCode, kindCode, figuresOf, firstIndex, indexCount, sizeAt, limitAt, findingsFrom, endFindings}
-use Rattle.answer.specs.Findings.{findings}
+use Rattle.answer.specs.Findings.{endCode, kindCode, figuresOf, firstIndex, indexCount, sizeAt, limitAt, exceeded, named, findingsFrom}
+use Rattle.answer.specs.Findings.{endFindings, findingsBy, findings}
 use Rattle.answer.specs.Answers.{findingBytes}
 use Rattle.arith.specs.Lists.{from, padded}
 use Rattle.answer_findings.specs.declared.Found.{Found}
-use Rattle.answer_findings.specs.inner.Findings.{Put, Sized, lashLimit, findingWhere, findingsOver, tierFindings, lashFindings, found}
+use Rattle.answer_findings.specs.declared.limits.PullLimit.{PullLimit}
+use Rattle.answer_findings.specs.inner.Findings.{Put, Sized, lashLimit, lowerOf, findingWhere, findingsOver}
+use Rattle.answer_findings.specs.inner.Findings.{tierFindings, lashFindings, found}
 use Rattle.answer.proofs.ReadBack.{bytes-length}
+use Rattle.answer.proofs.TwoLimits.{corner-passed, lock-kept, lock-passed, corner-kept}
+use Rattle.answer.proofs.Accepted.{nowhere}
 
 -- entries that agree from i on, and entries counted from another place
 entries-same : (f g : ℕ → List ℕ) (i n : ℕ) → ((k : ℕ) → i ≤ k → k < i + n → f k ≡ g k) → flatMap f (from i n) ≡ flatMap g (from i n)
@@ -70,91 +75,125 @@ drop-replicate (suc k) (suc n) z =
     let e : suc n - suc k ≡ n - k = omega arith in
     rw e (drop-replicate k n z)
 
--- one kind
+-- one kind: its findings where each exceeded limit is named, and where none is
 module _ (e : End) (t : Sheet) (f : EndFigures) (k : Kind) where
   abbrev entry : ℕ → List ℕ
   entry i = findingWhere (endCode e) (kindCode k) i (sizeAt f k i) (limitAt e t k i)
 
-  from-bytes : (i n : ℕ) → flatMap findingBytes (findingsFrom e t f k i n) ≡ flatMap entry (from i n)
-  unfolding findingsFrom flatMap from findingWhere
-  from-bytes i zero = refl
-  from-bytes i (suc n) =
-      where-found (ltb (limitAt e t k i) (sizeAt f k i)) (record { end = endCode e; kind = kindCode k; index = i })
-      (findingsFrom e t f k (suc i) n)
-      ∙ ap (λ (l : List ℕ). entry i ++ l) (from-bytes (suc i) n)
+  module _ (each : (i : ℕ) → named e t f k i ≡ exceeded e t f k i) where
+    from-bytes : (i n : ℕ) → flatMap findingBytes (findingsFrom named e t f k i n) ≡ flatMap entry (from i n)
+    unfolding findingsFrom flatMap from findingWhere
+    from-bytes i zero = refl
+    from-bytes i (suc n) =
+        where-found (named e t f k i) (record { end = endCode e; kind = kindCode k; index = i }) (findingsFrom named e t f k (suc i) n)
+        ∙ ap₂ (λ (b : Bool) (l : List ℕ). cond b (endCode e ∷ kindCode k ∷ i ∷ []) [] ++ l) (each i) (from-bytes (suc i) n)
 
-  kind-bytes :
-      (n : ℕ) (limit : ℕ → ℕ) →
-      indexCount e t k ≡ n →
-      ((i : ℕ) → i < firstIndex k + n → limitAt e t k i ≡ limit i) →
-      flatMap findingBytes (findingsFrom e t f k (firstIndex k) (indexCount e t k)) ≡
-      findingsOver (endCode e) (kindCode k) (firstIndex k) (sizeAt f k) limit n
-  unfolding findingsOver
-  kind-bytes n limit c h =
-      let z : firstIndex k + 0 ≡ firstIndex k = add-zero (firstIndex k) in
-      rw c
-      (from-bytes (firstIndex k) n
-      ∙ (rw z at (entries-from entry (firstIndex k) 0 n))
-      ∙ over-same (endCode e) (kindCode k) (firstIndex k) n (sizeAt f k) (limitAt e t k) limit h)
+    kind-bytes :
+        (n : ℕ) (limit : ℕ → ℕ) →
+        indexCount e t k ≡ n →
+        ((i : ℕ) → i < firstIndex k + n → limitAt e t k i ≡ limit i) →
+        flatMap findingBytes (findingsFrom named e t f k (firstIndex k) (indexCount e t k)) ≡
+        findingsOver (endCode e) (kindCode k) (firstIndex k) (sizeAt f k) limit n
+    unfolding findingsOver
+    kind-bytes n limit c h =
+        let z : firstIndex k + 0 ≡ firstIndex k = add-zero (firstIndex k) in
+        rw c
+        (from-bytes (firstIndex k) n
+        ∙ (rw z at (entries-from entry (firstIndex k) 0 n))
+        ∙ over-same (endCode e) (kindCode k) (firstIndex k) n (sizeAt f k) (limitAt e t k) limit h)
+
+  none-bytes : ((i : ℕ) → named e t f k i ≡ false) → (i n : ℕ) → flatMap findingBytes (findingsFrom named e t f k i n) ≡ []
+  unfolding flatMap
+  none-bytes none i n = ap (flatMap findingBytes) (nowhere named e t f k i n (λ j l u. none j))
+
+-- kinds 3 and 4: the one with the lower limit alone
+module _ (e : End) (t : Sheet) (f : EndFigures) where
+  abbrev lock : ℕ
+  lock = safeLoad (t .head .lockMaterial) (t .head .lockBreakingLoad)
+
+  abbrev tensions : Kind → List ℕ
+  tensions k = flatMap findingBytes (findingsFrom named e t f k 0 (t .ntiers))
+
+  abbrev pulls : PullLimit → List ℕ
+  pulls p = findingsOver (endCode e) (p .kind) 0 (λ i. getD (f .tension) i 0) (λ i. p .limit) (t .ntiers)
+
+  pulls-bytes : tensions cornerTension ++ tensions lockTension ≡ pulls (lowerOf lock)
+  pulls-bytes = go (ltb lock cornerTensionLimit) refl
+    where
+      go :
+          (b : Bool) →
+          ltb lock cornerTensionLimit ≡ b →
+          tensions cornerTension ++ tensions lockTension ≡
+          pulls (cond b (record { kind = 4; limit = lock }) (record { kind = 3; limit = cornerTensionLimit }))
+      go true h =
+          let low = ltb-true lock cornerTensionLimit h in
+          ap₂ (λ (a b : List ℕ). a ++ b)
+          (none-bytes e t f cornerTension (λ i. corner-passed e t f i low) 0 (t .ntiers))
+          (kind-bytes e t f lockTension (λ i. lock-kept e t f i low) (t .ntiers) _ refl (λ i h. refl))
+      go false h =
+          let low = ltb-false lock cornerTensionLimit h in
+          ap₂ (λ (a b : List ℕ). a ++ b)
+          (kind-bytes e t f cornerTension (λ i. corner-kept e t f i low) (t .ntiers) _ refl (λ i h. refl))
+          (none-bytes e t f lockTension (λ i. lock-passed e t f i low) 0 (t .ntiers))
+          ∙ append-nil _
 
 -- an end: kinds 1 to 7
 module _ (t : Sheet) (f : Figures) (e : End) (ls : List Lash) (m : ℕ) (few : length (lashesOf e t) ≡ m)
     (each : (j : ℕ) → j < m → getD (lashesOf e t) j blankLash ≡ getD ls j blankLash) where
   pub end-bytes :
-      tierFindings (endCode e) (t .ntiers) (safeLoad (t .head .lockMaterial) (t .head .lockBreakingLoad)) (figuresOf e f)
+      tierFindings (endCode e) (t .ntiers) (lowerOf (safeLoad (t .head .lockMaterial) (t .head .lockBreakingLoad))) (figuresOf e f)
       ++ lashFindings (endCode e) ls m (figuresOf e f)
-      ≡ flatMap findingBytes (endFindings t f e)
+      ≡ flatMap findingBytes (endFindings named t f e)
   unfolding tierFindings lashFindings flatMap
   end-bytes =
       let g = figuresOf e f in
       let n = t .ntiers in
-      let r = kind-bytes e t g racking n _ refl (λ i h. refl) in
-      let c = kind-bytes e t g compression n _ refl (λ i h. refl) in
-      let s = kind-bytes e t g cornerTension n _ refl (λ i h. refl) in
-      let u = kind-bytes e t g lockTension n _ refl (λ i h. refl) in
+      let r = kind-bytes e t g racking (λ i. refl) n _ refl (λ i h. refl) in
+      let c = kind-bytes e t g compression (λ i. refl) n _ refl (λ i h. refl) in
+      let s = pulls-bytes e t g in
       let p =
-      kind-bytes e t g lashTension m (lashLimit ls) few
+      kind-bytes e t g lashTension (λ i. refl) m (lashLimit ls) few
       (λ i h. ap (λ (l : Lash). safeLoad (l .material) (l .breakingLoad)) (each i (omega arith))) in
-      let v = kind-bytes e t g lashVertical m _ few (λ i h. refl) in
-      let a = kind-bytes e t g lashAthwart m _ few (λ i h. refl) in
-      simp (bytes-append, append-nil, append-assoc, tierFindings, lashFindings, r, c, s, u, p, v, a)
+      let v = kind-bytes e t g lashVertical (λ i. refl) m _ few (λ i h. refl) in
+      let a = kind-bytes e t g lashAthwart (λ i. refl) m _ few (λ i h. refl) in
+      simp (bytes-append, append-nil, append-assoc, tierFindings, lashFindings, r, c, ← s, p, v, a)
 
 -- both ends
-module _ (t : Sheet) (f : Figures) (s : Sized t) (lock : ℕ)
-    (safe : lock ≡ safeLoad (t .head .lockMaterial) (t .head .lockBreakingLoad)) where
+module _ (t : Sheet) (f : Figures) (s : Sized t) (pull : PullLimit)
+    (lower : pull ≡ lowerOf (safeLoad (t .head .lockMaterial) (t .head .lockBreakingLoad))) where
   abbrev both : List ℕ
   both =
-      (tierFindings 0 (t .ntiers) lock (f .door) ++ lashFindings 0 (t .door) (t .ndoor) (f .door))
-      ++ (tierFindings 1 (t .ntiers) lock (f .closed) ++ lashFindings 1 (t .closed) (t .nclosed) (f .closed))
+      (tierFindings 0 (t .ntiers) pull (f .door) ++ lashFindings 0 (t .door) (t .ndoor) (f .door))
+      ++ (tierFindings 1 (t .ntiers) pull (f .closed) ++ lashFindings 1 (t .closed) (t .nclosed) (f .closed))
 
   both-bytes : both ≡ flatMap findingBytes (findings t f)
-  unfolding findings
+  unfolding findingsBy
   both-bytes =
-      rw (safe, bytes-append)
+      rw (lower, bytes-append)
       (ap₂
       (λ (a b : List ℕ). a ++ b)
       (end-bytes t f door (t .door) (t .ndoor) (s .door-lashes) (λ j h. getD-take (t .ndoor) (t .door) j blankLash h))
       (end-bytes t f closed (t .closed) (t .nclosed) (s .closed-lashes) (λ j h. getD-take (t .nclosed) (t .closed) j blankLash h)))
 
   -- put into an array of zeros, with zeros stored again behind the last
-  module _ {held : List ℕ} {q : ℕ} (p : Put (replicate 387 0) 0 both held q) (room : q ≤ 384) where
+  module _ {held : List ℕ} {q : ℕ} (p : Put (replicate 327 0) 0 both held q) (room : q ≤ 324) where
     count-is : q / 3 ≡ length (findings t f)
     count-is = omega (arith, p .place, ap length both-bytes, bytes-length (findings t f))
 
-    zeros : 0 ∷ 0 ∷ 0 ∷ drop (q + 3) held ≡ replicate (387 - q) 0
+    zeros : 0 ∷ 0 ∷ 0 ∷ drop (q + 3) held ≡ replicate (327 - q) 0
     zeros =
-        let e : 387 - q ≡ suc (suc (suc (387 - (q + 3)))) = omega arith in
-        rw (p .behind, drop-replicate (q + 3) 387 0) (ap (λ (n : ℕ). replicate n 0) (sym e))
+        let e : 327 - q ≡ suc (suc (suc (327 - (q + 3)))) = omega arith in
+        rw (p .behind, drop-replicate (q + 3) 327 0) (ap (λ (n : ℕ). replicate n 0) (sym e))
 
-    bytes-are : {after : List ℕ} → after ≡ sets held q (0 ∷ 0 ∷ 0 ∷ []) → after ≡ padded 387 0 (flatMap findingBytes (findings t f))
+    bytes-are : {after : List ℕ} → after ≡ sets held q (0 ∷ 0 ∷ 0 ∷ []) → after ≡ padded 327 0 (flatMap findingBytes (findings t f))
     bytes-are e =
-        let h : q + 3 ≤ length held = omega (arith, p .room, length-replicate {A = ℕ} 387 0) in
+        let h : q + 3 ≤ length held = omega (arith, p .room, length-replicate {A = ℕ} 327 0) in
         let l : q ≡ length both = omega (arith, p .place) in
         e
         ∙ sets-eq (0 ∷ 0 ∷ 0 ∷ []) held q h
         ∙ append-assoc (take q held) (0 ∷ 0 ∷ 0 ∷ []) (drop (q + 3) held)
-        ∙ ap₂ (λ (a b : List ℕ). a ++ b) (p .stored) (zeros ∙ ap (λ (n : ℕ). replicate (387 - n) 0) l)
-        ∙ ap (λ (b : List ℕ). padded 387 0 b) both-bytes
+        ∙ ap₂ (λ (a b : List ℕ). a ++ b) (p .stored) (zeros ∙ ap (λ (n : ℕ). replicate (327 - n) 0) l)
+        ∙ ap (λ (b : List ℕ). padded 327 0 b) both-bytes
 
     pub found-is :
         {r : Found} {after : List ℕ} →

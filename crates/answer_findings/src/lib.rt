@@ -1,4 +1,4 @@
-// Document 01, "The answer sheet": a finding, of 3 bytes, wherever a reported size exceeds its limit.
+// Document 01, "The answer sheet": a finding, of 3 bytes, wherever a reported size exceeds its limit; one for a tension (02, P11).
 
 mod limits; // limits.rt: permissible loads
 
@@ -13,6 +13,8 @@ ghost use Rattle.answer.specs.Limits.{rackingLimit};
 ghost use Rattle.answer.specs.Findings.{accepted};
 ghost use Rattle.answer_findings.specs.inner.Findings.{Put, Sized, lashLimit, findingsOver, tierFindings, lashFindings, found};
 use crate::limits::Limits;
+use crate::limits::PullLimit;
+use crate::limits::lower_of;
 use crate::limits::safe_load;
 use sheet::Lash;
 use sheet::Sheet;
@@ -21,7 +23,7 @@ use statics::Figures;
 
 // The bytes of the findings, three each, with zeros behind them, and their count.
 pub struct Found {
-    pub bytes: [u8; 387],
+    pub bytes: [u8; 327],
     pub count: usize,
 }
 
@@ -112,37 +114,36 @@ fn put_end(
     at: usize,
     end: u8,
     n: usize,
-    lock: u64,
+    pull: PullLimit,
     lashes: [Lash; 8],
     m: usize,
     f: EndFigures,
 ) -> usize
-    requires { ⌜ (n ≤ 10) × (m ≤ 8) × (at + 12 * n + 9 * m ≤ length (now found)) ⌝ }
-    ensures { λ r. ⌜ Put (now (found .entry)) at (tierFindings end n lock f ++ lashFindings end lashes m f)
-        (now (found .exit)) r × (r ≤ at + 12 * n + 9 * m) ⌝ }
+    requires { ⌜ (n ≤ 10) × (m ≤ 8) × (at + 9 * n + 9 * m ≤ length (now found)) ⌝ }
+    ensures { λ r. ⌜ Put (now (found .entry)) at (tierFindings end n pull f ++ lashFindings end lashes m f)
+        (now (found .exit)) r × (r ≤ at + 9 * n + 9 * m) ⌝ }
 {
     let p = put_rackings(found, at, end, &f.racking, n);
     let q = put_over(found, p, end, 2, 1, &f.compression, Limits::COMPRESSION, n);
-    let r = put_over(found, q, end, 3, 0, &f.tension, Limits::CORNER_TENSION, n);
-    let s = put_over(found, r, end, 4, 0, &f.tension, lock, n);
-    let u = put_pulls(found, s, end, lashes, &f.pull, m);
-    let v = put_over(found, u, end, 6, 0, &f.vertical, Limits::LASH_VERTICAL, m);
-    put_over(found, v, end, 7, 0, &f.athwart, Limits::LASH_ATHWART, m)
+    let r = put_over(found, q, end, pull.kind, 0, &f.tension, pull.limit, n);
+    let s = put_pulls(found, r, end, lashes, &f.pull, m);
+    let u = put_over(found, s, end, 6, 0, &f.vertical, Limits::LASH_VERTICAL, m);
+    put_over(found, u, end, 7, 0, &f.athwart, Limits::LASH_ATHWART, m)
 }
 
 // The findings of a stack: those of the door end, then those of the closed end.
 pub fn findings_of(t: Sheet, f: Figures) -> Found
     requires { ⌜ Sized t ⌝ }
-    ensures { λ r. ⌜ (r ≡ found t f) × (r .count ≤ 128) ⌝ }
+    ensures { λ r. ⌜ (r ≡ found t f) × (r .count ≤ 108) ⌝ }
 {
     let n = t.ntiers;
     let head = t.head;
-    let lock = safe_load(head.lockMaterial, head.lockBreakingLoad);
+    let pull = lower_of(safe_load(head.lockMaterial, head.lockBreakingLoad));
     let door = t.door;
     let closed = t.closed;
-    let mut bytes = [0u8; 387];
-    let p = put_end(&mut bytes, 0, 0, n, lock, door, t.ndoor, f.door);
-    let q = put_end(&mut bytes, p, 1, n, lock, closed, t.nclosed, f.closed);
+    let mut bytes = [0u8; 327];
+    let p = put_end(&mut bytes, 0, 0, n, pull, door, t.ndoor, f.door);
+    let q = put_end(&mut bytes, p, 1, n, pull, closed, t.nclosed, f.closed);
     put_where(&mut bytes, q, 0, 0, 0, false);
     let count = q / 3;
     Found { bytes, count }

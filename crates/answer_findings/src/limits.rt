@@ -2,6 +2,7 @@
 
 ghost use mathlib.Core.Path.{_≡_};
 ghost use Rattle.answer.specs.Limits.{safeLoad};
+ghost use Rattle.answer_findings.specs.inner.Findings.{lowerOf};
 
 // The limits of CR Table 2-3.
 pub struct Limits {}
@@ -26,4 +27,26 @@ pub fn safe_load(material: u8, breaking: u32) -> u64
         return (breaking as u64) / 1670 * 1000;
     }
     (breaking as u64) / 2000 * 1000
+}
+
+// The limit that a level's tension is checked against, and the kind that names it.
+pub struct PullLimit {
+    pub kind: u8,
+    pub limit: u64,
+}
+
+// Corner and lock tension are one pull: the lower of their two limits is named, the corner's if they are equal.
+pub fn lower_of(lock: u64) -> PullLimit
+    ensures { λ r. ⌜ r ≡ lowerOf lock ⌝ }
+{
+    if lock < Limits::CORNER_TENSION {
+        return PullLimit {
+            kind: 4,
+            limit: lock,
+        };
+    }
+    PullLimit {
+        kind: 3,
+        limit: Limits::CORNER_TENSION,
+    }
 }

@@ -13,6 +13,6 @@ pub mod WrittenBytes
 pub mod Rows
 pub mod Items
 pub mod Clear
-mod Bools
+pub mod Bools
 mod ReadBack
 mod Examples

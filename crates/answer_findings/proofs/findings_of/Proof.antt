@@ -1,7 +1,8 @@
 -- `answer_findings::findings_of`: the two ends' findings are put one behind the other into zeros, and zeros stored behind the last.
-use mathlib.Core.Path.{refl}
+use mathlib.Core.Path.{refl, ap, _∙_}
 use Prim.Native.Nat.{_≤_}
 use native.Mathlib.Omega.{arith}
+use Rattle.answer_findings.specs.inner.Findings.{lowerOf}
 use Rattle.answer_findings.proofs.Puts.{then}
 use Rattle.answer_findings.proofs.FindingLaws.{found-is}
 use borrow.Author.Needs.{needs}
@@ -10,6 +11,9 @@ use Rattle.answer_findings.proofs.findings_of.Tie as tie
 
 safe-load-requires : tie.Need-safe-load-requires
 safe-load-requires c κs = search needs
+
+lower-of-requires : tie.Need-lower-of-requires
+lower-of-requires c κs = search needs
 
 slice-aggregate-put-end : tie.Need-slice-aggregate-put-end
 slice-aggregate-put-end c = search needs
@@ -35,11 +39,12 @@ returns c =
     let q = w .before .before .before in
     let p = q .before .before .before in
     let k = p .before .before .before .before in
-    let s = k .before .before in
+    let l = k .before in
+    let s = l .before .before in
     let both = then (p .put-end .ensures .0) (q .put-end2 .ensures .0) in
-    let l : q .put-end2 .result ≤ 384 = omega arith in (
-      found-is (s .args .t) (s .args .f) (s .pre) (k .safe-load .result) (k .safe-load .ensures) both l refl refl
-          (w .put-where .ensures .1),
+    let lower = k .lower-of .ensures ∙ ap lowerOf (l .safe-load .ensures) in
+    let room : q .put-end2 .result ≤ 324 = omega arith in (
+      found-is (s .args .t) (s .args .f) (s .pre) (k .lower-of .result) lower both room refl refl (w .put-where .ensures .1),
       omega arith,
     )
 
@@ -48,6 +53,7 @@ findings-of-spec =
     tie.close
     (tie.spec
     safe-load-requires
+    lower-of-requires
     slice-aggregate-put-end
     put-end-requires
     slice-aggregate-put-end-2

@@ -16,16 +16,13 @@ racked c = c .before .before .before .before .before .before .before
 abbrev pressed : tie.After-put-over2 → tie.After-put-over
 pressed c = c .before .before .before .before .before .before .before
 
-abbrev cornered : tie.After-put-over3 → tie.After-put-over2
-cornered c = c .before .before .before .before .before .before .before
+abbrev tensed : tie.After-put-pulls → tie.After-put-over2
+tensed c = c .before .before .before .before .before .before .before
 
-abbrev locked : tie.After-put-pulls → tie.After-put-over3
-locked c = c .before .before .before .before .before .before .before
-
-abbrev pulled : tie.After-put-over4 → tie.After-put-pulls
+abbrev pulled : tie.After-put-over3 → tie.After-put-pulls
 pulled c = c .before .before .before .before .before .before .before
 
-abbrev raised : tie.After-put-over5 → tie.After-put-over4
+abbrev raised : tie.After-put-over4 → tie.After-put-over3
 raised c = c .before .before .before .before .before .before .before
 
 put-rackings-requires : tie.Need-put-rackings-requires
@@ -37,46 +34,39 @@ put-over-requires c κs = search needs
 put-over-requires-2 : tie.Need-put-over-requires-2
 put-over-requires-2 c κs = search needs
 
-put-over-requires-3 : tie.Need-put-over-requires-3
-put-over-requires-3 c κs = search needs
-
 put-pulls-requires : tie.Need-put-pulls-requires
 put-pulls-requires c κs =
-    let a4 = c .before .before .before .before .before .before in
-    let a3 = cornered a4 in
+    let a3 = c .before .before .before .before .before .before in
     let a2 = pressed a3 in
     let a1 = racked a2 in
     let s = entered a1 in
     (omega arith, omega (arith, c .put-pulls-arg3 .given .0), omega arith)
 
+put-over-requires-3 : tie.Need-put-over-requires-3
+put-over-requires-3 c κs =
+    let a4 = c .before .before .before .before .before .before in
+    let a3 = tensed a4 in
+    let a2 = pressed a3 in
+    let a1 = racked a2 in
+    let s = entered a1 in
+    (omega arith, omega arith, omega (arith, c .put-over-arg9 .given .0), omega arith)
+
 put-over-requires-4 : tie.Need-put-over-requires-4
 put-over-requires-4 c κs =
     let a5 = c .before .before .before .before .before .before in
-    let a4 = locked a5 in
-    let a3 = cornered a4 in
+    let a4 = pulled a5 in
+    let a3 = tensed a4 in
     let a2 = pressed a3 in
     let a1 = racked a2 in
     let s = entered a1 in
     (omega arith, omega arith, omega (arith, c .put-over-arg12 .given .0), omega arith)
 
-put-over-requires-5 : tie.Need-put-over-requires-5
-put-over-requires-5 c κs =
-    let a6 = c .before .before .before .before .before .before in
-    let a5 = pulled a6 in
-    let a4 = locked a5 in
-    let a3 = cornered a4 in
-    let a2 = pressed a3 in
-    let a1 = racked a2 in
-    let s = entered a1 in
-    (omega arith, omega arith, omega (arith, c .put-over-arg15 .given .0), omega arith)
-
 same-length : tie.Need-same-length
 same-length c =
-    let a7 = c .before .before in
-    let a6 = raised a7 in
-    let a5 = pulled a6 in
-    let a4 = locked a5 in
-    let a3 = cornered a4 in
+    let a6 = c .before .before in
+    let a5 = raised a6 in
+    let a4 = pulled a5 in
+    let a3 = tensed a4 in
     let a2 = pressed a3 in
     let a1 = racked a2 in
     omega arith
@@ -84,17 +74,15 @@ same-length c =
 returns : tie.Need-returns
 unfolding tierFindings lashFindings
 returns c =
-    let a7 = c .before .before in
-    let a6 = raised a7 in
-    let a5 = pulled a6 in
-    let a4 = locked a5 in
-    let a3 = cornered a4 in
+    let a6 = c .before .before in
+    let a5 = raised a6 in
+    let a4 = pulled a5 in
+    let a3 = tensed a4 in
     let a2 = pressed a3 in
     let a1 = racked a2 in
     let s = entered a1 in
-    let tiers =
-    then (then (then (a1 .put-rackings .ensures .0) (a2 .put-over .ensures .0)) (a3 .put-over2 .ensures .0)) (a4 .put-over3 .ensures .0) in
-    let lashes = then (then (a5 .put-pulls .ensures .0) (a6 .put-over4 .ensures .0)) (a7 .put-over5 .ensures .0) in
+    let tiers = then (then (a1 .put-rackings .ensures .0) (a2 .put-over .ensures .0)) (a3 .put-over2 .ensures .0) in
+    let lashes = then (then (a4 .put-pulls .ensures .0) (a5 .put-over3 .ensures .0)) (a6 .put-over4 .ensures .0) in
     (then tiers lashes, omega arith)
 
 pub put-end-spec : {M : Type 1} → statement M
@@ -104,9 +92,8 @@ put-end-spec =
     put-rackings-requires
     put-over-requires
     put-over-requires-2
-    put-over-requires-3
     put-pulls-requires
+    put-over-requires-3
     put-over-requires-4
-    put-over-requires-5
     same-length
     returns)

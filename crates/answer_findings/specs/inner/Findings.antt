@@ -17,6 +17,7 @@ use Rattle.answer.specs.Findings.{findings}
 use Rattle.answer.specs.Answers.{findingBytes}
 use Rattle.arith.specs.Lists.{below, padded}
 use Rattle.answer_findings.specs.declared.Found.{Found}
+use Rattle.answer_findings.specs.declared.limits.PullLimit.{PullLimit}
 
 -- `bytes` put into a buffer from `at` on, and the place behind them; up to three bytes behind that place may have changed
 pub record Put (before : List ℕ) (at : ℕ) (bytes after : List ℕ) (next : ℕ) : Type 0 where
@@ -45,13 +46,16 @@ findingWhere end kind index size limit = cond (ltb limit size) (end ∷ kind ∷
 unfoldable pub findingsOver : ℕ → ℕ → ℕ → (ℕ → ℕ) → (ℕ → ℕ) → ℕ → List ℕ
 findingsOver end kind first size limit n = flatMap (λ k. findingWhere end kind (first + k) (size (first + k)) (limit (first + k))) (below n)
 
+-- what a tension is checked against: the lower of the corner's limit and the lock's, under the kind of that one
+abbrev pub lowerOf : ℕ → PullLimit
+lowerOf lock = cond (ltb lock cornerTensionLimit) (record { kind = 4; limit = lock }) (record { kind = 3; limit = cornerTensionLimit })
+
 -- the bytes of an end's findings: kinds 1 to 4, of its tiers and levels, and kinds 5 to 7, of its lashes
-unfoldable pub tierFindings : ℕ → ℕ → ℕ → EndFigures → List ℕ
-tierFindings end n lock f =
+unfoldable pub tierFindings : ℕ → ℕ → PullLimit → EndFigures → List ℕ
+tierFindings end n pull f =
     findingsOver end 1 1 (λ i. natAbs (getD (f .racking) (i - 1) (pos 0))) (λ i. rackingLimit) n
     ++ findingsOver end 2 1 (λ i. getD (f .compression) i 0) (λ i. compressionLimit) n
-    ++ findingsOver end 3 0 (λ i. getD (f .tension) i 0) (λ i. cornerTensionLimit) n
-    ++ findingsOver end 4 0 (λ i. getD (f .tension) i 0) (λ i. lock) n
+    ++ findingsOver end (pull .kind) 0 (λ i. getD (f .tension) i 0) (λ i. pull .limit) n
 
 unfoldable pub lashFindings : ℕ → List Lash → ℕ → EndFigures → List ℕ
 lashFindings end ls m f =
@@ -61,4 +65,4 @@ lashFindings end ls m f =
 
 -- the findings' bytes, three each, in an array that is zero behind them, and their count
 abbrev pub found : Sheet → Figures → Found
-found t f = record { bytes = padded 387 0 (flatMap findingBytes (findings t f)); count = length (findings t f) }
+found t f = record { bytes = padded 327 0 (flatMap findingBytes (findings t f)); count = length (findings t f) }
