@@ -1,3 +1,3 @@
 pub mod Newton
 pub mod Spread
-pub mod Theorems
+pub mod Trials

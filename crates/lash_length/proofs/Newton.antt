@@ -1,6 +1,6 @@
 -- Newton's steps for a whole root, rounded up: each gives a number whose square is enough, and the second of two steps from a number
 -- near the root one that is at most 1 above the least root. In whole numbers throughout.
-use Prim.Native.Nat.{ℕ, suc, _+_, _*_, _-_, _/_, _<_, _≤_}
+use Prim.Native.Nat.{ℕ, _+_, _*_, _-_, _/_, _<_, _≤_}
 use mathlib.Core.Path.{_≡_, subst}
 use native.Mathlib.Nat.{mul-le-mul, mul-le-mul-left, le-of-mul-le-mul-left, lt-div-mul-add, div-mul-le-self}
 use native.Mathlib.Decide.{decLe}
@@ -24,7 +24,7 @@ four a b (no l) = omega (arith, four-le b a (omega arith))
 -- a step from any x: with q the quotient, the next number is more than half of x + q, and s is less than x (q + 1)
 module _ (s x : ℕ) (positive : 0 < x) where
   pub step-enough : s ≤ nearer s x * nearer s x
-  step-enough = go (s / x) ((x + s / x) / 2 + 1) (omega arith) (lt-div-mul-add positive)
+  step-enough = go (s / x) (nearer s x) (omega arith) (lt-div-mul-add positive)
     where
       go : (q y : ℕ) → x + (q + 1) ≤ 2 * y → s < q * x + x → s ≤ y * y
       go q y h l = omega (arith, four x (q + 1) (decLe x (q + 1)), mul-le-mul h h)

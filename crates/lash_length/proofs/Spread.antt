@@ -1,9 +1,10 @@
--- Three sides: the number that the search starts from is near the root of the sum of their squares.
-use Prim.Native.Nat.{ℕ, _+_, _*_, _-_, _/_, _<_, _≤_, max}
+-- Three sides: the guess is near the root of the sum of their squares.
+use Prim.Native.Nat.{ℕ, _+_, _*_, _-_, _<_, _≤_, max}
 use mathlib.Core.Path.{_≡_}
-use native.Mathlib.Nat.{mul-le-mul, mul-le-mul-left, mul-le-mul-right, max-eq-left, max-eq-right, max-comm}
+use native.Mathlib.Nat.{mul-le-mul, mul-le-mul-left, mul-le-mul-right, max-eq-left, max-eq-right}
 use native.Mathlib.Decide.{decLe}
 use native.Mathlib.Omega.{arith}
+use Rattle.lash_length.specs.Trials.{guess}
 use Rattle.lash_length.proofs.Newton.{four}
 
 -- m the longest side, t the other two together, s the sum of the three squares
@@ -46,7 +47,7 @@ module _ (x y z : ℕ) (some : 500 ≤ y) (high : 500 ≤ z) where
           let q : z ≤ y = omega arith in
           rw (max-eq-left q) (spread-from x y z _ _ high q (omega arith) (omega arith) (decLe x y))
 
--- m + 5 t / 16, rounded down, has a square that is s but for a quarter
+-- the guess has a square that is s but for a quarter
 module _ {s m t : ℕ} (p : Spread s m t) where
   near : (g : ℕ) → 16 * g ≤ 16 * m + 5 * t → 16 * m + 5 * t ≤ 16 * g + 15 → (4 * (g * g) ≤ 5 * s) × (4 * s ≤ 5 * (g * g))
   near g h l = (
@@ -54,5 +55,5 @@ module _ {s m t : ℕ} (p : Spread s m t) where
     omega (arith, mul-le-mul l l, four (4 * m) (4 * t) (decLe _ _), p .most, p .short, h, mul-le-mul-left m (p .some)),
   )
 
-  pub start-near : (4 * ((m + t * 5 / 16) * (m + t * 5 / 16)) ≤ 5 * s) × (4 * s ≤ 5 * ((m + t * 5 / 16) * (m + t * 5 / 16)))
-  start-near = near (m + t * 5 / 16) (omega arith) (omega arith)
+  pub guess-near : (4 * (guess m t * guess m t) ≤ 5 * s) × (4 * s ≤ 5 * (guess m t * guess m t))
+  guess-near = near (guess m t) (omega arith) (omega arith)

@@ -1,5 +1,5 @@
--- Document 02, P2: the lengths that the search for L squares, and that they find it. A trial is a length that may be L and is squared;
--- the squares of the three sides are none, and Newton's steps divide and square nothing.
+-- Document 02, P2: the trial lengths that the search for L squares, and that they find it. The squares of the three sides are no trials,
+-- and Newton's steps divide and square nothing.
 use mathlib.Core.Bool.{true, cond}
 use mathlib.Core.List.{List, [], _∷_}
 use mathlib.Core.Path.{_≡_}
@@ -22,11 +22,15 @@ others l = l .lx + l .ly + l .lz - longest l
 abbrev pub nearer : ℕ → ℕ → ℕ
 nearer s x = (x + s / x) / 2 + 1
 
--- two steps from a number by sums alone: a length that is enough
-unfoldable pub start : Lash → ℕ
-start l = nearer (squares l) (nearer (squares l) (longest l + others l * 5 / 16))
+-- a first guess, from the longest side and the sum of the others
+abbrev pub guess : ℕ → ℕ → ℕ
+guess m rest = m + rest * 5 / 16
 
--- the lengths that the search squares: the one below
+-- where the search starts, two steps from the guess: at L or one above
+unfoldable pub start : Lash → ℕ
+start l = nearer (squares l) (nearer (squares l) (guess (longest l) (others l)))
+
+-- the lengths that it squares: the one below
 unfoldable pub trials : Lash → List ℕ
 trials l = (start l - 1) ∷ []
 
@@ -41,6 +45,6 @@ pub record Searched (l : Lash) : Type 0 where
   pub none-below : (i : ℕ) → i < length (trials l) → longest l ≤ getD (trials l) i 0
   pub finds : found (squares l) (start l) (trials l) ≡ lashLength l
 
--- for all sides within document 01's ranges (proofs/Theorems)
-abbrev pub Theorems : Type 0
-Theorems = (l : Lash) → lashFits l ≡ true → Searched l
+-- for all sides within document 01's ranges (proofs/Trials)
+abbrev pub TrialsFind : Type 0
+TrialsFind = (l : Lash) → lashFits l ≡ true → Searched l

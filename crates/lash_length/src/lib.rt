@@ -2,13 +2,13 @@
 
 ghost use mathlib.Core.Bool.{cond};
 ghost use mathlib.Core.Path.{_≡_};
-ghost use Prim.Native.Nat.{_+_, _*_, _-_, _/_, _<_, _≤_, max};
+ghost use Prim.Native.Nat.{_+_, _*_, _-_, _<_, _≤_, max};
 ghost use lib.Dec.{leb};
 ghost use lib.ListN.{length};
 ghost use Rattle.sheet.specs.inner.Limits.{LashLimits};
 ghost use Rattle.statics.specs.Lashes.{lashLength};
 ghost use Rattle.statics.specs.inner.WholeNumbers.{squares};
-ghost use Rattle.lash_length.specs.Trials.{longest, others, nearer, start, trials, found};
+ghost use Rattle.lash_length.specs.Trials.{longest, others, nearer, guess, start, trials, found};
 use sheet::Lash;
 
 // A lash's sides: the sum of their squares, the longest of them and the sum of the other two.
@@ -65,11 +65,11 @@ fn step(s: u64, x: u64) -> u64
     (x + s / x) / 2 + 1
 }
 
-// Unlike a search by halving, Newton's steps have no branch to guess. They start from a number that takes no division, near enough
-// to the root that after two of them one trial is left.
+// Where the search starts. Unlike a search by halving, Newton's steps have no branch to guess. The first is from a number that takes no
+// division, near enough to the root that after two steps one trial is left.
 fn start_of(g: Sides) -> u64
     requires { ⌜ (g .squares ≤ 1200000000) × (0 < g .longest) × (g .longest ≤ 20000) × (g .others ≤ 40000) ⌝ }
-    ensures { λ r. ⌜ r ≡ nearer (g .squares) (nearer (g .squares) (g .longest + g .others * 5 / 16)) ⌝ }
+    ensures { λ r. ⌜ r ≡ nearer (g .squares) (nearer (g .squares) (guess (g .longest) (g .others))) ⌝ }
     ensures { λ r. ⌜ r ≤ 2000000000 ⌝ }
 {
     step(g.squares, step(g.squares, g.longest + g.others * 5 / 16))
@@ -89,16 +89,17 @@ fn tried(g: Sides, at: Progress) -> Progress
     }
 }
 
+// The search for L: its trials are `trials`.
 fn search(l: Lash) -> Progress
     requires { ⌜ LashLimits 10 l ⌝ }
     ensures { λ r. ⌜ (r .length ≡ found (squares l) (start l) (trials l)) × (r .squared ≡ length (trials l)) ⌝ }
 {
     let g = sides_of(l);
-    let length = start_of(g);
+    let enough = start_of(g);
     tried(
         g,
         Progress {
-            length: length,
+            length: enough,
             squared: 0,
         },
     )

@@ -1,7 +1,7 @@
 -- `lash_length::length_of`: what the trials find is L.
 use mathlib.Core.Path.{_∙_}
 use borrow.Author.Needs.{needs}
-use Rattle.lash_length.proofs.Theorems.{finds}
+use Rattle.lash_length.proofs.Trials.{finds}
 use Rattle.lash_length.proofs.length_of.Statement.{statement}
 use Rattle.lash_length.proofs.length_of.Tie as tie
 

@@ -1,12 +1,12 @@
 -- `lash_length::search`: the one trial is that of `trials`, and it is not below the longest side.
-use Prim.Native.Nat.{ℕ, _+_, _*_, _/_}
+use Prim.Native.Nat.{ℕ}
 use mathlib.Core.Path.{_≡_}
 use native.Mathlib.Omega.{arith}
 use borrow.Author.Needs.{needs}
 use Rattle.sheet.specs.declared.Lash.{Lash}
 use Rattle.statics.specs.inner.WholeNumbers.{squares}
-use Rattle.lash_length.specs.Trials.{longest, others, nearer, start, trials, found}
-use Rattle.lash_length.proofs.Theorems.{start-long}
+use Rattle.lash_length.specs.Trials.{longest, others, nearer, guess, start, trials, found}
+use Rattle.lash_length.proofs.Trials.{start-long}
 use Rattle.lash_length.proofs.search.Statement.{statement}
 use Rattle.lash_length.proofs.search.Tie as tie
 
@@ -22,7 +22,7 @@ begun :
     s ≡ squares l →
     m ≡ longest l →
     t ≡ others l →
-    r ≡ nearer s (nearer s (m + t * 5 / 16)) →
+    r ≡ nearer s (nearer s (guess m t)) →
     r ≡ start l
 unfolding start
 begun l e f h q = rw (← h, ← f, ← e) q
@@ -32,7 +32,7 @@ tried-requires c κs =
     let g = c .before .sides-of .ensures .0 in
     let l = c .before .before .args .l in
     let e : c .start-of .result ≡ start l = begun l (g .0) (g .1) (g .2) (c .start-of .ensures .0) in
-    (rw (g .1, e) (start-long (c .before .before .pre)), c .start-of .ensures .1, omega arith)
+    (omega (arith, g .1, e, start-long (c .before .before .pre)), c .start-of .ensures .1, omega arith)
 
 returns : tie.Need-returns
 unfolding found trials

@@ -1,12 +1,11 @@
 -- The search finds L: its start is L or one more, and the one trial, the length below, is not below the longest side.
-use Prim.Native.Nat.{ℕ, zero, suc, _+_, _*_, _-_, _/_, _<_, _≤_}
+use Prim.Native.Nat.{ℕ, zero, suc, _+_, _*_, _-_, _<_, _≤_}
 use mathlib.Core.Bool.{Bool, true, false, cond}
-use mathlib.Core.List.{[], _∷_}
 use mathlib.Core.Path.{_≡_, refl}
 use native.Mathlib.Nat.{mul-le-mul}
 use native.Mathlib.Omega.{arith}
 use lib.Dec.{leb}
-use lib.ListN.{getD}
+use lib.ListN.{getD, length}
 use borrow.Author.Tests.{leb-true, leb-false}
 use Rattle.arith.specs.inner.Roots.{Least}
 use Rattle.sheet.specs.declared.Lash.{Lash}
@@ -17,9 +16,9 @@ use Rattle.sheet.proofs.Limits.{lash-limits}
 use Rattle.statics.specs.Lashes.{lashLength}
 use Rattle.statics.specs.inner.WholeNumbers.{squares}
 use Rattle.statics.proofs.LashLength.{length-least, length-most}
-use Rattle.lash_length.specs.Trials.{longest, others, nearer, start, trials, found, Searched, Theorems}
+use Rattle.lash_length.specs.Trials.{longest, others, guess, start, trials, found, Searched, TrialsFind}
 use Rattle.lash_length.proofs.Newton.{step-enough, two-steps-most}
-use Rattle.lash_length.proofs.Spread.{Spread, spread, start-near}
+use Rattle.lash_length.proofs.Spread.{Spread, spread, guess-near}
 
 -- one trial below a length that is enough and at most 1 above the least
 settled : (s x k : ℕ) → Least s k → 0 < x → s ≤ x * x → x ≤ k + 1 → cond (leb s ((x - 1) * (x - 1))) (x - 1) x ≡ k
@@ -43,33 +42,31 @@ module _ {n : ℕ} {l : Lash} (f : LashLimits n l) where
       clash : lashLength l ≤ longest l → ⊥
       clash h = omega (arith, mul-le-mul h h, length-least l .enough, sides .below)
 
-  abbrev first : ℕ
-  first = longest l + others l * 5 / 16
-
   start-enough : squares l ≤ start l * start l
   unfolding start
-  start-enough = step-enough (squares l) (nearer (squares l) first) (omega arith)
+  start-enough = step-enough (squares l) _ (omega arith)
 
   start-most : start l ≤ lashLength l + 1
   unfolding start
   start-most =
-      two-steps-most (squares l) first (lashLength l) (omega (arith, sides .some)) (start-near sides .0) (start-near sides .1)
-      (length-least l) (omega (arith, long)) (length-most f)
+      two-steps-most (squares l) (guess (longest l) (others l)) (lashLength l) (omega (arith, sides .some)) (guess-near sides .0)
+      (guess-near sides .1) (length-least l) (omega (arith, long)) (length-most f)
 
   pub start-long : longest l < start l
   start-long = omega (arith, long, length-least l .least (start l) start-enough)
+
+  none-below : (i : ℕ) → i < length (trials l) → longest l ≤ getD (trials l) i 0
+  unfolding trials
+  none-below zero h = omega (arith, start-long)
+  none-below (suc i) h = absurd (omega (arith, h))
 
   pub finds : found (squares l) (start l) (trials l) ≡ lashLength l
   unfolding found trials
   finds = settled (squares l) (start l) (lashLength l) (length-least l) (omega (arith, start-long)) start-enough start-most
 
-  pub searched : Searched l
+  searched : Searched l
   unfolding trials
-  searched = record { few = omega arith; none-below = not-below; finds = finds }
-    where
-      not-below : (i : ℕ) → i < 1 → longest l ≤ getD ((start l - 1) ∷ []) i 0
-      not-below zero h = omega (arith, start-long)
-      not-below (suc i) h = absurd (omega (arith, h))
+  searched = record { few = omega arith; none-below = none-below; finds = finds }
 
 -- the same lash on tier 2 of two
 abbrev hung : Lash → Lash
@@ -92,9 +89,9 @@ unfolding offTiers
 on-tiers l = refl
 
 -- the search does not depend on the tier
-pub theorems : Theorems
+pub trials-find : TrialsFind
 unfolding start trials lashLength lashFits
-theorems l e = record { few = on .few; none-below = on .none-below; finds = on .finds }
+trials-find l e = record { few = on .few; none-below = on .none-below; finds = on .finds }
   where
     on : Searched (hung l)
     on = searched (lash-limits 2 (hung l) (on-tiers l) e)
