@@ -33,7 +33,7 @@ fn longer(x: u64, y: u64) -> u64
     x
 }
 
-// A side's square, with the bound that the sum wants.
+// A side's square, which is no trial, with the bound that the sum wants.
 fn square(x: u64) -> u64
     requires { ⌜ x ≤ 20000 ⌝ }
     ensures { λ r. ⌜ (r ≡ x * x) × (r ≤ 400000000) ⌝ }
