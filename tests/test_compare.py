@@ -663,7 +663,9 @@ class Drawn(unittest.TestCase):
     """What the sheets by seed have among them."""
 
     # Of the last two most are refused.
-    SHEETS = {"realistic": 400, "extreme": 400, "near a limit": 700, "edge": 4 * len(EDGES), "damaged": 1_500}
+    SHEETS = {
+        "realistic": 400, "extreme": 400, "near a limit": 700, "by length": 400, "edge": 4 * len(EDGES), "damaged": 1_500,
+    }
 
     @classmethod
     def setUpClass(cls):
