@@ -2,10 +2,10 @@
    a group: its number, its sheets, then medians in ns a sheet: whole check proved, in doubles, decode proved, in doubles. */
 #include "../include/lash_check.h"
 #include "doubles.h"
+#include "timing.h"
 
 #include <stdio.h>
 #include <stdlib.h>
-#include <time.h>
 
 enum { ROUNDS = 61, GROUPS = 256, MEASURES = 4 };
 
@@ -35,13 +35,6 @@ struct group {
 
 static volatile uint64_t sink;
 
-static double now(void)
-{
-    struct timespec t;
-    clock_gettime(CLOCK_MONOTONIC, &t);
-    return (double)t.tv_sec * 1e9 + (double)t.tv_nsec;
-}
-
 /* The mean of one pass over a group; the answer buffer is not cleared between sheets. */
 static double pass(const struct measure *m, const struct group *g)
 {
@@ -65,19 +58,11 @@ static void time_round(struct group *g, int round)
     }
 }
 
-static int by_size(const void *a, const void *b)
-{
-    double x = *(const double *)a, y = *(const double *)b;
-    return x < y ? -1 : x > y;
-}
-
 static void print_medians(int number, struct group *g)
 {
     printf("%d %zu", number, g->count);
-    for (int m = 0; m < MEASURES; m++) {
-        qsort(g->times[m], ROUNDS, sizeof *g->times[m], by_size);
-        printf(" %.1f", g->times[m][ROUNDS / 2]);
-    }
+    for (int m = 0; m < MEASURES; m++)
+        printf(" %.1f", median(g->times[m], ROUNDS));
     printf("\n");
 }
 

@@ -1,15 +1,18 @@
 """The timed sheets, the same at every run, and the file that holds them."""
 
-from dataclasses import dataclass
+from dataclasses import dataclass, replace
 from random import Random
 
 from reference import samples
-from sheets.sheet import CROSS, MOST_LASHES, MOST_TIERS, SIDE, TOP, Head, Sheet, pack, parse
+from sheets.sheet import CLOSED, CROSS, DOOR, MOST_LASHES, MOST_TIERS, SIDE, TOP, Head, Sheet, pack, parse
 
 KIND_SHEETS = 400
 GROWTH_SHEETS = 100
 LASHED_TIERS = 4  # lashes of the growing groups reach this high
 FIXED_PLACES = [(1, TOP, CROSS), (1, TOP, SIDE)]
+# Sides of rods up to the longest and from the shortest that a sheet may have.
+LONG_RODS = {"lx": (4_500, 5_000), "ly": (9_000, 10_000), "lz": (18_000, 20_000)}
+SHORT_RODS = {"lx": (0, 50), "ly": (500, 550), "lz": (500, 550)}
 
 
 @dataclass(frozen=True)
@@ -41,6 +44,24 @@ def lashed(random, count):
     return with_lashes(random, MOST_TIERS, *halves)
 
 
+def rodded(random, sides):
+    """A stack of ten tiers with eight lashes an end whose sides lie in these ranges."""
+    sheet = lashed(random, 2 * MOST_LASHES)
+    door, closed = (
+        tuple(replace(lash, **{name: random.randint(*side) for name, side in sides.items()}) for lash in sheet.lashes(end))
+        for end in (DOOR, CLOSED)
+    )
+    return replace(sheet, door=door, closed=closed)
+
+
+KINDS = {
+    "realistic": samples.realistic,
+    "extreme": samples.extreme,
+    "long rods": lambda random: rodded(random, LONG_RODS),
+    "short rods": lambda random: rodded(random, SHORT_RODS),
+}
+
+
 def group(varies, value, count, build):
     random = Random(f"{varies} {value}")
     sheets = [pack(build(random)) for _ in range(count)]
@@ -51,7 +72,7 @@ def group(varies, value, count, build):
 
 def groups():
     """Every group; its place in the list is its number in the file."""
-    found = [group("kind", build.__name__, KIND_SHEETS, build) for build in (samples.realistic, samples.extreme)]
+    found = [group("kind", name, KIND_SHEETS, build) for name, build in KINDS.items()]
     for count in range(1, MOST_TIERS + 1):
         found.append(group("tiers", count, GROWTH_SHEETS, lambda random, c=count: tall(random, c)))
     for count in range(2 * MOST_LASHES + 1):

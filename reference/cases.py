@@ -1,6 +1,6 @@
 #!/usr/bin/env python3
 """Prints named sheets and what must come out of each: document 01's list and its plausible slips, and 02's turned boxes (P1),
-safe loads (P3), bottom hooks (P4), fleet standard (P10) and one finding for one pull (P11).
+lash lengths (P2), safe loads (P3), bottom hooks (P4), fleet standard (P10) and one finding for one pull (P11).
 
 A case is a block of lines, ended by an empty one:
 
@@ -188,6 +188,25 @@ TURNED = [
     Case("wind-255", "the greatest number of a byte", stack([B, box(wind=255)])),
 ]
 
+# Two boxes of great transverse force, and two stiff rods an end: a millimetre of their lengths shows.
+PUSHED = [box(mass=30_480, a_t=1_500)] * 2
+
+
+def of_sides(lx, ly, lz):
+    rods_up = [rod(tier, lx=lx, ly=ly, lz=lz, area=1_000, modulus=200_000) for tier in (1, 2)]
+    return stack(PUSHED, rods_up, rods_up)
+
+
+LENGTHS = [
+    Case("length-shortest", "LX 0, LY 500, LZ 500: L is 708", of_sides(0, 500, 500)),
+    Case("length-longest", "LX 5,000, LY 10,000, LZ 20,000: L is 22,913", of_sides(5_000, 10_000, 20_000)),
+    Case("length-square", "(h): the squares add up to 3,250²", of_sides(0, 1_950, 2_600)),
+    Case("length-past-square", "(h) with LX 1: L is 3,251", of_sides(1, 1_950, 2_600)),
+    Case("length-before-square", "one less than 3,375²: L is 3,375", of_sides(1_068, 2_000, 2_500)),
+    Case("length-lx", "LX is the longest side: L is 5,917", of_sides(5_000, 3_000, 1_000)),
+    Case("length-ly", "LY is the longest side: L is 9,696", of_sides(3_000, 9_000, 2_000)),
+]
+
 # Six boxes, the upper five light and in the wind, and a side lash at level 1.
 IN_THE_WIND = [
     box(mass=m, wind=w, a_t=250, a_vmax=1_200, a_vmin=950)
@@ -270,7 +289,7 @@ PULLS = [
     Case("pull-neither", "over neither", on_locks(LIFTED_LESS, 500_000)),
 ]
 
-CASES = RUN_BY_A_PROGRAM + FIGURES + SLIPS + ORDER + KILONEWTONS + TURNED + HOOKED + FLEET + PULLS
+CASES = RUN_BY_A_PROGRAM + FIGURES + SLIPS + ORDER + KILONEWTONS + TURNED + LENGTHS + HOOKED + FLEET + PULLS
 
 
 def reported_range(kind, force):

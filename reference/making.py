@@ -30,6 +30,7 @@ KINDS = {
     "realistic": legal(lambda random, turn: samples.realistic(random)),
     "extreme": legal(lambda random, turn: samples.extreme(random)),
     "near a limit": legal(samples.near),
+    "by length": legal(lambda random, turn: samples.lengths(random)),
     "edge": faults.edge,
     "damaged": faults.damaged,
 }

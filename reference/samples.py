@@ -1,7 +1,8 @@
-"""Legal stacks drawn at random: realistic ones, ones of extreme values, ones close to a limit."""
+"""Legal stacks drawn at random: realistic ones, ones of extreme values, ones close to a limit, ones of chosen lash lengths."""
 
 from dataclasses import replace
 from fractions import Fraction
+from math import isqrt
 
 from reference.stack import exact, exact_end
 from sheets.limits import (
@@ -314,3 +315,71 @@ def breaking_of(random, kilonewtons, material):
     breaking = unit * kilonewtons + random.choice((-1, 0, 1, unit - 1, unit - 1))
     least, greatest = LASH_LIMITS["breaking"]
     return min(max(breaking, least), greatest)
+
+
+# Of chosen lash lengths
+
+SIDES = ("lx", "ly", "lz")
+SHORTEST, LONGEST = (tuple(LASH_LIMITS[name][end] for name in SIDES) for end in (0, 1))
+# What a lash's length may be hard to find for: the sum of its sides' squares, its longest side, the ends of the ranges.
+LENGTHS = (
+    "a square", "one more than a square", "one less than a square", "LX longest", "LY longest", "LZ longest", "shortest", "longest",
+)
+
+
+def kinds_of_sides(*sides):
+    """Which of LENGTHS a lash of these sides is."""
+    total = sum(side * side for side in sides)
+    yield from (kind for kind, more in zip(LENGTHS, (0, 1, -1)) if isqrt(total - more) ** 2 == total - more)
+    yield from (f"{name.upper()} longest" for name, side in zip(SIDES, sides) if sorted(sides)[1] < side)
+    yield from (kind for kind, limit in (("shortest", SHORTEST), ("longest", LONGEST)) if sides == limit)
+
+
+def length_kinds(sheet):
+    """Those of each lash."""
+    for end in (DOOR, CLOSED):
+        for lash in sheet.lashes(end):
+            yield from kinds_of_sides(lash.lx, lash.ly, lash.lz)
+
+
+def lengths(random):
+    """A heavy stack, so that a millimetre of a lash's length shows in its pull."""
+    sheet = heavy(random)
+    lashes = [
+        tuple(lash_of_length(random, place) for place in sorted(random.sample(hooks(len(sheet.tiers)), random.randint(1, 2))))
+        for _ in (DOOR, CLOSED)
+    ]
+    return Sheet(sheet.head, sheet.tiers, *lashes)
+
+
+def lash_of_length(random, place):
+    sides = random.choice((SHORTEST, LONGEST)) if random.random() < 0.2 else drawn_sides(random)
+    stiff = {name: LASH_LIMITS[name][1] for name in ("area", "modulus", "breaking")}
+    return Lash(*place, random.randint(*LASH_LIMITS["material"]), *sides, **stiff)
+
+
+def drawn_sides(random):
+    """Sides whose squares add up to a square or one beside it, or of which a chosen one is the longest."""
+    kind = random.randrange(6)
+    return sides_beside_square(random, kind - 1) if kind < 3 else sides_led_by(random, SIDES[kind - 3])
+
+
+def sides_beside_square(random, more):
+    """LX² + LY² + LZ² = k² + more, so that k - LZ divides LX² + LY² - more."""
+    least, greatest = LASH_LIMITS["lz"]
+    while True:
+        lx, ly = (random.randint(*LASH_LIMITS[name]) for name in ("lx", "ly"))
+        product = lx * lx + ly * ly - more
+        smallest = product // (3 * greatest) + 1
+        for near in range(random.randint(smallest, isqrt(product)), smallest, -1):
+            if product % near == 0:
+                twice = product // near - near
+                if twice % 2 == 0 and least <= twice // 2 <= greatest:
+                    return lx, ly, twice // 2
+
+
+def sides_led_by(random, longest):
+    """Sides of which the one of this name is the longest."""
+    most = random.randint(1_000, LASH_LIMITS[longest][1])
+    drawn = {name: random.randint(LASH_LIMITS[name][0], min(most - 1, LASH_LIMITS[name][1])) for name in SIDES}
+    return tuple({**drawn, longest: most}.values())

@@ -15,11 +15,11 @@ from fractions import Fraction
 from pathlib import Path
 from typing import NamedTuple
 
-from reference.cases import CASES, FLEET, HOOKED, KILONEWTONS, PULLS, SLIPS, TURNED
+from reference.cases import CASES, FLEET, HOOKED, KILONEWTONS, LENGTHS as LENGTH_CASES, PULLS, SLIPS, TURNED
 from reference.faults import EDGES
 from reference.judge import KEPT, MARGIN, expected, figure_fault, judge
 from reference.making import KINDS, make
-from reference.samples import BOTTOM_HOOKS, PULLS_ABOUT, bottom_hooks, pulls_about
+from reference.samples import BOTTOM_HOOKS, LENGTHS, PULLS_ABOUT, bottom_hooks, kinds_of_sides, length_kinds, pulls_about
 from reference.stack import exact
 from sheets.answer import read_answer
 from sheets.limits import HIGHER_STRENGTH
@@ -33,8 +33,9 @@ def seeds(kind, turns):
 
 
 # Some of every kind, then all edges.
-SEEDS = [*range(1, 126), *seeds("edge", range(25, len(EDGES)))]
+SEEDS = [*range(1, 151), *seeds("edge", range(25, len(EDGES)))]
 NEAR_SEEDS = seeds("near a limit", range(40))
+LENGTH_SEEDS = seeds("by length", range(60))
 
 
 def number(data, place, size):
@@ -432,6 +433,9 @@ SLIPS_CAUGHT = {
     "any rule but 0 taken": ({"rules": range(1, 256)}, "refusal"),
     "spacing of the width": ({"spacing": 2438}, "below"),
     "length rounded down": ({"length": lambda s, *sides: math.isqrt(sum(x * x for x in sides))}, ""),
+    "length one long": ({"length": lambda s, *sides: StandIn.length(s, *sides) + 1}, ""),
+    "length one short": ({"length": lambda s, *sides: StandIn.length(s, *sides) - 1}, ""),
+    "a square's length one long": ({"length": lambda s, *sides: math.isqrt(sum(x * x for x in sides)) + 1}, ""),
     "short LX left out": ({"length": lambda s, x, y, z: StandIn.length(s, x if x > 400 else 0, y, z)}, ""),
     "bottom hook one level up": ({"level": lambda s, tier, hook: tier}, ""),
     "percent of route 2": ({"percents": (100, 87, 95, 95, 94, 100, 95, 73, 86, 90, 90, 73, 87)}, "below"),
@@ -513,6 +517,14 @@ TURNED_SHOWS = {
     "wind-255": (),
 }
 
+# of its lash lengths,
+BY_A_MILLIMETRE = ("length one long", "length one short")
+LENGTHS_SHOW = {case.name: BY_A_MILLIMETRE for case in LENGTH_CASES} | {
+    "length-square": (*BY_A_MILLIMETRE, "a square's length one long"),
+    "length-past-square": (*BY_A_MILLIMETRE, "length rounded down"),
+    "length-before-square": (*BY_A_MILLIMETRE, "length rounded down"),
+}
+
 # of its bottom hooks,
 HOOKED_SHOWS = {
     "hooked-nowhere": (),
@@ -560,6 +572,13 @@ def slipped(name):
     return type("Slipped", (StandIn,), SLIPS_CAUGHT[name][0])()
 
 
+def off_by(kind, more):
+    """A check whose lengths of one kind are some millimetres off."""
+    check = StandIn()
+    check.length = lambda *sides: StandIn.length(check, *sides) + (more if kind in kinds_of_sides(*sides) else 0)
+    return check
+
+
 def trials(sheets):
     return [(data, expected(data)) for data in sheets]
 
@@ -573,12 +592,13 @@ class Comparison(unittest.TestCase):
         cls.named = trials(NAMED)
         cls.made = trials(make(seed).data for seed in SEEDS)
         cls.near = trials(make(seed).data for seed in NEAR_SEEDS)
+        cls.by_length = trials(make(seed).data for seed in LENGTH_SEEDS)
 
     def test_a_right_check_passes(self):
         for pad, margin in ((0.001, KEPT), (7.9, KEPT), (98.9, MARGIN)):
             check = StandIn()
             check.pad = pad
-            for data, due in self.named + self.made + self.near:
+            for data, due in self.named + self.made + self.near + self.by_length:
                 self.assertEqual(judge(due, check(data), margin).faults, [], data.hex())
 
     def test_what_is_kept_is_asked_for(self):
@@ -604,9 +624,9 @@ class Comparison(unittest.TestCase):
                 self.assertTrue(fault.startswith(begins), fault)
 
     def test_named_cases_show_their_slips(self):
-        shows = KILONEWTONS_SHOW | TURNED_SHOWS | HOOKED_SHOWS | FLEET_SHOWS | PULLS_SHOW
+        shows = KILONEWTONS_SHOW | TURNED_SHOWS | LENGTHS_SHOW | HOOKED_SHOWS | FLEET_SHOWS | PULLS_SHOW
         shown = {name: (slip,) for name, slip in SHOWN_BY.items()} | shows
-        cases = SLIPS + KILONEWTONS + TURNED + HOOKED + FLEET + PULLS
+        cases = SLIPS + KILONEWTONS + TURNED + LENGTH_CASES + HOOKED + FLEET + PULLS
         self.assertEqual({case.name for case in cases}, set(shown))
         for case in cases:
             due = expected(case.data)
@@ -614,6 +634,13 @@ class Comparison(unittest.TestCase):
             for slip in shown[case.name]:
                 with self.subTest(case.name, slip=slip):
                     self.assertTrue(judge(due, slipped(slip)(case.data)).faults)
+
+    def test_a_length_one_millimetre_off_is_caught(self):
+        """Of each kind of length, in stacks that have such lashes."""
+        for kind in LENGTHS:
+            for more in (-1, 1):
+                with self.subTest(kind=kind, more=more):
+                    self.assertIsNotNone(self.first_fault(off_by(kind, more), self.by_length))
 
     def test_a_limit_one_newton_off_is_caught(self):
         """Stacks near a limit, with pads that lead their figures over it newton by newton."""
@@ -636,7 +663,9 @@ class Drawn(unittest.TestCase):
     """What the sheets by seed have among them."""
 
     # Of the last two most are refused.
-    SHEETS = {"realistic": 400, "extreme": 400, "near a limit": 700, "edge": 4 * len(EDGES), "damaged": 1_500}
+    SHEETS = {
+        "realistic": 400, "extreme": 400, "near a limit": 700, "by length": 400, "edge": 4 * len(EDGES), "damaged": 1_500,
+    }
 
     @classmethod
     def setUpClass(cls):
@@ -666,6 +695,9 @@ class Drawn(unittest.TestCase):
             with self.subTest(material=material):
                 drawn = [lash.breaking for lash in lashes if lash.material == material]
                 self.assertTrue(any(breaking < least.get(material, 2_000) for breaking in drawn))
+
+    def test_lengths_of_every_kind(self):
+        self.assertEqual({kind for sheet in self.taken("by length") for kind in length_kinds(sheet)}, set(LENGTHS))
 
     def test_bottom_hooks_at_every_level(self):
         self.assertEqual({place for data in self.lashed for place in bottom_hooks(parse(data))}, BOTTOM_HOOKS)
@@ -751,19 +783,19 @@ class Script(unittest.TestCase):
 
     def test_right_and_wrong(self):
         check = StandIn()
-        sheets = NAMED + [make(seed).data for seed in range(10, 15)]
+        sheets = NAMED + [make(seed).data for seed in range(12, 18)]
         outputs = {data: check(data) for data in sheets}
-        words = ("--count", "5", "--seed", "10")
+        words = ("--count", "6", "--seed", "12")
         with tempfile.TemporaryDirectory() as folder:
             status, text, errors = self.compare(self.program(folder, outputs), *words)
             self.assertEqual((status, errors), (0, ""))
-            self.assertIn("1 realistic, 1 extreme, 1 near a limit, 1 edge, 1 damaged", text)
+            self.assertIn("1 realistic, 1 extreme, 1 near a limit, 1 by length, 1 edge, 1 damaged", text)
             self.assertIn("no faults", text)
-            sheet = make(10).data
+            sheet = make(12).data
             outputs[sheet] += b"x"
             status, text, errors = self.compare(self.program(folder, outputs), *words)
             self.assertEqual((status, errors), (1, ""))
-            self.assertIn("FAULT: seed 10, realistic\n  layout: 1 bytes after the answer", text)
+            self.assertIn("FAULT: seed 12, realistic\n  layout: 1 bytes after the answer", text)
             self.assertIn(f"sheet  {sheet.hex()}", text)
             self.assertIn("1 sheets with faults", text)
 

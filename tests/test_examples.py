@@ -6,7 +6,7 @@ from dataclasses import replace
 from lashtool.description import describe
 from lashtool.template import template
 from reference.cases import HOOKED
-from reference.stack import exact
+from reference.stack import exact, lash_length
 from sheets.limits import (
     COMPRESSION, CORNER, LASH_TENSION, LOCK, RACKING, checks, findings,
 )
@@ -24,6 +24,7 @@ SHOWN = {
     "route": ("accepted", []),
     "turned": ("accepted", []),
     "bottom-hook": ("accepted", []),
+    "long-rods": ("accepted", []),
     "racking": ("unacceptable racking", [(end, RACKING, 1) for end in BOTH]),
     "pulled-back": ("unacceptable racking, to windward", [(0, RACKING, 6)]),
     "stack-weight": ("unacceptable stack weight", [(end, COMPRESSION, 1) for end in BOTH]),
@@ -87,6 +88,11 @@ class Examples(unittest.TestCase):
         self.assertEqual(replace(low, door=moved, closed=moved), high)
         named = {case.name: case.data for case in HOOKED}
         self.assertEqual([pack(low), pack(high)], [named["hooked-bottom"], named["hooked-top"]])
+
+    def test_the_lengths_of_long_rods(self):
+        """111,352,500 and 172,435,000 mm² lie over 10,552² and 13,131² and under the next squares."""
+        lengths = sorted(lash_length(lash) for lash in sheet_of("long-rods").door)
+        self.assertEqual(lengths, [10_553, 10_553, 13_132, 13_132])
 
     def test_the_rule_decides(self):
         """By the class rule the same stack is accepted, with the forces that the example tells."""

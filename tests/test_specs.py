@@ -8,8 +8,8 @@ ROOT = Path(__file__).resolve().parent.parent
 MOST = 900
 LISTS = {"Lib.antt", "inner.antt"}  # lists of modules
 FOLLOWS = {  # proved of the rest
-    "Theorems.antt", "Table.antt", "SafeLoads.antt", "Turned.antt", "Relief.antt", "FleetStandard.antt", "OnePull.antt",
-    "Consequences.antt", "Written.antt", "Places.antt",
+    "Theorems.antt", "Table.antt", "SafeLoads.antt", "Turned.antt", "Trials.antt", "Relief.antt", "FleetStandard.antt",
+    "OnePull.antt", "Consequences.antt", "Written.antt", "Places.antt",
 }
 USE = re.compile(r"(pub )?use ")
 CITED = re.compile(r"Rattle·(\w+?)(?:·specs)?\.specs\.((?:inner\.)?\w+)")

@@ -74,6 +74,11 @@ class Figures(unittest.TestCase):
         self.assertEqual(lash_length(S), 3250)
         self.assertEqual(lash_length(replace(S, lx=1)), 3251)
 
+    def test_lengths_at_the_ends_of_the_ranges(self):
+        # 708² = 501,264 and 707² = 499,849 about 500,000; 22,913² = 525,005,569 and 22,912² = 524,959,744 about 525,000,000.
+        self.assertEqual(lash_length(replace(S, lx=0, ly=500, lz=500)), 708)
+        self.assertEqual(lash_length(replace(S, lx=5_000, ly=10_000, lz=20_000)), 22_913)
+
     def test_i_wind(self):
         self.assertEqual(newtons(wind(replace(B, wind=1, height=2896))), Fraction("19066.33728"))
         self.assertEqual(newtons(wind(replace(B, wind=1, size=20))), Fraction("8475.99012"))

@@ -14,7 +14,7 @@ pub mod Signs
 pub mod FractionsInRationals
 pub mod OrderedField
 pub mod Sums
--- Bytes, rounding and roots: laws of the definitions in specs/, and of what the functions compute.
+-- Bytes and rounding: laws of the definitions in specs/, and of what the functions compute.
 pub mod Arrays
 pub mod ByteLaws
 pub mod Sizes
@@ -22,4 +22,3 @@ pub mod Quotients
 pub mod Ceilings
 pub mod RationalRounding
 pub mod RoundingLaws
-pub mod RootLaws

@@ -1,5 +1,4 @@
-// Whole numbers in bytes, rounded quotients and least roots.
+// Whole numbers in bytes, and rounded quotients.
 
 pub mod bytes; // bytes.rt: numbers read from bytes and written to them
 pub mod rounding; // rounding.rt: quotients rounded down and up
-pub mod roots; // roots.rt: least roots, and the length of three sides

@@ -6,16 +6,10 @@ use native.Mathlib.Omega.{arith}
 use Rattle.sheet.specs.declared.Lash.{Lash}
 use Rattle.sheet.specs.inner.Limits.{LashLimits}
 use Rattle.statics.specs.Lashes.{lashLength}
-use Rattle.statics.proofs.LashLength.{squares, length-least}
+use Rattle.statics.specs.inner.WholeNumbers.{squares}
+use Rattle.statics.proofs.LashLength.{length-least, length-most}
 
 module _ {n : ℕ} {l : Lash} (f : LashLimits n l) where
-  pub length-most : lashLength l ≤ 22913
-  length-most =
-      let x = mul-le-mul (f .lx) (f .lx) in
-      let y = mul-le-mul (f .ly-most) (f .ly-most) in
-      let z = mul-le-mul (f .lz-most) (f .lz-most) in
-      length-least l .least 22913 (omega (arith, x, y, z))
-
   short : (k : ℕ) → squares l ≤ k * k → suc k ≤ l .ly → ⊥
   short k h q = omega (arith, mul-le-mul q q)
 
@@ -34,7 +28,7 @@ module _ {n : ℕ} {l : Lash} (f : LashLimits n l) where
     top-le = mul-le-mul force-le side-le
 
     L-most : L ≤ 22913
-    L-most = omega (arith, length-most)
+    L-most = omega (arith, length-most f)
 
     L-least : l .ly ≤ L
     L-least = omega (arith, length-ly)

@@ -11,11 +11,11 @@ ghost use Rattle.statics.specs.Lashes.{lashLength};
 ghost use Rattle.statics.specs.inner.WholeNumbers.{lashPad, stiffnessOf, leePart, windwardPart};
 ghost use Rattle.figures_lashes.specs.inner.Lashes.{carriedLash, verticalFrom, cornerOf};
 ghost use Rattle.figures_lashes.specs.inner.Lashes.{LashesMeasured, LevelStiffnesses, LashesFigured, VerticalsOn};
-use arith::roots::length;
 use arith::rounding::ceil_div;
 use arith::rounding::scaled;
 use arith::rounding::scaled_twice;
 use arith::rounding::split_product;
+use lash_length::length_of;
 use sheet::Lash;
 use sheet::Lashing;
 use sheet::lashing_of;
@@ -39,13 +39,6 @@ fn hook_corner(l: Lash) -> usize
     ensures { λ r. ⌜ (r ≡ cornerOf l) × (r ≤ 20) ⌝ }
 {
     (2 * l.tier - l.hook) as usize
-}
-
-fn length_of(l: Lash) -> u64
-    requires { ⌜ LashLimits 10 l ⌝ }
-    ensures { λ r. ⌜ r ≡ lashLength l ⌝ }
-{
-    length(l.lx as u64, l.ly as u64, l.lz as u64)
 }
 
 // What a lash's force over its length's cube gives, in 2^-22 N/mm. A lash under 16,384 mm takes a division less.

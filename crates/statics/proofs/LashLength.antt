@@ -1,4 +1,4 @@
--- The length of a lash is the least root that document 01 asks for, and no more than 42 times the lash's width.
+-- The length of a lash is the least root that document 01 asks for, at most 22,913 mm and no more than 42 times the lash's width.
 use mathlib.Core.Path.{_≡_, refl, sym, subst}
 use mathlib.Core.Bool.{Bool, true, false, not, cond}
 use Prim.Native.Nat.{ℕ, zero, suc, _+_, _*_, _≤_, _<_}
@@ -8,6 +8,7 @@ use lib.Dec.{T, leb, leb→le, nleb→lt}
 use Rattle.arith.specs.inner.Roots.{Least}
 use Rattle.sheet.specs.declared.Lash.{Lash}
 use Rattle.statics.specs.Lashes.{leastFrom, lashLength}
+use Rattle.statics.specs.inner.WholeNumbers.{squares}
 use Rattle.sheet.specs.inner.Limits.{LashLimits}
 
 -- no number below k is a root of s, and k + more is
@@ -37,10 +38,6 @@ square-up : (s : ℕ) → s ≤ s * s
 square-up zero = omega arith
 square-up (suc s) = omega arith
 
--- the sum of the squares of a lash's sides
-abbrev pub squares : Lash → ℕ
-squares l = l .lx * l .lx + l .ly * l .ly + l .lz * l .lz
-
 pub length-least : (l : Lash) → Least (squares l) (lashLength l)
 unfolding lashLength
 length-least l = least-from (squares l) 0 (squares l) (λ j h. omega arith) (omega (arith, square-up (squares l)))
@@ -57,6 +54,13 @@ module _ {n : ℕ} {l : Lash} (f : LashLimits n l) where
       go : (k : ℕ) → squares l ≤ k * k → 500 ≤ l .ly → 0 < k
       go zero h y = omega (arith, mul-le-mul y y)
       go (suc k) h y = omega arith
+
+  pub length-most : lashLength l ≤ 22913
+  length-most =
+      let x = mul-le-mul (f .lx) (f .lx) in
+      let y = mul-le-mul (f .ly-most) (f .ly-most) in
+      let z = mul-le-mul (f .lz-most) (f .lz-most) in
+      length-least l .least 22913 (omega (arith, x, y, z))
 
   pub length-ratio : lashLength l ≤ 42 * l .ly
   length-ratio =

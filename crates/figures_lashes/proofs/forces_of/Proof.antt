@@ -1,6 +1,6 @@
 -- `figures_lashes::forces_of`: the padded part is in range, and so are its products with the length and LZ.
 use native.Mathlib.Omega.{arith}
-use Rattle.figures_lashes.proofs.LashLaws.{length-most}
+use Rattle.statics.proofs.LashLength.{length-most}
 use borrow.Author.Needs.{needs}
 use Rattle.figures_lashes.proofs.forces_of.Statement.{statement}
 use Rattle.figures_lashes.proofs.forces_of.Tie as tie

@@ -26,6 +26,10 @@ pub record Filled {A : Type 0} (size : ℕ) (blank : A) (n : ℕ) (P : ℕ → A
   pub each : (i : ℕ) → i < n → getD r i blank ≡ P i
   pub rest : (i : ℕ) → n ≤ i → getD r i blank ≡ blank
 
+-- LX² + LY² + LZ²
+abbrev pub squares : Lash → ℕ
+squares l = l .lx * l .lx + l .ly * l .ly + l .lz * l .lz
+
 -- mass × A_T, and 27 × length × height where exposed
 unfoldable pub transverseUnits : Tier → ℕ
 transverseUnits t = t .mass * t .aT

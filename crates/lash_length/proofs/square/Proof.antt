@@ -1,9 +1,9 @@
--- `arith::roots::square`: the bound is the square of the bound.
+-- `lash_length::square`: the bound is the square of the bound.
 use mathlib.Core.Path.{refl}
 use native.Mathlib.Nat.{mul-le-mul}
 use native.Mathlib.Omega.{arith}
-use Rattle.arith.proofs.roots.square.Statement.{statement}
-use Rattle.arith.proofs.roots.square.Tie as tie
+use Rattle.lash_length.proofs.square.Statement.{statement}
+use Rattle.lash_length.proofs.square.Tie as tie
 
 mul-result : tie.Need-mul-result
 mul-result c = omega (arith, mul-le-mul (c .pre) (c .pre))

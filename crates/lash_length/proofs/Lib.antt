@@ -1,0 +1,3 @@
+pub mod Newton
+pub mod Spread
+pub mod Trials
