@@ -1,0 +1,44 @@
+-- `twenties::permitted_at`: no step leaves its width, since no entry is above 422.
+use Prim.Native.Nat.{_*_, _-_, _≤_}
+use mathlib.Core.Path.{refl}
+use native.Mathlib.Nat.{mul-le-mul}
+use native.Mathlib.Omega.{arith}
+use borrow.Author.Needs.{needs}
+use Rattle.twenties.proofs.Falling.{most}
+use Rattle.twenties.proofs.permitted_at.Statement.{statement}
+use Rattle.twenties.proofs.permitted_at.Tie as tie
+
+small : (c : tie.After-entry) → c .entry .result ≤ 422
+small c = rw (c .entry .ensures) (most _ _ _)
+
+sub-row : tie.Need-sub-row
+sub-row c = search needs
+
+add-row : tie.Need-add-row
+add-row c = search needs
+
+cast-entry : tie.Need-cast-entry
+cast-entry c = search needs
+
+entry-requires : tie.Need-entry-requires
+entry-requires c κs = search needs
+
+mul-result : tie.Need-mul-result
+mul-result c = omega (arith, small c)
+
+sub-result : tie.Need-sub-result
+sub-result c = search needs
+
+mul-result-2 : tie.Need-mul-result-2
+mul-result-2 c =
+    let a : c .entry .result * 100 ≤ 42200 = omega (arith, small c) in
+    let b : c .before .args .tiers - 1 ≤ 10 = omega arith in
+    record { fits = omega (arith, mul-le-mul a b) }
+
+returns : tie.Need-returns
+returns c = rw (c .entry .ensures) refl
+
+pub permitted-at-spec : {M : Type 1} → statement M
+permitted-at-spec =
+    tie.close
+    (tie.spec sub-row add-row cast-entry entry-requires mul-result sub-result mul-result-2 returns)
