@@ -27,6 +27,25 @@ class Question:
         return f"{self.kind}: table {self.table}, acceleration {self.acceleration}, masses {' '.join(map(str, self.masses))}"
 
 
+# The request's own figures, for the program cases_twenties: (table, acceleration, masses).
+FIGURES = (
+    # each table on a row and between rows, at the permitted mass and a kilogram above: 24.9, 28.8 t × 3
+    *((0, acceleration, (30_480, 24_900, 24_900, last)) for acceleration in (411, 412, 420) for last in (24_900, 24_901)),
+    *((1, acceleration, (1, 28_800, 28_800, last)) for acceleration in (411, 412, 420) for last in (28_800, 28_801)),
+    # the misprint, 14.9 for 16.4, between what is printed at 0.39 g and at 0.41 g: 15.4, 14.9, 14.9, 14.7 t × 6
+    *((0, acceleration, (20_000,) * 2 + (14_000,) * 5) for acceleration in (390, 391, 399, 400, 401, 410, 411)),
+    *((0, 400, (9_000,) + (14_900,) * 5 + (last,)) for last in (14_900, 14_901, 16_400)),
+    # first and last rows and tier counts
+    *((table, acceleration, (8_000,) * tiers) for table in (0, 1) for acceleration in (350, 650) for tiers in (3, 11)),
+    (0, 350, (30_480,) * 3),
+    (1, 650, (30_480,) * 11),
+    # 22, then 23
+    (2, 350, (0, 1, 1)), (GREATEST, 350, (1, 1, 1)), (0, 349, (1, 1, 1)), (0, 651, (1, 1, 0)), (1, GREATEST, (1, 1, 1)),
+    (1, 350, ()), (1, 350, (1, 1)), (1, 350, (1,) * 12), (1, 350, (0,) * 13),
+    (1, 350, (0, 1, 1)), (1, 350, (1, 1, 0)), (0, 650, (30_481, 1, 1)), (0, 650, (1, 30_481, 1)), (0, 650, (1, 1, GREATEST)),
+)
+
+
 def spread(total, boxes, chance):
     """Legal masses of so many boxes with this total, about even."""
     masses = []
