@@ -60,7 +60,8 @@ class Judged:
 
 def arguments(words):
     parser = argparse.ArgumentParser(f"lash {WORD}", description=HELP, epilog=STATUS_HELP, allow_abbrev=False)
-    parser.add_argument("--acceleration", required=True, metavar="N", help="transverse, at the roll centre, in thousandths of g: 350 to 650")
+    meaning = "transverse, at the roll centre, in thousandths of g: 350 to 650"
+    parser.add_argument("--acceleration", required=True, metavar="N", help=meaning)
     parser.add_argument("--masses", required=True, metavar="KG,KG,..", help="of the 20-ft boxes alone, lowest first: 3 to 11")
     parser.add_argument("--forty-on-top", action="store_true", help="one or more 40-ft boxes stand on top")
     parser.add_argument("--json", action="store_true", help="print the figures as JSON")

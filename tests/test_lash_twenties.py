@@ -39,8 +39,9 @@ class Verdicts(unittest.TestCase):
         self.assertTrue(text.startswith("NOT PERMITTED\n3 boxes above the lowest: 74,701 kg, 100.1% of the permitted 74,700 kg\n"))
 
     def test_a_forty_on_top(self):
-        text = twenties(420, MASSES, "--forty-on-top")[1]
-        self.assertIn("  CR Table 5-3, with a 40-ft box on top; acceleration 0.420 g\n  row 0.42 g, 4 tiers: 28.8 t a box on average\n", text)
+        lines = twenties(420, MASSES, "--forty-on-top")[1].splitlines()
+        self.assertIn("  CR Table 5-3, with a 40-ft box on top; acceleration 0.420 g", lines)
+        self.assertIn("  row 0.42 g, 4 tiers: 28.8 t a box on average", lines)
 
     def test_rows(self):
         for acceleration, row in ((350, "0.35"), (351, "0.36"), (360, "0.36"), (361, "0.37"), (641, "0.65"), (650, "0.65")):

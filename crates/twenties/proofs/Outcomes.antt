@@ -1,22 +1,20 @@
 -- What each of the two rows settles: its refusal where it holds, and where neither does the ranges and the verdict; and how great the
 -- numbers of a judgement are.
-use Prim.Native.Nat.{ℕ, _+_, _-_, _*_, _^_, _≤_, _<_}
+use Prim.Native.Nat.{ℕ, _*_, _^_, _≤_, _<_}
 use mathlib.Core.Bool.{Bool, true, false, not, _||_}
 use mathlib.Core.List.{List, [], _∷_}
 use mathlib.Core.Path.{_≡_, refl, ap, subst, sym, _∙_}
-use native.Mathlib.Nat.{mul-le-mul}
 use native.Mathlib.Omega.{arith}
 use borrow.Author.Tests.{leb-true}
 use lib.Dec.{leb}
-use lib.ListN.{length, drop}
+use lib.ListN.{length}
 use Rattle.sheet.specs.Layout.{_above_, within}
 use Rattle.sheet.proofs.Bools.{and-true, or-false, not-false}
 use Rattle.sheet.proofs.Rows.{no-rows, row-holds, row-passed}
 use Rattle.twenties.specs.declared.Judgement.{Judgement}
 use Rattle.twenties.specs.declared.Judgement.the-variants.{Given, Refused}
-use Rattle.twenties.specs.Judgements.{sum, total, permitted, rowTaken, entry}
-use Rattle.twenties.specs.Judgements.{allFit, verdict, row22, row23, unlessRefused, judgement}
-use Rattle.twenties.proofs.Falling.{most}
+use Rattle.twenties.specs.Judgements.{sum, total, allFit, verdict, row22, unlessRefused, judgement}
+use Rattle.twenties.proofs.Rows.{permitted-most}
 
 from-to : (lo hi x : ℕ) → not (within lo hi x) ≡ false → (lo ≤ x) × (x ≤ hi)
 from-to lo hi x e =
@@ -78,8 +76,7 @@ module _ (table acceleration : ℕ) (masses : List ℕ) where
       go false true e f = subst Numbers (sym (refused-23 e f)) (omega arith, omega arith)
       go false false e f =
           let n = ranges e .3 in
-          let low : entry table (rowTaken acceleration) (length masses) * 100 ≤ 42200 =
-          omega (arith, most table (rowTaken acceleration) (length masses)) in
-          let few : length masses - 1 ≤ 10 = omega arith in
-          subst Numbers (sym (given e f))
-          (omega (arith, above-lowest masses, sum-most masses (not-false _ f)), omega (arith, mul-le-mul low few))
+          subst Numbers (sym (given e f)) (
+            omega (arith, above-lowest masses, sum-most masses (not-false _ f)),
+            omega (arith, permitted-most table acceleration (length masses) n),
+          )

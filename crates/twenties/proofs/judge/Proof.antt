@@ -16,7 +16,8 @@ all-fit-requires c κs = search needs
 returns-2 : tie.Need-returns-2
 returns-2 c =
     let a = c .before .before .before .before .args in
-    sym (refused-23 (a .table) (a .acceleration) (a .masses .now) (c .before .before .if1 .left) (ap not (sym (c .before .all-fit .ensures)) ∙ c .if2 .taken))
+    let unfit = ap not (sym (c .before .all-fit .ensures)) ∙ c .if2 .taken in
+    sym (refused-23 (a .table) (a .acceleration) (a .masses .now) (c .before .before .if1 .left) unfit)
 
 total-above-requires : tie.Need-total-above-requires
 total-above-requires c κs =

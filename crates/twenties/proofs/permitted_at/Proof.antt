@@ -1,10 +1,10 @@
 -- `twenties::permitted_at`: no step leaves its width, since no entry is above 422.
-use Prim.Native.Nat.{_*_, _-_, _≤_}
+use Prim.Native.Nat.{_≤_}
 use mathlib.Core.Path.{refl}
-use native.Mathlib.Nat.{mul-le-mul}
 use native.Mathlib.Omega.{arith}
 use borrow.Author.Needs.{needs}
 use Rattle.twenties.proofs.Falling.{most}
+use Rattle.twenties.proofs.Rows.{permitted-most}
 use Rattle.twenties.proofs.permitted_at.Statement.{statement}
 use Rattle.twenties.proofs.permitted_at.Tie as tie
 
@@ -31,9 +31,9 @@ sub-result c = search needs
 
 mul-result-2 : tie.Need-mul-result-2
 mul-result-2 c =
-    let a : c .entry .result * 100 ≤ 42200 = omega (arith, small c) in
-    let b : c .before .args .tiers - 1 ≤ 10 = omega arith in
-    record { fits = omega (arith, mul-le-mul a b) }
+    let a = c .before .args in
+    let whole = rw (← c .entry .ensures) at (permitted-most (a .table) (a .acceleration) (a .tiers) (c .before .pre .3)) in
+    record { fits = omega arith }
 
 returns : tie.Need-returns
 returns c = rw (c .entry .ensures) refl

@@ -1,7 +1,7 @@
 -- `twenties::total_above` sums one box after another. The invariant: the sum and what is left give the total, and each box so far
 -- added less than 2^32.
 use Prim.Native.Nat.{_+_, _-_, _*_, _^_, _≤_}
-use mathlib.Core.Path.{_≡_, refl}
+use mathlib.Core.Path.{_≡_}
 use native.Mathlib.Omega.{arith}
 use lib.ListN.{length, drop}
 use borrow.Author.Needs.{needs}
