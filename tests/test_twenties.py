@@ -2,16 +2,19 @@
 catches each slip."""
 
 import re
+import subprocess
+import tempfile
 import unittest
 from dataclasses import replace
 from fractions import Fraction
+from pathlib import Path
 from unittest import mock
 
 from reference import twenties
 from reference.twenties import PRINTED, TABLES, USED, Refused, Verdict, judge, packed, permitted, printed, used
 from reference.twenties_asked import questions
 from reference.twenties_reached import Reached
-from tests.support import ROOT
+from tests.support import ROOT, library_of
 
 DEFINED = (ROOT / "crates" / "twenties" / "specs" / "Tables.antt").read_text(encoding="utf-8")
 CODED = (ROOT / "crates" / "twenties" / "src" / "tables.rt").read_text(encoding="utf-8")
@@ -29,7 +32,7 @@ def defined(text=DEFINED):
 
 def coded(text=CODED):
     """The two tables of the code."""
-    tables = re.findall(r"^pub const TABLE_5_[23]: \[\[u64; 9\]; 31\] = \[\n((?:    \[[\d, ]*\],\n)+)\];$", text, re.M)
+    tables = re.findall(r"^pub const TABLE_5_[23]: \[\[u16; 9\]; 31\] = \[\n((?:    \[[\d, ]*\],\n)+)\];$", text, re.M)
     return [numbers(table.splitlines()) for table in tables]
 
 
@@ -214,6 +217,17 @@ class Comparison(unittest.TestCase):
         for name, slip in SLIPS.items():
             with self.subTest(name):
                 self.assertTrue(caught(slip, self.asked))
+
+    def test_the_script_fails_on_another_library(self):
+        """One that says yes to all, with what is due for a single question."""
+        said = packed(judge(0, 412, (24_000, 22_000, 20_000, 18_000)))
+        with tempfile.TemporaryDirectory() as folder:
+            library = library_of(Path(folder), b"", twenties=said)
+            for path, status, words in ((library, 1, "FAULT: near permitted"), (Path(folder, "none.so"), 2, "")):
+                command = [ROOT / "reference" / "compare_twenties", "--count", "0", "--library", path]
+                done = subprocess.run(command, capture_output=True, text=True)
+                self.assertEqual(done.returncode, status, done.stderr)
+                self.assertIn(words, done.stdout)
 
     def test_every_entry_is_reached(self):
         reached = Reached()

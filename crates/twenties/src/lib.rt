@@ -85,5 +85,5 @@ fn permitted_at(table: u32, acceleration: u32, tiers: usize) -> u64
     ensures { λ r. ⌜ r ≡ permitted table acceleration tiers ⌝ }
 {
     let row = (acceleration - 350 + 9) / 10;
-    tables::entry(table, row as usize, tiers) * 100 * (tiers - 1) as u64
+    tables::entry(table, row as usize, tiers) as u64 * 100 * (tiers - 1) as u64
 }

@@ -5,7 +5,7 @@ ghost use Prim.Native.Nat.{_-_, _<_, _≤_};
 ghost use Rattle.twenties.specs.Judgements.{entry};
 
 // Without a 40-ft box on top; 0.40 g, seven tiers: 14.9 for the printed 16.4 (document 02, P12).
-pub const TABLE_5_2: [[u64; 9]; 31] = [
+pub const TABLE_5_2: [[u16; 9]; 31] = [
     [403, 288, 224, 182, 165, 154, 146, 138, 132],
     [396, 282, 219, 179, 162, 151, 143, 136, 130],
     [390, 277, 214, 175, 160, 149, 140, 134, 127],
@@ -40,7 +40,7 @@ pub const TABLE_5_2: [[u64; 9]; 31] = [
 ];
 
 // With a 40-ft box on top.
-pub const TABLE_5_3: [[u64; 9]; 31] = [
+pub const TABLE_5_3: [[u16; 9]; 31] = [
     [422, 320, 264, 222, 193, 172, 156, 142, 131],
     [417, 316, 259, 218, 189, 169, 152, 139, 129],
     [412, 311, 254, 214, 185, 165, 149, 136, 127],
@@ -75,7 +75,7 @@ pub const TABLE_5_3: [[u64; 9]; 31] = [
 ];
 
 // The entry of a row and a tier count in table 0 (5-2) or 1 (5-3).
-pub fn entry(table: u32, row: usize, tiers: usize) -> u64
+pub fn entry(table: u32, row: usize, tiers: usize) -> u16
     requires { ⌜ (row < 31) × (3 ≤ tiers) × (tiers ≤ 11) ⌝ }
     ensures { λ r. ⌜ r ≡ entry table row tiers ⌝ }
 {

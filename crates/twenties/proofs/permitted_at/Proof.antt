@@ -23,6 +23,9 @@ cast-entry c = search needs
 entry-requires : tie.Need-entry-requires
 entry-requires c κs = search needs
 
+cast-result : tie.Need-cast-result
+cast-result c = omega (arith, small c)
+
 mul-result : tie.Need-mul-result
 mul-result c = omega (arith, small c)
 
@@ -41,4 +44,4 @@ returns c = rw (c .entry .ensures) refl
 pub permitted-at-spec : {M : Type 1} → statement M
 permitted-at-spec =
     tie.close
-    (tie.spec sub-row add-row cast-entry entry-requires mul-result sub-result mul-result-2 returns)
+    (tie.spec sub-row add-row cast-entry entry-requires cast-result mul-result sub-result mul-result-2 returns)
