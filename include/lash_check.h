@@ -1,5 +1,5 @@
-/* The lashing check of a container stack: bytes of a stack sheet in, bytes of an answer sheet out. docs/SHEET.md has the layout
-   of both, byte by byte.
+/* The lashing check of a container stack: bytes of a stack sheet in, bytes of an answer sheet out; docs/SHEET.md has the layout
+   of both, byte by byte. And lash_twenties, for 20-ft boxes in 40-ft cell guides: numbers in, one number out.
 
    rt staticlib lash                                                      proves the check and writes target/staticlib/liblash.a
    cc -Iinclude yours.c target/staticlib/liblash.a -o yours               a program over it, on x86-64 Linux
@@ -14,9 +14,9 @@
 extern "C" {
 #endif
 
-/* The version of the header and of the library built beside it; the text is LASH_VERSION, as "0.7.0". */
+/* The version of the header and of the library built beside it; the text is LASH_VERSION, as "0.8.0". */
 #define LASH_VERSION_MAJOR 0
-#define LASH_VERSION_MINOR 7
+#define LASH_VERSION_MINOR 8
 #define LASH_VERSION_PATCH 0
 #define LASH_TEXT_(number) #number
 #define LASH_TEXT(number) LASH_TEXT_(number)
@@ -188,6 +188,32 @@ static inline int64_t lash_found_force(uint64_t result, const uint8_t *answer, s
     case LASH_OVER_ATHWART: return lash_forces_of(result, answer, found.end, found.index).athwart;
     default: return LASH_NONE;
     }
+}
+
+/* Twenties in forty-foot guides (CR 5.4.6(b)(ii)): whether all tiers but the lowest together weigh no more than CR Table 5-2 (table 0,
+   without a 40-ft box on top) or 5-3 (table 1, with one) permits. The acceleration is in thousandths of g, the masses those of the
+   20-ft boxes alone in kg, lowest first; `count` is how many there are. The first number is in the low 8 bits of what is returned:
+   0, or one of those below, with all other bits 0. With 0, bit 8 is set for yes, bits 16 to 39 are the total of all tiers but the
+   lowest in kg, bits 40 to 63 the permitted mass in kg, and bits 9 to 15 are 0. The caller tests nothing first. The masses are only
+   read, and none is with LASH_GUIDES; what is proved holds for a pointer that is not null. */
+uint64_t lash_twenties(uint32_t table, uint32_t acceleration, const uint32_t *masses, size_t count);
+
+enum lash_twenties_number {
+    LASH_GUIDES = 22, /* 0: table above 1, acceleration outside 350 to 650, or count outside 3 to 11 */
+    LASH_BOX = 23     /* 0: a box over 30,480 kg or of mass 0 */
+};
+
+/* Readers of what lash_twenties returned. After a refusal: no, LASH_NONE, and nothing permitted. */
+static inline int lash_twenties_yes(uint64_t result) { return lash_number_of(result) == LASH_TAKEN && (result >> 8 & 1); }
+
+static inline int64_t lash_twenties_total(uint64_t result)
+{
+    return lash_number_of(result) == LASH_TAKEN ? (int64_t)(result >> 16 & 0xffffff) : LASH_NONE;
+}
+
+static inline int64_t lash_twenties_permitted(uint64_t result)
+{
+    return lash_number_of(result) == LASH_TAKEN ? (int64_t)(result >> 40) : 0;
 }
 
 #ifdef __cplusplus

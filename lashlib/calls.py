@@ -7,12 +7,17 @@ from functools import lru_cache
 from lashlib.build import shared_library
 from sheets.sheet import ANSWER_ROOM
 
-# What a call takes, in its order: bytes that are lent for reading, a buffer that is written, or a number of C's.
-READ, WRITTEN = "read", "written"
+# What a call takes, in its order: bytes or 4-byte numbers that are lent for reading, a buffer that is written, or a number of C's.
+READ, NUMBERS, WRITTEN = "read", "numbers", "written"
 CALLS = {
     "lash_check": (READ, WRITTEN),
+    "lash_twenties": (ctypes.c_uint32, ctypes.c_uint32, NUMBERS),
 }
-POINTER_AND_LENGTH = (ctypes.c_char_p, ctypes.c_size_t)
+POINTER_AND_LENGTH = {
+    READ: (ctypes.c_char_p, ctypes.c_size_t),
+    NUMBERS: (ctypes.POINTER(ctypes.c_uint32), ctypes.c_size_t),
+    WRITTEN: (ctypes.c_char_p, ctypes.c_size_t),
+}
 
 
 @dataclass(frozen=True)
@@ -57,18 +62,29 @@ class Library:
             if kind == WRITTEN:
                 words += (buffer, room)
             else:
-                value = next(rest)
-                words += (value, len(value)) if kind == READ else (value,)
+                words += lent(kind, next(rest))
         return Reply(self.calls[name](*words), buffer.raw)
 
     def check(self, sheet, room=ANSWER_ROOM):
         return self.call("lash_check", sheet, room=room)
 
+    def twenties(self, table, acceleration, masses):
+        return self.call("lash_twenties", table, acceleration, masses, room=0)
+
+
+def lent(kind, value):
+    """A value as the words that a call takes it by: one, or a pointer and how many there are."""
+    if kind == READ:
+        return value, len(value)
+    if kind == NUMBERS:
+        return (ctypes.c_uint32 * (len(value) or 1))(*value), len(value)  # never a null pointer
+    return (value,)
+
 
 def declared(function, kinds):
     """A function of the library with its types set."""
     function.restype = ctypes.c_uint64
-    types = [POINTER_AND_LENGTH if kind in (READ, WRITTEN) else (kind,) for kind in kinds]
+    types = [POINTER_AND_LENGTH.get(kind, (kind,)) for kind in kinds]
     function.argtypes = [each for pair in types for each in pair]
     return function
 

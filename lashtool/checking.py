@@ -1,4 +1,4 @@
-"""A sheet checked by the library, and the answer held to the sheet before anything is said of it."""
+"""The library, and a sheet checked by it: the answer is held to the sheet before anything is said of it."""
 
 from lashlib.build import BuildFailed
 from lashlib.calls import loaded
@@ -11,14 +11,19 @@ class CheckFailed(Exception):
     """The check could not be built or run, or a file not be written, with the reason."""
 
 
-def library_check(path=None):
-    """The library's check, from a sheet's bytes to its reply; the library is the proved one, or the one at a path."""
+def library(path=None):
+    """The proved library, or the one at a path."""
     try:
-        return loaded(path).check
+        return loaded(path)
     except BuildFailed as reason:
         raise CheckFailed(str(reason)) from None
     except (OSError, AttributeError) as error:
         raise CheckFailed(f"the library cannot be loaded: {error}") from None
+
+
+def library_check(path=None):
+    """The library's check, from a sheet's bytes to its reply."""
+    return library(path).check
 
 
 def outcome(data, reply):

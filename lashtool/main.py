@@ -8,7 +8,7 @@ from dataclasses import dataclass
 from pathlib import Path
 
 from lashlib.version import version
-from lashtool import report, svg
+from lashtool import report, svg, twenties
 from lashtool.checking import CheckFailed, library_check, outcome
 from lashtool.colour import wanted
 from lashtool.data import as_data
@@ -24,7 +24,7 @@ from sheets.sheet import Refused, pack
 
 HELP = (
     "Checks the lashing of a container stack and prints its forces beside their limits; of several stacks, "
-    "or of a folder of *.toml, a line each with the worst use of a limit."
+    "or of a folder of *.toml, a line each with the worst use of a limit. `lash twenties --help` tells of 20-ft boxes in 40-ft guides."
 )
 STATUS_HELP = (
     "Exit status: 0 accepted, 1 not accepted, 2 refused or a bad description, "
@@ -161,8 +161,11 @@ def many(options, check):
     return status
 
 
-def main(words=None, check=None):
-    """The exit status. `check` gives a sheet's reply in place of the library."""
+def main(words=None, check=None, judge=None):
+    """The exit status. `check` gives a sheet's reply in place of the library, `judge` that of twenties."""
+    words = sys.argv[1:] if words is None else words
+    if words[:1] == [twenties.WORD]:
+        return twenties.main(words[1:], judge)
     options = arguments(words)
     if options.template:
         return say(template().rstrip(), ACCEPTED)

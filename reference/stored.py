@@ -1,7 +1,7 @@
 #!/usr/bin/env python3
-"""Writes what the programs cases and lashcheck are run on, and what they must write.
+"""Writes what the programs cases, cases_twenties and lashcheck are run on, and what they must write.
 
-crates/cases/src/main.rt says how a case is laid out. A field is the size of a number of the answer and
+crates/cases/src/main.rt and crates/cases_twenties/src/main.rt say how a case and a question are laid out. A field is the size of a number of the answer and
 the least and the most that it may be; a racking to windward lies in two's complement.
 """
 
@@ -16,11 +16,14 @@ from reference.cases import CASES, may_be_named, reported_range, stands
 from reference.judge import figures
 from reference.script import finish
 from reference.stack import exact
+from reference.twenties import Verdict, judge
+from reference.twenties_asked import FIGURES
 from sheets.answer import counts
 from sheets.sheet import Refused, parse
 
 HEAD = struct.Struct("<BHHH")
 FIELD = struct.Struct("<BII")
+QUESTION = struct.Struct("<16I")  # table, acceleration, count, and thirteen masses of which so many count
 ROOM_LIMIT = 1_024
 INPUT_LIMIT = 65_536
 
@@ -97,6 +100,21 @@ def line(case):
     return f"{case.name} {number} {second}{' inside' if listed else ''} untouched\n"
 
 
+def question(table, acceleration, masses):
+    """The bytes of a question on twenties; behind its masses stand ones, which would show if they were counted."""
+    return QUESTION.pack(table, acceleration, len(masses), *masses, *(1,) * (13 - len(masses)))
+
+
+def question_line(table, acceleration, masses):
+    """What the program cases_twenties must write of a question."""
+    said = judge(table, acceleration, masses)
+    if isinstance(said, Verdict):
+        words = f"{'yes' if said.yes else 'no'} {said.total} {said.permitted}"
+    else:
+        words = f"refused {said.number} {said.second}"
+    return f"{table} {acceleration} {len(masses)} {words}\n"
+
+
 def stored():
     """The bytes of each file, by its path from the top."""
     data = b"".join(map(packed, CASES))
@@ -107,6 +125,8 @@ def stored():
     return {
         "crates/cases/stdin": data,
         "crates/cases/stdout": "".join(map(line, CASES)).encode(),
+        "crates/cases_twenties/stdin": b"".join(question(*asked) for asked in FIGURES),
+        "crates/cases_twenties/stdout": "".join(question_line(*asked) for asked in FIGURES).encode(),
         "crates/lashcheck/stdin": sample.data,
         "crates/lashcheck/stdout": b"%d %d\n" % (number, second),
     }

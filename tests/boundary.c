@@ -1,7 +1,7 @@
-/* The boundary of the C call, on sheets good, damaged and random. The sheet lies in memory that can only be read and the answer
-   buffer in memory of its own; unreadable pages stand right before and behind both. Each sheet is checked twice, first against the
-   pages behind, then against those before, over two patterns that differ in every byte: whatever the call wrote, a byte written is
-   told from a byte left alone.
+/* The boundary of the C calls. Sheets good, damaged and random: the sheet lies in memory that can only be read and the answer buffer
+   in memory of its own; unreadable pages stand right before and behind both. Each sheet is checked twice, first against the pages
+   behind, then against those before, over two patterns that differ in every byte: whatever the call wrote, a byte written is told
+   from a byte left alone. Then twenties: their masses lie as the sheets do, and where no mass is to be read, on an unreadable page.
 
    usage: boundary [--count N] [--seed N] [--dump FILE]
    Exit status 0: no fault; 1: a fault, shown with its sheet; 2: bad use, or no memory to run in. */
@@ -21,6 +21,7 @@ enum { HEAD = 8, TIER = 12, LASH = 20, MOST_TIERS = 10, MOST_LASHES = 8, LEAST_S
 enum { RULE_AT = 0, ZERO_AT = 3, LEAST_RULE = 1, MOST_RULE = 2 };
 enum { EVERY_LENGTH = 501, STRIDE = 211 }; /* no common divisor: every length has its turn */
 enum { AREA = 8192, DUMPED = 600, ENOUGH = 10000, NUMBERS = LASH_ROOM + 1 };
+enum { LEAST_TIERS_IN_GUIDES = 3, MOST_TIERS_IN_GUIDES = 11, MOST_MASS = 30480, SHEETS_A_QUESTION = 5 };
 
 /* Numbers at random, the same for the same seed. */
 
@@ -322,7 +323,14 @@ static void prepare_memory(void)
 
 /* Faults. */
 
+struct question {
+    uint32_t table, acceleration, masses[MOST_TIERS_IN_GUIDES];
+    size_t count; /* of masses, but for a count that is none as many as there are */
+};
+
 static struct sheet sheet;
+static struct question question;
+static int asking; /* about twenties, no longer about sheets */
 static unsigned long sheet_number;
 static size_t room;
 static sigjmp_buf stopped;
@@ -335,14 +343,29 @@ static void print_hex(FILE *out, const uint8_t *bytes, size_t length)
         fputc('-', out);
 }
 
+static int count_fits(void) { return question.count >= LEAST_TIERS_IN_GUIDES && question.count <= MOST_TIERS_IN_GUIDES; }
+
+static void print_question(FILE *out)
+{
+    fprintf(out, "%u %u %zu", question.table, question.acceleration, question.count);
+    for (size_t i = 0; count_fits() && i < question.count; i++)
+        fprintf(out, " %u", question.masses[i]);
+}
+
 __attribute__((format(printf, 1, 2), noreturn)) static void fail(const char *format, ...)
 {
     va_list rest;
     va_start(rest, format);
-    printf("FAULT: sheet %lu (%s, %zu bytes, answer buffer of %zu): ", sheet_number, sheet.kind, sheet.length, room);
+    if (asking)
+        printf("FAULT: twenties: ");
+    else
+        printf("FAULT: sheet %lu (%s, %zu bytes, answer buffer of %zu): ", sheet_number, sheet.kind, sheet.length, room);
     vprintf(format, rest);
-    printf("\n  sheet ");
-    print_hex(stdout, sheet.bytes, sheet.length);
+    printf(asking ? "\n  table, acceleration, count, masses " : "\n  sheet ");
+    if (asking)
+        print_question(stdout);
+    else
+        print_hex(stdout, sheet.bytes, sheet.length);
     printf("\n");
     exit(1);
 }
@@ -499,6 +522,89 @@ static void run(unsigned long count, FILE *out)
         }
 }
 
+/* Twenties. */
+
+static void make_question(void)
+{
+    static const size_t counts[] = {0, 1, 2, 12, 13, 256 + 3, UINT32_MAX, (size_t)UINT32_MAX + 1 + 3, SIZE_MAX / 4, SIZE_MAX};
+    static const uint32_t accelerations[] = {0, 349, 350, 650, 651, UINT32_MAX};
+    static const uint32_t masses[] = {0, 1, MOST_MASS, MOST_MASS + 1, 1 << 24, UINT32_MAX};
+    question.table = below(8) ? below(2) : below(2) ? 2 : UINT32_MAX;
+    question.acceleration = below(4) ? between(350, 650) : accelerations[below(COUNT(accelerations))];
+    question.count = below(4) ? between(LEAST_TIERS_IN_GUIDES, MOST_TIERS_IN_GUIDES) : counts[below(COUNT(counts))];
+    uint32_t most = below(2) ? MOST_MASS : 15000;
+    for (size_t i = 0; i < MOST_TIERS_IN_GUIDES; i++)
+        question.masses[i] = below(60) ? between(1, most) : masses[below(COUNT(masses))];
+}
+
+/* The number that is due, with the total where it is 0; what is permitted is held to the fractions by who reads the dump. */
+static unsigned question_due(uint64_t *total)
+{
+    if (question.table > 1 || question.acceleration < 350 || question.acceleration > 650 || !count_fits())
+        return LASH_GUIDES;
+    *total = 0;
+    for (size_t i = 0; i < question.count; i++) {
+        if (question.masses[i] == 0 || question.masses[i] > MOST_MASS)
+            return LASH_BOX;
+        *total += i ? question.masses[i] : 0;
+    }
+    return LASH_TAKEN;
+}
+
+/* One call, with the masses against the pages behind (0) or before (1); where none is to be read they begin on such a page. */
+static uint64_t ask(int before, int readable)
+{
+    size_t size = 4 * question.count, at = before ? 0 : AREA - size;
+    const uint8_t *page = before ? guarded_sheet - 4 : guarded_sheet + AREA;
+    if (readable)
+        memcpy(writable_sheet + at, question.masses, size);
+    const void *masses = readable ? guarded_sheet + at : page;
+    return lash_twenties(question.table, question.acceleration, masses, question.count);
+}
+
+static uint64_t check_question(void)
+{
+    static uint64_t total;
+    unsigned number = question_due(&total);
+    uint64_t first = ask(0, number != LASH_GUIDES), second = ask(1, number != LASH_GUIDES);
+    if (first != second)
+        fail("two calls with the same masses differ: %llx and %llx", (unsigned long long)first, (unsigned long long)second);
+    if (lash_number_of(first) != number || (number != LASH_TAKEN && first != number))
+        fail("gives %llx, %u is due", (unsigned long long)first, number);
+    int64_t most = lash_twenties_permitted(first);
+    if (number == LASH_TAKEN && ((first & 0xfe00) || lash_twenties_total(first) != (int64_t)total || most <= 0 ||
+                                 lash_twenties_yes(first) != ((int64_t)total <= most)))
+        fail("gives %llx, a total of %llu is due", (unsigned long long)first, (unsigned long long)total);
+    if (number != LASH_TAKEN && (lash_twenties_yes(first) || lash_twenties_total(first) != LASH_NONE || most != 0))
+        fail("is refused, and the readers give a verdict");
+    return first;
+}
+
+/* In the dump a line: twenties, table, acceleration, count, masses, the result. */
+static void run_twenties(unsigned long count, FILE *out)
+{
+    unsigned long tally[LASH_BOX + 1] = {0}, permitted = 0;
+    asking = 1;
+    for (unsigned long i = 0; i < count; i++) {
+        make_question();
+        uint64_t result = check_question();
+        tally[lash_number_of(result)]++;
+        permitted += (unsigned long)lash_twenties_yes(result);
+        if (out && i < DUMPED) {
+            fprintf(out, "twenties ");
+            print_question(out);
+            fprintf(out, " %llu\n", (unsigned long long)result);
+        }
+    }
+    printf("%lu questions on twenties, each asked twice: %lu yes, %lu no; refused by number 22: %lu, 23: %lu\n", count, permitted,
+           tally[LASH_TAKEN] - permitted, tally[LASH_GUIDES], tally[LASH_BOX]);
+    if (count >= ENOUGH / SHEETS_A_QUESTION &&
+        !(permitted && tally[LASH_TAKEN] > permitted && tally[LASH_GUIDES] && tally[LASH_BOX])) {
+        printf("FAULT: no question on twenties gave one of these\n");
+        exit(1);
+    }
+}
+
 int main(int argc, char **argv)
 {
     static unsigned long count = 50000;
@@ -530,6 +636,7 @@ int main(int argc, char **argv)
     if (number)
         fail("ended by signal %d (%s)%s", number, strsignal(number), number == SIGSEGV ? ": memory that it was not lent" : "");
     run(count, out);
+    run_twenties(count / SHEETS_A_QUESTION, out);
     if (out && fclose(out) != 0) {
         perror(path);
         return 2;

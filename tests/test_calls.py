@@ -7,7 +7,7 @@ import tempfile
 import unittest
 from pathlib import Path
 
-from lashlib.calls import CALLS, READ, WRITTEN, Library, Reply
+from lashlib.calls import CALLS, NUMBERS, POINTER_AND_LENGTH, READ, WRITTEN, Library, Reply
 from lashlib.version import HEADER, version
 
 # Calls that write down what they were given, as the header's and the coming ones are shaped.
@@ -29,11 +29,16 @@ uint64_t two(const uint8_t *a, size_t a_len, const uint8_t *b, size_t b_len)
     return a_len ? a[0] : 255 | (uint64_t)(b_len ? b[b_len - 1] : 0) << 56;
 }
 uint64_t numbers(uint32_t x, int32_t y) { return x | (uint64_t)(uint32_t)y << 32; }
+uint64_t listed(uint32_t x, const uint32_t *list, size_t count)
+{
+    return list == NULL ? 1 : (uint64_t)(count ? list[0] ^ list[count - 1] : x) << 8 | count;
+}
 """
 SHAPES = {
     "mixed": (READ, ctypes.c_uint32, ctypes.c_uint16, WRITTEN),
     "two": (READ, READ),
     "numbers": (ctypes.c_uint32, ctypes.c_int32),
+    "listed": (ctypes.c_uint32, NUMBERS),
 }
 
 
@@ -62,6 +67,10 @@ class Calls(unittest.TestCase):
         self.assertEqual(self.library.call("two", b"", b"xz").result, 255 | ord("z") << 56)
         self.assertEqual(self.library.call("numbers", 1, -1).result, 1 | (2**32 - 1) << 32)
 
+    def test_a_list_of_numbers(self):
+        self.assertEqual(self.library.call("listed", 7, (2**32 - 1, 5, 1)).result, (2**32 - 2) << 8 | 3)
+        self.assertEqual(self.library.call("listed", 7, ()).result, 7 << 8)
+
     def test_numbers_of_a_reply(self):
         self.assertEqual((Reply(13 + 256 * 834).number, Reply(13 + 256 * 834).second), (13, 834))
         self.assertEqual(Reply(256 * 2, b"abc").answer, b"ab")
@@ -71,7 +80,7 @@ class Calls(unittest.TestCase):
         declared = re.findall(r"^uint64_t (\w+)\(([^)]*)\);", text, re.M)
         self.assertEqual({name for name, _ in declared}, set(CALLS))
         for name, words in declared:
-            parameters = sum(2 if kind in (READ, WRITTEN) else 1 for kind in CALLS[name])
+            parameters = sum(2 if kind in POINTER_AND_LENGTH else 1 for kind in CALLS[name])
             self.assertEqual(len(words.split(",")), parameters, name)
 
 

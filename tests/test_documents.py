@@ -6,6 +6,7 @@ import sys
 import unittest
 from struct import calcsize
 
+from reference import twenties
 from reference.judge import KEPT, expected, judge
 from sheets.answer import read_answer
 from sheets.limits import (
@@ -61,10 +62,18 @@ class SheetDocument(unittest.TestCase):
 
     def test_refusals_are_the_headers(self):
         header = (ROOT / "include" / "lash_check.h").read_text()
-        enum = header.split("enum lash_number")[1].split("};")[0]
-        listed = re.findall(r"LASH_\w+ = (\d+),? +/\* ([^:*]+): (.*?) \*/", enum)
-        self.assertEqual([int(number) for number, *_ in listed], list(range(1, 14)))
-        self.assertEqual([tuple(row) for row in rows("Refusals")], listed)
+        for title, name, numbers in (
+            ("Refusals", "lash_number", list(range(1, 14))),
+            ("Numbers of its refusals", "lash_twenties_number", [22, 23]),
+        ):
+            enum = header.split(f"enum {name}")[1].split("};")[0]
+            listed = re.findall(r"LASH_\w+ = (\d+),? +/\* ([^:*]+): (.*?) \*/", enum)
+            self.assertEqual([int(number) for number, *_ in listed], numbers)
+            self.assertEqual([tuple(row) for row in rows(title)], listed)
+
+    def test_twenties(self):
+        said = twenties.packed(twenties.judge(0, 412, (24_000, 22_000, 20_000, 18_000)))
+        self.assertIn(f"`{said:#018x}`, which is yes, 60,000 kg of 74,700 kg", TEXT)
 
     def test_limits(self):
         kinds = re.findall(r"^\| (\d) \| [^|]* \| [^|]* \| ([^|]*) \|$", TEXT.split("## Answer sheet")[1], re.M)

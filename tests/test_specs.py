@@ -6,6 +6,9 @@ from pathlib import Path
 
 ROOT = Path(__file__).resolve().parent.parent
 MOST = 900
+# A call that shares no rule with the check has a limit of its own: where it is stated, and how many lines. Of those of twenties in
+# guides 68 are CR's two tables, which tests/test_twenties.py holds to the printed ones.
+OWN = {"twenties": (("crates/twenties/specs/", "crates/lash/specs/Told.antt"), 130)}
 LISTS = {"Lib.antt", "inner.antt"}  # lists of modules
 FOLLOWS = {  # proved of the rest
     "Theorems.antt", "Table.antt", "SafeLoads.antt", "Turned.antt", "Trials.antt", "Relief.antt", "FleetStandard.antt",
@@ -48,6 +51,9 @@ class Specs(unittest.TestCase):
     def test_few_lines_must_be_believed(self):
         counts = {path.relative_to(ROOT).as_posix(): counted_lines(path.read_text(encoding="utf-8")) for path in believed()}
         self.assertGreater(len(counts), 10)
+        for name, (places, most) in OWN.items():
+            own = {path: counts.pop(path) for path in list(counts) if path.startswith(places)}
+            self.assertTrue(0 < sum(own.values()) <= most, f"lines of {name} that must be believed: {own}")
         total = sum(counts.values())
         self.assertLessEqual(total, MOST, f"{total} lines must be believed: {counts}")
 

@@ -1,9 +1,13 @@
-// The check for programs in C: its two numbers in one.
+// The calls for programs in C: what each returns, in one number.
+ghost use mathlib.Core.Bool.{cond};
 ghost use mathlib.Core.Path.{_≡_};
 ghost use Prim.Native.Nat.{_+_, _*_, _<_, _^_};
 ghost use Rattle.answer.specs.Checked.{kept};
 ghost use Rattle.lash.specs.Called.{Called};
+ghost use Rattle.lash.specs.Told.{Told, VerdictIn};
 use answer::Outcome;
+use twenties::Judgement;
+use twenties::Verdict;
 
 // Checks a sheet as stack_check::check does. The number is in the low 8 bits of what is returned, the second number above them.
 #[no_mangle]
@@ -23,4 +27,34 @@ fn joined(number: u64, second: usize) -> u64
     ensures { λ r. ⌜ r ≡ number + 256 * second ⌝ }
 {
     number + 256 * second as u64
+}
+
+// Judges twenties in forty-foot guides as twenties::judge does. A refusal's numbers are told as lash_check tells them; of a verdict,
+// bit 8 is set for yes, the total is in bits 16 to 39, the permitted mass in bits 40 to 63.
+#[no_mangle]
+pub extern "C" fn lash_twenties(table: u32, acceleration: u32, masses: &[u32]) -> u64
+    ensures { λ r. ⌜ Told table acceleration (now (masses .entry)) r ⌝ }
+{
+    let judgement = twenties::judge(table, acceleration, masses);
+    match judgement {
+        Judgement::Given(verdict) => packed(verdict),
+        Judgement::Refused(number, second) => joined(number, second),
+    }
+}
+
+// A verdict whose masses fit 24 bits.
+fn packed(v: Verdict) -> u64
+    requires { ⌜ (v .total < 2 ^ 24) × (v .permitted < 2 ^ 24) ⌝ }
+    ensures { λ r. ⌜ VerdictIn v r ⌝ }
+{
+    256 * bit(v.yes) + 65536 * v.total + 1099511627776 * v.permitted
+}
+
+fn bit(set: bool) -> u64
+    ensures { λ r. ⌜ (r ≡ cond set 1 0) × (r < 2) ⌝ }
+{
+    if set {
+        return 1;
+    }
+    0
 }

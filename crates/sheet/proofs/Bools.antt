@@ -1,5 +1,5 @@
--- Tests joined by `and` and `or`, taken apart.
-use mathlib.Core.Bool.{Bool, true, false, _&&_, _||_, false≢true, true≢false}
+-- Tests joined by `and` and `or`, or turned by `not`, taken apart.
+use mathlib.Core.Bool.{Bool, true, false, not, _&&_, _||_, false≢true, true≢false}
 use mathlib.Core.Logic.{_⊎_, inl, inr}
 use mathlib.Core.Path.{_≡_, refl}
 
@@ -14,3 +14,11 @@ or-false false b e = (refl, e)
 pub or-true : (a b : Bool) → a || b ≡ true → (a ≡ true) ⊎ (b ≡ true)
 or-true true b e = inl refl
 or-true false b e = inr e
+
+pub not-true : (a : Bool) → not a ≡ true → a ≡ false
+not-true true e = absurd (false≢true e)
+not-true false e = refl
+
+pub not-false : (a : Bool) → not a ≡ false → a ≡ true
+not-false true e = refl
+not-false false e = absurd (true≢false e)

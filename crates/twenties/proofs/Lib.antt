@@ -1,0 +1,4 @@
+mod Masses
+pub mod Outcomes
+pub mod Falling
+pub mod Rows
