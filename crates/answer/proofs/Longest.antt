@@ -1,4 +1,4 @@
--- The longest answer: 108 findings, which fit their count's byte, and no more than the 834 bytes that refusal 13 asks for.
+-- The longest answer: 108 findings, which fit their count's byte, and 774 bytes, within the 834 that refusal 13 asks for.
 use mathlib.Core.Path.{_≡_}
 use mathlib.Core.Bool.{Bool, true, false, cond, _&&_, true≢false}
 use mathlib.Core.List.{List, _∷_, flatMap}
@@ -78,7 +78,7 @@ module _ (t : Sheet) (f : Figures) where
         rw (length-append (endFindings named t f door) (endFindings named t f closed))
         (omega (arith, end-few door, end-few closed, lashes door, lashes closed))
 
-    pub answer-most : length (answerBytes t f) ≤ 834
+    pub answer-most : length (answerBytes t f) ≤ 774
     unfolding answerBytes
     answer-most =
         simp length-append

@@ -43,4 +43,4 @@ numbers {margin} {s} {before} {after} {r} c = go (refusal s (length before)) ref
         rw (h .refused) (record { first = b .1; next = b .2 })
     go Taken e h =
         let short = answer-most (sheetOf s) (h .answer .figures) (within s (length before) e .few) (lashes s (length before) e) in
-        rw (h .taken) (record { first = omega arith; next = rw (h .answer .encoded) short })
+        rw (h .taken) (record { first = omega arith; next = rw (h .answer .encoded) (omega (arith, short)) })

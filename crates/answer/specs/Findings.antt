@@ -103,10 +103,11 @@ limitAt e t lashTension j = safeLoad (getD (lashesOf e t) j blankLash .material)
 limitAt e t lashVertical j = lashVerticalLimit
 limitAt e t lashAthwart j = lashAthwartLimit
 
--- what is said of a kind at an index of an end with these figures: its limit is exceeded, by the reported size
+-- what is said of a kind at an index of an end with these figures
 abbrev pub Said : Type 0
 Said = End → Sheet → EndFigures → Kind → ℕ → Bool
 
+-- its limit is exceeded, by the reported size
 abbrev pub exceeded : Said
 exceeded e t f k i = ltb (limitAt e t k i) (sizeAt f k i)
 

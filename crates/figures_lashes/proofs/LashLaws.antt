@@ -5,8 +5,7 @@ use native.Mathlib.Nat.{mul-le-mul, mul-le-mul-left, div-le-of-le-mul}
 use native.Mathlib.Omega.{arith}
 use Rattle.sheet.specs.declared.Lash.{Lash}
 use Rattle.sheet.specs.inner.Limits.{LashLimits}
-use Rattle.statics.specs.Lashes.{lashLength}
-use Rattle.statics.specs.inner.WholeNumbers.{squares}
+use Rattle.statics.specs.Lashes.{squares, lashLength}
 use Rattle.statics.proofs.LashLength.{length-least, length-most}
 
 module _ {n : ℕ} {l : Lash} (f : LashLimits n l) where

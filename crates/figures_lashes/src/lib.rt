@@ -15,7 +15,7 @@ use arith::rounding::ceil_div;
 use arith::rounding::scaled;
 use arith::rounding::scaled_twice;
 use arith::rounding::split_product;
-use lash_length::length_of;
+use lash_length::search;
 use sheet::Lash;
 use sheet::Lashing;
 use sheet::lashing_of;
@@ -80,7 +80,7 @@ pub fn lash_stiffnesses(
     let mut j = 0;
     while j < m {
         let l = lashes[j];
-        let long = length_of(l);
+        let long = search(l).length;
         let stiff = stiffness_of(l, long);
         let at = hook_level(l) - 1;
         lengths[j] = long;

@@ -13,8 +13,7 @@ use Rattle.sheet.specs.Layout.{lashFits}
 use Rattle.sheet.specs.Refusals.{offTiers}
 use Rattle.sheet.specs.inner.Limits.{LashLimits}
 use Rattle.sheet.proofs.Limits.{lash-limits}
-use Rattle.statics.specs.Lashes.{lashLength}
-use Rattle.statics.specs.inner.WholeNumbers.{squares}
+use Rattle.statics.specs.Lashes.{squares, lashLength}
 use Rattle.statics.proofs.LashLength.{length-least, length-most}
 use Rattle.lash_length.specs.Trials.{longest, others, guess, start, trials, found, Searched, TrialsFind}
 use Rattle.lash_length.proofs.Newton.{step-enough, two-steps-most}

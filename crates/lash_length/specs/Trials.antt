@@ -8,8 +8,7 @@ use lib.Dec.{leb}
 use lib.ListN.{length, getD}
 use Rattle.sheet.specs.declared.Lash.{Lash}
 use Rattle.sheet.specs.Layout.{lashFits}
-use Rattle.statics.specs.Lashes.{lashLength}
-use Rattle.statics.specs.inner.WholeNumbers.{squares}
+use Rattle.statics.specs.Lashes.{squares, lashLength}
 
 -- the longest of the three sides, and the sum of the other two
 abbrev pub longest : Lash → ℕ

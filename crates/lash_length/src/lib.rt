@@ -6,8 +6,7 @@ ghost use Prim.Native.Nat.{_+_, _*_, _-_, _<_, _≤_, max};
 ghost use lib.Dec.{leb};
 ghost use lib.ListN.{length};
 ghost use Rattle.sheet.specs.inner.Limits.{LashLimits};
-ghost use Rattle.statics.specs.Lashes.{lashLength};
-ghost use Rattle.statics.specs.inner.WholeNumbers.{squares};
+ghost use Rattle.statics.specs.Lashes.{squares, lashLength};
 ghost use Rattle.lash_length.specs.Trials.{longest, others, nearer, guess, start, trials, found};
 use sheet::Lash;
 
@@ -19,9 +18,9 @@ struct Sides {
 }
 
 // The search as far as it has come: a length that is enough, and how many trials were squared.
-struct Progress {
-    length: u64,
-    squared: u64,
+pub struct Progress {
+    pub length: u64,
+    pub squared: u64,
 }
 
 fn longer(x: u64, y: u64) -> u64
@@ -89,10 +88,11 @@ fn tried(g: Sides, at: Progress) -> Progress
     }
 }
 
-// The search for L: its trials are `trials`.
-fn search(l: Lash) -> Progress
+// The search for L of a lash: its trials are `trials`.
+pub fn search(l: Lash) -> Progress
     requires { ⌜ LashLimits 10 l ⌝ }
     ensures { λ r. ⌜ (r .length ≡ found (squares l) (start l) (trials l)) × (r .squared ≡ length (trials l)) ⌝ }
+    ensures { λ r. ⌜ r .length ≡ lashLength l ⌝ }
 {
     let g = sides_of(l);
     let enough = start_of(g);
@@ -103,12 +103,4 @@ fn search(l: Lash) -> Progress
             squared: 0,
         },
     )
-}
-
-// L of a lash.
-pub fn length_of(l: Lash) -> u64
-    requires { ⌜ LashLimits 10 l ⌝ }
-    ensures { λ r. ⌜ r ≡ lashLength l ⌝ }
-{
-    search(l).length
 }

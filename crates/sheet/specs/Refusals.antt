@@ -148,7 +148,7 @@ decoded s = unlessRefused (first (sheetRows s)) (sheetOf s)
 unfoldable pub refusalOf : List ℕ → List Row → ℕ → ℕ → Reading
 refusalOf s own needed room = first (sheetRows s then own then row13 needed room ∷ [])
 
--- the check of a stack has no rows of its own, and needs room for the longest answer
+-- the check of a stack has no rows of its own, and needs this room, in which every answer fits
 abbrev pub longestAnswer : ℕ
 longestAnswer = 834
 

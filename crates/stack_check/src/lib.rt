@@ -12,7 +12,7 @@ use sheet::Reading;
 use sheet::Sheet;
 use statics::LoadRule;
 
-// The longest answer, in bytes.
+// The room that an answer is given, in bytes; none is longer.
 const LONGEST: usize = 834;
 
 // The answer to a sheet within the limits, by what its loads go by, written from the buffer's start; a short buffer is left as it was.

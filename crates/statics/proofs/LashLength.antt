@@ -7,8 +7,7 @@ use native.Mathlib.Nat.{mul-le-mul}
 use lib.Dec.{T, leb, leb→le, nleb→lt}
 use Rattle.arith.specs.inner.Roots.{Least}
 use Rattle.sheet.specs.declared.Lash.{Lash}
-use Rattle.statics.specs.Lashes.{leastFrom, lashLength}
-use Rattle.statics.specs.inner.WholeNumbers.{squares}
+use Rattle.statics.specs.Lashes.{leastFrom, squares, lashLength}
 use Rattle.sheet.specs.inner.Limits.{LashLimits}
 
 -- no number below k is a root of s, and k + more is

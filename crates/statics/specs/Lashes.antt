@@ -11,9 +11,11 @@ leastFrom s k zero = k
 leastFrom s k (suc more) = cond (leb s (k * k)) k (leastFrom s (suc k) more)
 
 -- L: the least whole millimetre with L² ≥ LX² + LY² + LZ²
+abbrev pub squares : Lash → ℕ
+squares l = l .lx * l .lx + l .ly * l .ly + l .lz * l .lz
+
 unfoldable pub lashLength : Lash → ℕ
-lashLength l =
-    leastFrom (l .lx * l .lx + l .ly * l .ly + l .lz * l .lz) 0 (l .lx * l .lx + l .ly * l .ly + l .lz * l .lz)
+lashLength l = leastFrom (squares l) 0 (squares l)
 
 -- T = modulus × area × LY × D / L², at a shift D of the hook's level
 unfoldable pub pull : Lash → Frac → Frac

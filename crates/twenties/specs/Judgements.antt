@@ -14,11 +14,11 @@ use Rattle.twenties.specs.declared.Judgement.{Judgement}
 use Rattle.twenties.specs.declared.Judgement.the-variants.{Given, Refused}
 use Rattle.twenties.specs.Tables.{table52, table53}
 
--- between two rows the one of higher acceleration is taken: row 0 is that of 350, each further row 10 higher
+-- between two rows the one of higher acceleration is taken: row 0 is that of 350, each further row 10 higher; so rounded up (RowsTaken)
 abbrev pub rowTaken : ℕ → ℕ
 rowTaken acceleration = (acceleration - 350 + 9) / 10
 
--- a table's entry at a row and a tier count, in tenths of a tonne; outside the table it reads 0
+-- a table's entry at a row and a tier count, in tenths of a tonne; a count under 3 reads as 3, past the table's end it is 0
 unfoldable pub entry : ℕ → ℕ → ℕ → ℕ
 entry table row tiers = getD (getD (cond (table is 0) table52 table53) row []) (tiers - 3) 0
 

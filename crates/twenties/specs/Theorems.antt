@@ -3,7 +3,7 @@ use Prim.Native.Nat.{ℕ, _+_, _*_, _≤_, _<_}
 use mathlib.Core.Path.{_≡_}
 use Rattle.twenties.specs.Judgements.{rowTaken, entry, permitted}
 
--- no entry of either table rises as acceleration or tier count grows; outside a table it reads 0 (proofs/Falling)
+-- no entry of either table rises as acceleration or tier count grows; past a table's end it reads 0 (proofs/Falling)
 abbrev pub Falling : Type 0
 Falling = (table row later tiers more : ℕ) → row ≤ later → tiers ≤ more → entry table later more ≤ entry table row tiers
 

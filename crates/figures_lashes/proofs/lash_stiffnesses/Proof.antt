@@ -52,11 +52,11 @@ mul-l c = search needs
 array-copy-out-l : tie.Need-array-copy-out-l Inv-loop μ-loop
 array-copy-out-l c = search needs
 
-length-of-requires : tie.Need-length-of-requires Inv-loop μ-loop
-length-of-requires c κs = lash-limits (c .before)
+search-requires : tie.Need-search-requires Inv-loop μ-loop
+search-requires c κs = lash-limits (c .before)
 
 stiffness-of-requires : tie.Need-stiffness-of-requires Inv-loop μ-loop
-stiffness-of-requires c κs = (lash-limits (c .before .before), c .length-of .ensures)
+stiffness-of-requires c κs = (lash-limits (c .before .before), c .search .ensures .1)
 
 hook-level-requires : tie.Need-hook-level-requires Inv-loop μ-loop
 hook-level-requires c κs = lash-limits (c .before .before .before)
@@ -111,7 +111,7 @@ loop-again c =
     let h = k .hook-level .ensures in
     let g = lashes-of (start (t .before)) in
     let stiff = k .before .stiffness-of .ensures in
-    let long = k .before .before .length-of .ensures in
+    let long = k .before .before .search .ensures .1 in
     rw (add-one (l .j))
     (measured-more g (l .inv) (t .loop-test .taken) (own t) stiff (omega (arith, h .0, h .1)) long (omega (arith, h .1, h .2)))
 
@@ -136,7 +136,7 @@ lash-stiffnesses-spec =
     loop-holds
     mul-l
     array-copy-out-l
-    length-of-requires
+    search-requires
     stiffness-of-requires
     hook-level-requires
     sub-at

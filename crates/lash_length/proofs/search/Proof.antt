@@ -1,12 +1,12 @@
--- `lash_length::search`: the one trial is that of `trials`, and it is not below the longest side.
+-- `lash_length::search`: the one trial is that of `trials`, it is not below the longest side, and what it finds is L.
 use Prim.Native.Nat.{ℕ}
-use mathlib.Core.Path.{_≡_}
+use mathlib.Core.Path.{_≡_, _∙_}
 use native.Mathlib.Omega.{arith}
 use borrow.Author.Needs.{needs}
 use Rattle.sheet.specs.declared.Lash.{Lash}
-use Rattle.statics.specs.inner.WholeNumbers.{squares}
+use Rattle.statics.specs.Lashes.{squares}
 use Rattle.lash_length.specs.Trials.{longest, others, nearer, guess, start, trials, found}
-use Rattle.lash_length.proofs.Trials.{start-long}
+use Rattle.lash_length.proofs.Trials.{start-long, finds}
 use Rattle.lash_length.proofs.search.Statement.{statement}
 use Rattle.lash_length.proofs.search.Tie as tie
 
@@ -41,7 +41,8 @@ returns c =
     let g = b .before .sides-of .ensures .0 in
     let l = b .before .before .args .l in
     let e : b .start-of .result ≡ start l = begun l (g .0) (g .1) (g .2) (b .start-of .ensures .0) in
-    (rw (← g .0, ← e) (c .tried .ensures .0), c .tried .ensures .1)
+    let is : c .tried .result .length ≡ found (squares l) (start l) (trials l) = rw (← g .0, ← e) (c .tried .ensures .0) in
+    ((is, c .tried .ensures .1), is ∙ finds (b .before .before .pre))
 
 pub search-spec : {M : Type 1} → statement M
 search-spec = tie.close (tie.spec sides-of-requires start-of-requires tried-requires returns)

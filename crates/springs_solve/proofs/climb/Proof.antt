@@ -1,4 +1,4 @@
--- `springs::climb` meets its contract: at each turn levels 0 to i have their shifts (Loops).
+-- `springs_solve::climb` meets its contract: at each turn levels 0 to i have their shifts (Loops).
 use Prim.Native.Nat.{_+_, _-_}
 use native.Mathlib.Omega.{arith}
 use native.Mathlib.Numerals.{add-one}

@@ -1,4 +1,4 @@
--- `springs::hand_down` meets its contract: at each turn the levels from i up have what is handed down to them (Loops).
+-- `springs_solve::hand_down` meets its contract: at each turn the levels from i up have what is handed down to them (Loops).
 use Prim.Native.Nat.{_-_}
 use native.Mathlib.Omega.{arith}
 use Rattle.springs_solve.proofs.Loops.{later, Down, down-start, down-ready, down-next}

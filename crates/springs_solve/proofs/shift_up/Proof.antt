@@ -1,4 +1,4 @@
--- `springs::shift_up` meets its contract: where nothing is held, by Unheld; else its sum and its divisor are in range by Ranges.
+-- `springs_solve::shift_up` meets its contract: where nothing is held, by Unheld; else its sum and its divisor are in range by Ranges.
 use mathlib.Core.Path.{sym}
 use Prim.Native.Nat.{_+_, _*_}
 use native.Mathlib.Nat.{mul-le-mul-right, div-le-self}

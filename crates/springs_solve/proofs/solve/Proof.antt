@@ -1,4 +1,4 @@
--- `springs::solve` returns `solved`, as its two loops do, and so keeps its promise (Solved).
+-- `springs_solve::solve` returns `solved`, as its two loops do, and so keeps its promise (Solved).
 use mathlib.Core.List.{List}
 use mathlib.Core.Path.{_≡_, refl, sym, subst}
 use Prim.Native.Nat.{ℕ}

@@ -1,4 +1,4 @@
--- `springs::stiffness_down` meets its contract: where nothing is held, by Unheld; else its product and its divisor are in range by Ranges.
+-- `springs_solve::stiffness_down` meets its contract: where nothing is held, by Unheld; else its product and its divisor are in range by Ranges.
 use mathlib.Core.Path.{sym}
 use Prim.Native.Nat.{_+_, _*_}
 use native.Mathlib.Nat.{mul-le-mul-right}

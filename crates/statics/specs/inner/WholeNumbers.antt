@@ -2,7 +2,7 @@
 -- Scales: stiffness in 2^-22 N/mm, shifts in 2^-28 mm, level loads in 2^-28 N; lash parts, rackings and post sums in 2^-18 N, moments in
 -- 2^-18 N·mm.
 use mathlib.Core.Path.{_≡_}
-use mathlib.Core.Bool.{Bool, false, cond}
+use mathlib.Core.Bool.{Bool, cond}
 use mathlib.Core.List.{List, [], _∷_}
 use Prim.Native.Nat.{ℕ, suc, _+_, _*_, _-_, _/_, _^_, _<_, _≤_, max}
 use lib.Dec.{eqb}
@@ -25,10 +25,6 @@ pub record Filled {A : Type 0} (size : ℕ) (blank : A) (n : ℕ) (P : ℕ → A
   pub long : length r ≡ size
   pub each : (i : ℕ) → i < n → getD r i blank ≡ P i
   pub rest : (i : ℕ) → n ≤ i → getD r i blank ≡ blank
-
--- LX² + LY² + LZ²
-abbrev pub squares : Lash → ℕ
-squares l = l .lx * l .lx + l .ly * l .ly + l .lz * l .lz
 
 -- mass × A_T, and 27 × length × height where exposed
 unfoldable pub transverseUnits : Tier → ℕ
