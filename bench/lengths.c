@@ -1,11 +1,14 @@
 /* Searches for a lash's length beside each other: ns a length on long rods, on short ones and on all sides, and the most trial
-   lengths that were squared for one lash. The check does the first (crates/lash_length). */
+   lengths that were squared for one lash. The check does the first (crates/lash_length). With --check, no times: what each search finds
+   for sides that are read. */
 
 #include "timing.h"
 
+#include <inttypes.h>
 #include <stdint.h>
 #include <stdio.h>
 #include <stdlib.h>
+#include <string.h>
 
 enum { LASHES = 8192, ROUNDS = 41, KINDS = 3 };
 
@@ -122,12 +125,13 @@ TIMED(halving_without_branches)
 
 static const struct {
     const char *name;
+    uint64_t (*search)(struct sides g, unsigned *squared);
     double (*time)(unsigned *most, uint64_t *total);
 } searches[] = {
-    {"two steps, one trial", time_one_trial},
-    {"two steps, a loop", time_loop},
-    {"halving", time_halving},
-    {"halving without branches", time_halving_without_branches},
+    {"two steps, one trial", one_trial, time_one_trial},
+    {"two steps, a loop", loop, time_loop},
+    {"halving", halving, time_halving},
+    {"halving without branches", halving_without_branches, time_halving_without_branches},
 };
 enum { SEARCHES = sizeof searches / sizeof searches[0] };
 
@@ -138,7 +142,20 @@ static const unsigned limits[KINDS][6] = {
     {0, 5000, 500, 10000, 500, 20000},
 };
 
-int main(void)
+/* LX, LY, LZ of a lash from each line of standard input; of each search a line with the length and how many were squared for it. */
+static int show_lengths(void)
+{
+    uint16_t side[3];
+    while (scanf("%" SCNu16 "%" SCNu16 "%" SCNu16, &side[0], &side[1], &side[2]) == 3)
+        for (int i = 0; i < SEARCHES; i++) {
+            unsigned squared = 0;
+            uint64_t length = searches[i].search(sides_of(side), &squared);
+            printf("%s: %" PRIu64 " %u\n", searches[i].name, length, squared);
+        }
+    return 0;
+}
+
+static int show_times(void)
 {
     double times[SEARCHES][KINDS];
     unsigned most[SEARCHES] = {0};
@@ -157,4 +174,14 @@ int main(void)
     for (int i = 0; i < SEARCHES; i++)
         printf("%-26s%12.1f%12.1f%12.1f%14u\n", searches[i].name, times[i][0], times[i][1], times[i][2], most[i]);
     return 0;
+}
+
+int main(int argc, char **argv)
+{
+    if (argc == 1)
+        return show_times();
+    if (argc == 2 && strcmp(argv[1], "--check") == 0)
+        return show_lengths();
+    fprintf(stderr, "usage: lengths [--check]\n");
+    return 2;
 }

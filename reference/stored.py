@@ -1,8 +1,8 @@
 #!/usr/bin/env python3
 """Writes what the programs cases, cases_twenties and lashcheck are run on, and what they must write.
 
-crates/cases/src/main.rt and crates/cases_twenties/src/main.rt say how a case and a question are laid out. A field is the size of a number of the answer and
-the least and the most that it may be; a racking to windward lies in two's complement.
+crates/cases/src/main.rt and crates/cases_twenties/src/main.rt say how a case and a question are laid out. A field is the size of a
+number of the answer and the least and the most that it may be; a racking to windward lies in two's complement.
 """
 
 import struct

@@ -1,9 +1,8 @@
 """Which entries of the two tables questions have reached, and how: on their row or between rows, below, at or above what they permit."""
 
-from collections import Counter
 from itertools import product
 
-from reference.twenties import LEAST_ACCELERATION, LEAST_TIERS, MOST_MASS, MOST_TIERS, TABLES, Verdict, row_taken, used
+from reference.twenties import LEAST_ACCELERATION, LEAST_TIERS, MOST_MASS, MOST_TIERS, TABLES, Verdict, permitted, row_taken, used
 
 SIDES = {-1: "a kilogram below", 0: "at", 1: "a kilogram above"}
 
@@ -15,30 +14,39 @@ def entries():
             yield table, int(1000 * row), tiers
 
 
+def heaviest(tiers):
+    """What legal boxes above the lowest weigh at most."""
+    return (tiers - 1) * MOST_MASS
+
+
 def heavy(table, row, tiers):
-    """Whether no legal boxes weigh what the entry permits on average."""
-    return used(table)[row_taken(table, row)][tiers] * 1000 > MOST_MASS
+    """Whether no legal boxes weigh what the entry permits."""
+    return permitted(table, row, tiers) > heaviest(tiers)
+
+
+def totals(table, row, tiers):
+    """The totals that are to be asked of an entry: about what it permits; the heaviest, if no boxes weigh so much."""
+    return [heaviest(tiers)] if heavy(table, row, tiers) else [permitted(table, row, tiers) + more for more in SIDES]
 
 
 class Reached:
     def __init__(self):
-        self.places = Counter()
+        self.places = set()
 
     def add(self, question, due):
         if isinstance(due, Verdict):
             row = int(1000 * row_taken(question.table, question.acceleration))
-            between, side = question.acceleration != row, due.total - due.permitted
-            self.places[question.table, row, len(question.masses), between, side if abs(side) <= 1 else None] += 1
+            self.places.add((question.table, row, len(question.masses), question.acceleration != row, due.total))
 
     def missed(self):
-        """Entries that no question reached as it can be: with the side None for those that no boxes weigh up to."""
+        """(table, row, tier count, whether between rows, total) that is to be asked and was not."""
         return [
-            (table, row, tiers, between, side)
+            (table, row, tiers, between, total)
             for table, row, tiers in entries()
             for between in (False, True)
             if not between or row > LEAST_ACCELERATION
-            for side in ((None,) if heavy(table, row, tiers) else SIDES)
-            if not self.places[table, row, tiers, between, side]
+            for total in totals(table, row, tiers)
+            if (table, row, tiers, between, total) not in self.places
         ]
 
     def __str__(self):

@@ -567,6 +567,12 @@ PULLS_SHOW = {
     "pull-neither": (),
 }
 
+# All of these cases, and the slips that each shows by its name.
+SHOWING = SLIPS + KILONEWTONS + TURNED + LENGTH_CASES + HOOKED + FLEET + PULLS
+SHOWN = {name: (slip,) for name, slip in SHOWN_BY.items()} | (
+    KILONEWTONS_SHOW | TURNED_SHOWS | LENGTHS_SHOW | HOOKED_SHOWS | FLEET_SHOWS | PULLS_SHOW
+)
+
 
 def slipped(name):
     return type("Slipped", (StandIn,), SLIPS_CAUGHT[name][0])()
@@ -624,14 +630,11 @@ class Comparison(unittest.TestCase):
                 self.assertTrue(fault.startswith(begins), fault)
 
     def test_named_cases_show_their_slips(self):
-        shows = KILONEWTONS_SHOW | TURNED_SHOWS | LENGTHS_SHOW | HOOKED_SHOWS | FLEET_SHOWS | PULLS_SHOW
-        shown = {name: (slip,) for name, slip in SHOWN_BY.items()} | shows
-        cases = SLIPS + KILONEWTONS + TURNED + LENGTH_CASES + HOOKED + FLEET + PULLS
-        self.assertEqual({case.name for case in cases}, set(shown))
-        for case in cases:
+        self.assertEqual({case.name for case in SHOWING}, set(SHOWN))
+        for case in SHOWING:
             due = expected(case.data)
             self.assertEqual(judge(due, StandIn()(case.data)).faults, [])
-            for slip in shown[case.name]:
+            for slip in SHOWN[case.name]:
                 with self.subTest(case.name, slip=slip):
                     self.assertTrue(judge(due, slipped(slip)(case.data)).faults)
 

@@ -3,10 +3,10 @@
 import unittest
 from pathlib import Path
 
-from reference.cases import CASES, HOOKED, SLIPS, Case, box, rod, stack
+from reference.cases import CASES, Case, box, rod, stack
 from reference.stored import FIELD, HEAD, Undecided, due, packed, stored
 from sheets.sheet import ANSWER_ROOM
-from tests.test_compare import HOOKED_SHOWS, SHOWN_BY, StandIn, slipped
+from tests.test_compare import SHOWING, SHOWN, StandIn, slipped
 
 ROOT = Path(__file__).resolve().parent.parent
 TAKEN = [case for case in CASES if case.room == ANSWER_ROOM and due(case)[2]]
@@ -52,9 +52,8 @@ class Stored(unittest.TestCase):
                 self.assertTrue(holds(due(case)[2], StandIn()(case.data)))
 
     def test_slips(self):
-        shown = {name: (slip,) for name, slip in SHOWN_BY.items()} | HOOKED_SHOWS
-        for case in SLIPS + HOOKED:
-            for slip in shown[case.name]:
+        for case in SHOWING:
+            for slip in SHOWN[case.name]:
                 with self.subTest(case.name, slip=slip):
                     self.assertFalse(holds(due(case)[2], slipped(slip)(case.data)))
 
