@@ -194,8 +194,9 @@ static inline int64_t lash_found_force(uint64_t result, const uint8_t *answer, s
    without a 40-ft box on top) or 5-3 (table 1, with one) permits. The acceleration is in thousandths of g, the masses those of the
    20-ft boxes alone in kg, lowest first; `count` is how many there are. The first number is in the low 8 bits of what is returned:
    0, or one of those below, with all other bits 0. With 0, bit 8 is set for yes, bits 16 to 39 are the total of all tiers but the
-   lowest in kg, bits 40 to 63 the permitted mass in kg, and bits 9 to 15 are 0. The caller tests nothing first. The masses are only
-   read, and none is with LASH_GUIDES; what is proved holds for a pointer that is not null. */
+   lowest in kg, bits 40 to 63 the permitted mass in kg, and bits 9 to 15 are 0. The caller tests none of these numbers first. What is
+   proved holds for `count` masses that are lent, by a pointer that is not null; they are only read. That none is read with LASH_GUIDES
+   is the order of the code's tests, which is tested and no part of what is proved. */
 uint64_t lash_twenties(uint32_t table, uint32_t acceleration, const uint32_t *masses, size_t count);
 
 enum lash_twenties_number {
