@@ -1,26 +1,29 @@
--- The two numbers of a check, told apart again from the one that they make.
+-- The two numbers of an outcome, told apart again from the one that they make.
 use Prim.Native.Nat.{ℕ, _+_, _*_, _<_, _^_}
 use mathlib.Core.List.{List}
-use mathlib.Core.Path.{_≡_, subst}
+use mathlib.Core.Path.{_≡_, subst, sym}
 use native.Mathlib.Omega.{arith}
 use Rattle.answer.specs.declared.Outcome.{Outcome}
 use Rattle.answer.specs.Checked.{Checked, number, second}
-use Rattle.answer.proofs.Numbers.{Numbers, numbers}
+use Rattle.answer.proofs.Numbers.{numbers}
 use Rattle.lash.specs.Called.{Called}
 
--- o is what the check returned, q the case that it is
-module _ {margin : ℕ} {s before after : List ℕ} {o q : Outcome} (is : o ≡ q) (c : Checked margin s before after o) where
-  small : Numbers q
-  small = subst Numbers is (numbers c)
+-- both fit the one number
+abbrev pub Fitting : Outcome → Type 0
+Fitting o = (number o < 256) × (second o < 2 ^ 56)
 
-  pub fitting : (number q < 256) × (second q < 2 ^ 56)
-  fitting = (omega (arith, small .first), omega (arith, small .next))
+abbrev pub Joined : ℕ → Outcome → Type 0
+Joined r o = r ≡ number o + 256 * second o
 
-  pub called : (r : ℕ) → r ≡ number q + 256 * second q → Called margin s before after r
-  called r e =
-      record {
-        outcome = q;
-        low = omega (arith, small .first);
-        above = omega (arith, small .first);
-        checked = subst (Checked margin s before after) is c;
-      }
+-- q is the case that the outcome o is
+pub case-fits : {o q : Outcome} → o ≡ q → Fitting o → Fitting q
+case-fits is f = subst Fitting is f
+
+pub case-joined : {o q : Outcome} → o ≡ q → (r : ℕ) → Joined r q → Joined r o
+case-joined is r e = subst (Joined r) (sym is) e
+
+pub checked-fits : {margin : ℕ} {s before after : List ℕ} {o : Outcome} → Checked margin s before after o → Fitting o
+checked-fits c = (omega (arith, numbers c .first), omega (arith, numbers c .next))
+
+pub called : {Said : Outcome → Type 0} (o : Outcome) → Said o → Fitting o → (r : ℕ) → Joined r o → Called Said r
+called o said fits r e = record { outcome = o; low = omega (arith, fits .0); above = omega (arith, fits .0); said = said }

@@ -2,7 +2,7 @@
 ghost use mathlib.Core.Bool.{cond};
 ghost use mathlib.Core.Path.{_≡_};
 ghost use Prim.Native.Nat.{_+_, _*_, _<_, _^_};
-ghost use Rattle.answer.specs.Checked.{kept};
+ghost use Rattle.answer.specs.Checked.{Checked, number, second, kept};
 ghost use Rattle.lash.specs.Called.{Called};
 ghost use Rattle.lash.specs.Told.{Told, VerdictIn};
 use answer::Outcome;
@@ -12,10 +12,18 @@ use twenties::Verdict;
 // Checks a sheet as stack_check::check does. The number is in the low 8 bits of what is returned, the second number above them.
 #[no_mangle]
 pub extern "C" fn lash_check(sheet: &[u8], answer: &mut [u8]) -> u64
-    ensures { λ r. ⌜ Called kept (now (sheet .entry)) (now (answer .entry)) (now (answer .exit)) r ⌝ }
+    ensures { λ r. ⌜ Called (Checked kept (now (sheet .entry)) (now (answer .entry)) (now (answer .exit))) r ⌝ }
 {
     let outcome = stack_check::check(sheet, answer);
-    match outcome {
+    packed_outcome(outcome)
+}
+
+// The two numbers of an outcome in one.
+fn packed_outcome(o: Outcome) -> u64
+    requires { ⌜ (number o < 256) × (second o < 2 ^ 56) ⌝ }
+    ensures { λ r. ⌜ r ≡ number o + 256 * second o ⌝ }
+{
+    match o {
         Outcome::Taken(n) => joined(0, n),
         Outcome::Refused(number, second) => joined(number, second),
     }
