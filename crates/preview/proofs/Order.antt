@@ -1,5 +1,5 @@
--- The refusals of a preview in their order, how great its two numbers are, and its margin.
-use Prim.Native.Nat.{ℕ, _-_, _<_, _≤_, _^_}
+-- The refusals of a preview in their order.
+use Prim.Native.Nat.{ℕ, _-_, _<_, _≤_}
 use mathlib.Core.Bool.{Bool, true, false, not, _||_}
 use mathlib.Core.List.{List, [], _∷_, _++_}
 use mathlib.Core.Path.{_≡_, refl, sym, ap, subst, _∙_}
@@ -11,15 +11,11 @@ use Rattle.sheet.specs.declared.Reading.the-variants.{Taken, Refused}
 use Rattle.sheet.specs.Layout.{tierCount, tierPlace, within}
 use Rattle.sheet.specs.Refusals.{Row, row, row7, row13, first, sheetRows, longestAnswer, refusalOf, refusal}
 use Rattle.sheet.proofs.Bools.{or-false}
-use Rattle.sheet.proofs.Numbers.{sheet-numbers}
 use Rattle.sheet.proofs.Refusal.{decoded-reading, sheet-refused, room-last}
 use Rattle.sheet.proofs.Rows.{no-rows, row-holds, row-passed, behind-taken, behind-refused}
-use Rattle.answer.specs.declared.Outcome.{Outcome}
-use Rattle.answer.specs.Checked.{number, second, Checked}
-use Rattle.answer.proofs.Numbers.{numbers}
-use Rattle.answer.proofs.Theorems.{theorems}
-use Rattle.preview.specs.Previews.{withMass, row17, moveRefusal, UnlessTurnedBack, Previewed}
-use Rattle.preview.specs.Theorems.{orCopy, RefusedInOrder, Wider}
+use Rattle.preview.specs.Previews.{withMass, row17, moveRefusal}
+use Rattle.preview.specs.Theorems.{orCopy, RefusedInOrder}
+use Rattle.preview.specs.inner.Moved.{massRow}
 use Rattle.preview.proofs.Copies.{this-fits, copy-taken, copy-refused}
 
 pub stack-has : (n tier : ℕ) → eqb tier 0 || ltb n tier ≡ false → (1 ≤ tier) × (tier ≤ n)
@@ -29,7 +25,7 @@ stack-has n tier e =
     (omega arith, ltb-false n tier (tests .1))
 
 module _ (s : List ℕ) (tier : ℕ) where
-  abbrev lacking : Bool
+  abbrev pub lacking : Bool
   lacking = eqb tier 0 || ltb (tierCount s) tier
 
   pub sheet-first : {n p : ℕ} → first (sheetRows s) ≡ Refused n p → moveRefusal s tier ≡ Refused n p
@@ -53,8 +49,7 @@ module _ (s : List ℕ) (taken : first (sheetRows s) ≡ Taken) (tier mass : ℕ
   abbrev copy : List ℕ
   copy = withMass tier mass s
 
-  pub copy-refusal :
-      refusal copy room ≡ first (row 7 (tierPlace (tier - 1)) (not (within 1 30480 mass)) ∷ row13 longestAnswer room ∷ [])
+  pub copy-refusal : refusal copy room ≡ first (massRow tier mass ∷ row13 longestAnswer room ∷ [])
   copy-refusal = go (within 1 30480 mass) refl
     where
       go :
@@ -93,42 +88,3 @@ refused-in-order s tier mass room small = go (first (sheetRows s)) refl
     go : (q : Reading) → first (sheetRows s) ≡ q → whole (moveRefusal s tier)
     go (Refused n p) e = subst whole (sym (sheet-first s tier e)) (sym (behind-refused (sheetRows s) behind e))
     go Taken e = of-tier e (lacking s tier) refl
-
--- the two numbers: 0 to 17, and at most 834 or a tier number of 32 bits
-module _ {margin : ℕ} {s before after : List ℕ} {tier mass : ℕ} {r : Outcome} (small : tier < 2 ^ 32)
-    (c : Previewed margin s tier mass before after r) where
-  abbrev Fitting : Type 0
-  Fitting = (number r < 256) × (second r < 2 ^ 56)
-
-  turned-back : {n p : ℕ} → moveRefusal s tier ≡ Refused n p → n < 256 → p < 2 ^ 56 → Fitting
-  turned-back e h k =
-      let t = subst (λ q. UnlessTurnedBack q before after r (Checked margin (withMass tier mass s) before after r)) e (c .holds) in
-      rw (t .refused) (h, k)
-
-  checked : moveRefusal s tier ≡ Taken → Fitting
-  checked e =
-      let k = subst (λ q. UnlessTurnedBack q before after r (Checked margin (withMass tier mass s) before after r)) e (c .holds) in
-      (omega (arith, numbers k .first), omega (arith, numbers k .next))
-
-  pub fitting : Fitting
-  fitting = go (first (sheetRows s)) refl
-    where
-      of-tier : first (sheetRows s) ≡ Taken → (b : Bool) → lacking s tier ≡ b → Fitting
-      of-tier taken true e = turned-back (lacks-tier s tier taken e) (omega arith) (omega arith)
-      of-tier taken false e = checked (has-tier s tier taken e)
-
-      go : (q : Reading) → first (sheetRows s) ≡ q → Fitting
-      go (Refused n p) e =
-          let b = sheet-numbers s e in
-          turned-back (sheet-first s tier e) (omega (arith, b .1)) (omega (arith, b .2))
-      go Taken e = of-tier e (lacking s tier) refl
-
-pub wider : Wider
-wider m n h s tier mass before after r c = record { holds = go (moveRefusal s tier) (c .holds) }
-  where
-    go :
-        (q : Reading) →
-        UnlessTurnedBack q before after r (Checked m (withMass tier mass s) before after r) →
-        UnlessTurnedBack q before after r (Checked n (withMass tier mass s) before after r)
-    go (Refused c p) k = k
-    go Taken k = theorems .checked-wider m n h (withMass tier mass s) before after r k

@@ -41,7 +41,7 @@ RefusedInOrder =
     orCopy (moveRefusal s tier) (refusal (withMass tier mass s) room) ≡
     refusalOf s (row17 s tier ∷ row7 (withMass tier mass s) (tier - 1) ∷ []) longestAnswer room
 
--- what holds within a margin holds within any wider one (proofs/Order)
+-- what holds within a margin holds within any wider one (proofs/TwoNumbers)
 abbrev pub Wider : Type 0
 Wider =
     (m n : ℕ) →

@@ -9,7 +9,7 @@ use Rattle.sheet.specs.declared.Sheet.{Sheet}
 use Rattle.sheet.specs.declared.Reading.{Reading}
 use Rattle.sheet.specs.Layout.{tierPlace, within, _is_, _above_}
 use Rattle.sheet.specs.Fits.{tierAt}
-use Rattle.sheet.specs.Refusals.{row, row13, first, longestAnswer}
+use Rattle.sheet.specs.Refusals.{Row, row, row13, first, longestAnswer}
 use Rattle.sheet.specs.inner.Changed.{withTiers}
 use Rattle.statics.specs.inner.Computed.{loadRuleOf}
 use Rattle.answer.specs.declared.Outcome.{Outcome}
@@ -39,14 +39,14 @@ abbrev pub moved : ℕ → ℕ → Sheet → Sheet
 moved k mass t = withTiers (set (t .tiers) k (weighing mass (tierAt (t .tiers) k))) t
 
 -- the answer to a decoded sheet with the new mass: 17, then 7 for the mass, then 13
+abbrev pub tierRow : Sheet → ℕ → Row
+tierRow t tier = row 17 tier (tier is 0 || tier above t .ntiers)
+
+abbrev pub massRow : ℕ → ℕ → Row
+massRow tier mass = row 7 (tierPlace (tier - 1)) (not (within 1 30480 mass))
+
 abbrev pub movedRefusal : Sheet → ℕ → ℕ → ℕ → Reading
-movedRefusal t tier mass room =
-    first (
-    row 17 tier (tier is 0 || tier above t .ntiers)
-    ∷ row 7 (tierPlace (tier - 1)) (not (within 1 30480 mass))
-    ∷ row13 longestAnswer room
-    ∷ []
-    )
+movedRefusal t tier mass room = first (tierRow t tier ∷ massRow tier mass ∷ row13 longestAnswer room ∷ [])
 
 abbrev pub movedBytes : Sheet → ℕ → ℕ → List ℕ
 movedBytes t tier mass = let copy = moved (tier - 1) mass t in answerBy (loadRuleOf copy) copy
