@@ -59,6 +59,7 @@ def box(mass=20_000, a_t=500):
 ROD = Lash(1, 0, 0, 1, 0, 2_200, 2_200, 490, 97_100, 490_000)
 HEAD = Head(1, 0, 1, 0, 500_000)
 STACK = Sheet(HEAD, (box(), box(), box()), (ROD,), (ROD,))
+ROUGH = Sheet(HEAD, (box(a_t=1_000), box(a_t=1_000), box(a_t=1_000)), (), ())
 
 
 def figures():
@@ -67,6 +68,8 @@ def figures():
     for tier in (1, 2, 3):
         for mass in (LEAST, 10_000, 20_000, MOST):
             yield f"tier-{tier}-mass-{mass}", data, Move(tier, mass)
+    for tier, mass in ((3, 10_000), (3, 20_000), (3, MOST), (2, MOST), (1, MOST)):
+        yield f"rough-sea-tier-{tier}-mass-{mass}", pack(ROUGH), Move(tier, mass)
     yield "fleet-standard", pack(replace(STACK, head=replace(HEAD, rule=2))), Move(3, MOST)
     for tier in (0, 4, 10, 11, 255, GREATEST):
         yield f"no-tier-{tier}", data, Move(tier, 10_000)
