@@ -60,16 +60,17 @@ def reply(output):
     return Reply(number + 256 * second, output)
 
 
-def lash(*words, output=b"", stdin=b"", binary=False, twenties=None):
+def lash(*words, output=b"", stdin=b"", binary=False, twenties=None, preview=None):
     """Status, output and messages of ./lash with these words, given what the program would write for the sheet, or for each, or what
-    the call for twenties would return."""
+    the call for twenties would return, or what the program would write for the sheet with a move."""
     out, err = io.TextIOWrapper(io.BytesIO(), "utf-8"), io.StringIO()
     given = mock.patch("sys.stdin", io.TextIOWrapper(io.BytesIO(stdin)))
     with contextlib.redirect_stdout(out), contextlib.redirect_stderr(err), given:
         try:
             check = output if callable(output) else lambda data: output
             judge = None if twenties is None else lambda *asked: Reply(twenties)
-            status = main([str(word) for word in words], check=lambda data: reply(check(data)), judge=judge)
+            call = None if preview is None else lambda *asked: reply(preview)
+            status = main([str(word) for word in words], check=lambda data: reply(check(data)), judge=judge, call=call)
         except SystemExit as end:
             status = end.code
     out.flush()
