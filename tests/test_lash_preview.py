@@ -73,7 +73,8 @@ class Reports(unittest.TestCase):
         self.assertEqual(data["preview"], {"tier": 3, "mass_before": 6_000, "mass_after": 20_000})
         self.assertEqual([side["accepted"] for side in (data["before"], data["after"])], [True, False])
         self.assertEqual([data[side]["stack"]["tiers"][2]["mass"] for side in ("before", "after")], [6_000, 20_000])
-        self.assertEqual([(each["name"], each["force"]) for each in data["newly_exceeded"]], [("racking", 155_391), ("compression", 848_001)])
+        newly = [(each["name"], each["force"]) for each in data["newly_exceeded"]]
+        self.assertEqual(newly, [("racking", 155_391), ("compression", 848_001)])
         self.assertEqual(data["no_longer_exceeded"], [])
 
     def test_a_sheet_is_previewed_too(self):

@@ -92,7 +92,10 @@ module _ (s : List ℕ) (tier mass : ℕ) (before : List ℕ) (d : Decoded) (is 
       abbrev bytes : List ℕ
       bytes = movedBytes (sheetOf s) tier mass
 
-      by : {q : Reading} → movedRefusal (sheetOf s) tier mass (length before) ≡ q → (r ≡ returnedAs q bytes) × (after ≡ writtenAs q bytes before)
+      by :
+          {q : Reading} →
+          movedRefusal (sheetOf s) tier mass (length before) ≡ q →
+          (r ≡ returnedAs q bytes) × (after ≡ writtenAs q bytes before)
       by e =
           subst (λ q. (r ≡ returnedAs q bytes) × (after ≡ writtenAs q bytes before)) e
           (subst (λ (t : Sheet). Answers t tier mass before after r) same h)

@@ -23,7 +23,7 @@ withMass tier mass s = take (massPlace tier) s ++ (bytes2 mass ++ drop (massPlac
 abbrev pub row17 : List ℕ → ℕ → Row
 row17 s tier = row 17 tier (tier is 0 || tier above tierCount s)
 
--- a sheet with a fault gets that refusal first, even where the new mass would mend it; after these and before the new mass is looked at, 17
+-- a sheet with a fault gets that refusal first, even where the new mass would mend it; 17 after these, before the new mass is looked at
 unfoldable pub moveRefusal : List ℕ → ℕ → Reading
 moveRefusal s tier = first (sheetRows s then row17 s tier ∷ [])
 

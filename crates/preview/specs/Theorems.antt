@@ -13,8 +13,8 @@ use Rattle.answer.specs.declared.Outcome.{Outcome}
 use Rattle.preview.specs.Previews.{massPlace, withMass, row17, moveRefusal, Previewed}
 use Rattle.preview.specs.inner.Moved.{moved}
 
--- the copy is the sheet but for the two bytes of a mass; it holds what the sheet holds, with the mass put in; a mass from 1 to 30,480 has it
--- taken, any other has it refused with 7 at its tier, and no other refusal can arise
+-- the copy is the sheet but for the two bytes of a mass, and holds what the sheet holds with the mass put in; a mass from 1 to 30,480 has
+-- it taken, any other has it refused with 7 at its tier
 pub record CopyOf (s : List ℕ) (tier mass : ℕ) : Type 0 where
   pub size : length (withMass tier mass s) ≡ length s
   pub put : le2 (withMass tier mass s) (massPlace tier) ≡ mass
