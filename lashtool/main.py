@@ -119,13 +119,17 @@ def untold(stack, options):
     return say(json.dumps(stack.as_data(), indent=2), stack.status) if options.json else stack.status
 
 
+def warn(stack):
+    for warning in warnings(stack.report) if stack.report else ():
+        complain(f"{stack.source}: warning: {warning}")
+
+
 def one(options, check):
     """A stack in full."""
     stack = tried(options.sources[0], check)
     if not stack.report:
         return untold(stack, options)
-    for warning in warnings(stack.report):
-        complain(f"{stack.source}: warning: {warning}")
+    warn(stack)
     printed = json.dumps(stack.as_data(), indent=2) if options.json else report.table(stack.report, wanted(sys.stdout))
     for name, make in ((options.write, lambda: stack.data), (options.svg, lambda: svg.picture(stack.report))):
         if name == STREAM:
@@ -144,6 +148,7 @@ def moved(options, check, call):
         found = preview.previewed(preview.read_move(options.set), stack.report, stack.data, call)
     except preview.BadMove as fault:
         return untold(Tried(stack.source, BAD_INPUT, message=str(fault)), options)
+    warn(stack)
     status = ACCEPTED if found.after.accepted else NOT_ACCEPTED
     if options.json:
         head = {"version": version(), "source": str(stack.source), "status": status}
@@ -173,8 +178,7 @@ def many(options, check):
     width = max(len(str(source)) for source in options.sources)
     for source in options.sources:
         stack = tried(source, check)
-        for warning in warnings(stack.report) if stack.report else ():
-            complain(f"{source}: warning: {warning}")
+        warn(stack)
         counts[stack.status] += 1
         status = max(status, say(json.dumps(stack.as_data()) if options.json else line(stack, width), stack.status))
     if not options.json:

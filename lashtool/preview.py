@@ -18,6 +18,10 @@ from sheets.sheet import Refused, pack
 FORM = "tier.N.mass=KG, as tier.4.mass=28000"
 MASS = field(TIER_FIELDS, "mass")
 NO_TIER, BAD_TIER = 17, 7
+NOTES = (
+    "A preview: what was read is not changed. now, then: forces as the stack stands and with the move, of a racking to windward with a "
+    "minus; used: share of the limit, rounded up to a tenth of a percent, ! over it. Figures that do not change are left out."
+)
 GREATEST_TIER, GREATEST_MASS = 2**32 - 1, 2**16 - 1  # that the call can be given
 
 
@@ -42,23 +46,22 @@ class Preview:
     before: Result
     after: Result
 
-    def exceeded(self, first, second):
-        """Findings of the second that the first does not have, by place."""
-        known = set(first.answer.findings)
-        return [figure for figure in second.findings() if (figure.end, figure.kind, figure.index) not in known]
-
     @property
     def newly(self):
-        return self.exceeded(self.before, self.after)
+        return [figure for figure in self.after.findings() if place(figure) not in self.before.answer.findings]
 
     @property
     def no_longer(self):
-        return self.exceeded(self.after, self.before)
+        return [figure for figure in self.before.findings() if place(figure) not in self.after.answer.findings]
 
     @property
     def still(self):
-        new = self.newly
-        return [figure for figure in self.after.findings() if figure not in new]
+        return [figure for figure in self.after.findings() if place(figure) in self.before.answer.findings]
+
+
+def place(figure):
+    """As a finding names it."""
+    return figure.end, figure.kind, figure.index
 
 
 # What is asked
@@ -69,14 +72,14 @@ def read_move(texts):
     if len(texts) > 1:
         raise BadMove(f"--set is given {len(texts)} times; a preview is of one box at a time")
     name, equals, value = (part.strip() for part in texts[0].partition("="))
-    place = re.fullmatch(r"tier\.([0-9]{1,12})\.(\w+)", name)
-    if not equals or not place:
+    meant = re.fullmatch(r"tier\.([0-9]{1,12})\.(\w+)", name)
+    if not equals or not meant:
         raise BadMove(f"--set is {shown(texts[0])}; it has to be {FORM}")
-    if place[2] != MASS.name:
+    if meant[2] != MASS.name:
         raise BadMove(f"--set {shown(name)}: only a tier's mass can be previewed; it has to be {FORM}")
     if not re.fullmatch(r"[0-9]{1,9}(_[0-9]{3})*", value):
         raise BadMove(f"--set {name} is {shown(value)}; it has to be a whole number, {MASS.allowed()}")
-    return Move(int(place[1]), int(value.replace("_", "")))
+    return Move(int(meant[1]), int(value.replace("_", "")))
 
 
 def number_due(move, sheet):
@@ -128,12 +131,6 @@ def table(preview, colour=False):
     return "\n\n".join("\n".join(lines) for lines in sections if lines)
 
 
-NOTES = (
-    "A preview: what was read is not changed. now, then: forces as the stack stands and with the move, of a racking to windward with a "
-    "minus; used: share of the limit, rounded up to a tenth of a percent, ! over it. Figures that stay as they are are left out."
-)
-
-
 def moved_words(preview):
     old = preview.before.sheet.tiers[preview.move.tier - 1].mass
     return f"PREVIEW of tier {preview.move.tier} with {preview.move.mass:,} kg in place of {old:,} kg"
@@ -151,8 +148,7 @@ def sides(preview, colour):
 def exceeded_lines(title, preview, figures):
     lines = []
     for figure in figures:
-        place = figure.end, figure.kind, figure.index
-        now, then = (side.figure(*place) for side in (preview.before, preview.after))
+        now, then = (side.figure(*place(figure)) for side in (preview.before, preview.after))
         change = f"now {force_words(now)}, {now.used_text}; then {force_words(then)}, {then.used_text} of {then.limit:,} N"
         lines.append(f"  {KIND_WORDS[figure.kind]}, {where(preview.after, figure)}: {change}")
     return [title, *lines] if lines else []

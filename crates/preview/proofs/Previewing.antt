@@ -1,9 +1,8 @@
 -- What `preview` gives is what Previewed and AsChecked say: the sheet's refusals, 17, then the check of the copy.
 use Prim.Native.Nat.{ℕ, _<_, _≤_}
-use mathlib.Core.Bool.{Bool, true, false, _||_}
+use mathlib.Core.Bool.{Bool, true, false}
 use mathlib.Core.List.{List}
 use mathlib.Core.Path.{_≡_, refl, sym, ap, subst, _∙_}
-use lib.Dec.{eqb, ltb}
 use lib.ListN.{length}
 use Rattle.sheet.specs.declared.Reading.{Reading}
 use Rattle.sheet.specs.declared.Reading.the-variants.{Taken, Refused}
@@ -24,7 +23,7 @@ use Rattle.answer.proofs.Named.{check-named}
 use Rattle.preview.specs.Previews.{withMass, moveRefusal, UnlessTurnedBack, Previewed}
 use Rattle.preview.specs.inner.Moved.{AsChecked, movedRefusal, movedBytes, Answers}
 use Rattle.preview.proofs.Copies.{copy-holds}
-use Rattle.preview.proofs.Order.{stack-has, sheet-first, lacks-tier, has-tier, copy-refusal}
+use Rattle.preview.proofs.Order.{stack-has, lacking, sheet-first, lacks-tier, has-tier, copy-refusal}
 
 -- a sheet's bytes s, decoded as d
 module _ (s : List ℕ) (tier mass : ℕ) (before : List ℕ) (d : Decoded) (is : d ≡ decoded s) where
@@ -86,9 +85,6 @@ module _ (s : List ℕ) (tier mass : ℕ) (before : List ℕ) (d : Decoded) (is 
 
     -- what the decoded sheet with the new mass is answered is what the check answers to the copy
     module _ {after : List ℕ} {r : Outcome} (small : mass < 65536) (h : Answers (d .sheet) tier mass before after r) where
-      abbrev lacking : Bool
-      lacking = eqb tier 0 || ltb (tierCount s) tier
-
       abbrev bytes : List ℕ
       bytes = movedBytes (sheetOf s) tier mass
 
@@ -100,13 +96,13 @@ module _ (s : List ℕ) (tier mass : ℕ) (before : List ℕ) (d : Decoded) (is 
           subst (λ q. (r ≡ returnedAs q bytes) × (after ≡ writtenAs q bytes before)) e
           (subst (λ (t : Sheet). Answers t tier mass before after r) same h)
 
-      without : lacking ≡ true → Previews after r
+      without : lacking s tier ≡ true → Previews after r
       unfolding sheetOf
       without q =
           let a = by (row-holds _ _ q) in
           by-refusal (lacks-tier s tier taken q) (record { refused = a .0; untouched = a .1 })
 
-      within-stack : lacking ≡ false → Previews after r
+      within-stack : lacking s tier ≡ false → Previews after r
       unfolding sheetOf
       within-stack q =
           let (some, has) = stack-has (tierCount s) tier q in
@@ -121,8 +117,8 @@ module _ (s : List ℕ) (tier mass : ℕ) (before : List ℕ) (d : Decoded) (is 
           )
 
       pub answered : Previews after r
-      answered = go lacking refl
+      answered = go (lacking s tier) refl
         where
-          go : (b : Bool) → lacking ≡ b → Previews after r
+          go : (b : Bool) → lacking s tier ≡ b → Previews after r
           go true q = without q
           go false q = within-stack q
