@@ -1,5 +1,6 @@
 /* Times the proved check and the same check in doubles, interleaved in one run. Reads a corpus (bench/corpus.py) and prints a line
-   a group: its number, its sheets, then medians in ns a sheet: whole check proved, in doubles, decode proved, in doubles. */
+   a group: its number, its sheets, then medians in ns a sheet: whole check proved, in doubles, decode proved, in doubles, and a preview
+   of the sheet. */
 #include "../include/lash_check.h"
 #include "doubles.h"
 #include "timing.h"
@@ -7,9 +8,18 @@
 #include <stdio.h>
 #include <stdlib.h>
 
-enum { ROUNDS = 61, GROUPS = 256, MEASURES = 4 };
+enum { ROUNDS = 61, GROUPS = 256, MEASURES = 5 };
+enum { COUNT_AT = 8, TIERS_AT = 9, TIER = 12, MASS_AT = 4 };
 
 typedef uint64_t check_call(const uint8_t *, size_t, uint8_t *, size_t);
+
+/* A preview of the mass that the top tier has: it answers as the check of the sheet does. */
+static uint64_t preview_top(const uint8_t *sheet, size_t length, uint8_t *answer, size_t room)
+{
+    uint32_t tier = sheet[COUNT_AT];
+    const uint8_t *mass = sheet + TIERS_AT + TIER * (tier - 1) + MASS_AT;
+    return lash_preview(sheet, length, tier, (uint16_t)(mass[0] | mass[1] << 8), answer, room);
+}
 
 /* A buffer one byte short is refused after the whole sheet was decoded: that times decode alone. */
 static const struct measure {
@@ -20,6 +30,7 @@ static const struct measure {
     {doubles_check, LASH_ANSWER_SIZE},
     {lash_check, LASH_ANSWER_SIZE - 1},
     {doubles_check, LASH_ANSWER_SIZE - 1},
+    {preview_top, LASH_ANSWER_SIZE},
 };
 
 struct item {

@@ -1,5 +1,6 @@
 /* The lashing check of a container stack: bytes of a stack sheet in, bytes of an answer sheet out; docs/SHEET.md has the layout
-   of both, byte by byte. And lash_twenties, for 20-ft boxes in 40-ft cell guides: numbers in, one number out.
+   of both, byte by byte. lash_preview answers for the sheet with another mass in one tier. And lash_twenties, for 20-ft boxes in
+   40-ft cell guides: numbers in, one number out.
 
    rt staticlib lash                                                      proves the check and writes target/staticlib/liblash.a
    cc -Iinclude yours.c target/staticlib/liblash.a -o yours               a program over it, on x86-64 Linux
@@ -14,9 +15,9 @@
 extern "C" {
 #endif
 
-/* The version of the header and of the library built beside it; the text is LASH_VERSION, as "0.8.0". */
+/* The version of the header and of the library built beside it; the text is LASH_VERSION, as "0.9.0". */
 #define LASH_VERSION_MAJOR 0
-#define LASH_VERSION_MINOR 8
+#define LASH_VERSION_MINOR 9
 #define LASH_VERSION_PATCH 0
 #define LASH_TEXT_(number) #number
 #define LASH_TEXT(number) LASH_TEXT_(number)
@@ -71,8 +72,8 @@ uint64_t lash_check(const uint8_t *sheet, size_t sheet_len, uint8_t *answer, siz
 static inline unsigned lash_number_of(uint64_t result) { return (unsigned)(result & 255); }
 static inline uint64_t lash_second_of(uint64_t result) { return result >> 8; }
 
-/* Readers of an answer. `result` is what lash_check returned for it. They read no byte behind the answer, and none at all after a
-   refusal. Forces are in N. */
+/* Readers of an answer. `result` is what lash_check or lash_preview returned for it. They read no byte behind the answer, and none at
+   all after a refusal. Forces are in N. */
 
 /* A force that the answer does not have: after a refusal, or at an end, tier, level or lash that there is not. It is above every
    limit, so that such a slip shows. */
@@ -189,6 +190,17 @@ static inline int64_t lash_found_force(uint64_t result, const uint8_t *answer, s
     default: return LASH_NONE;
     }
 }
+
+/* Preview of a move: what lash_check would return and write for a copy of the sheet with `mass`, in kg, as the mass of `tier`, counted
+   from 1 at the bottom. The sheet itself is only read, and no copy is made. A sheet with a fault is refused for it first, even where the
+   new mass would mend it; then a tier that the stack does not have, with LASH_NO_TIER and the tier as given; only then is the new mass
+   looked at: one outside 1 to 30,480 is refused with LASH_TIER and the offset of its tier. LASH_ROOM comes last. All else is as with
+   lash_check: the two numbers, the buffer, what the caller need not test; the readers above read the answer. */
+uint64_t lash_preview(const uint8_t *sheet, size_t sheet_len, uint32_t tier, uint16_t mass, uint8_t *answer, size_t answer_len);
+
+enum lash_preview_number {
+    LASH_NO_TIER = 17 /* the tier: 0, or above the tier count */
+};
 
 /* Twenties in forty-foot guides (CR 5.4.6(b)(ii)): whether all tiers but the lowest together weigh no more than CR Table 5-2 (table 0,
    without a 40-ft box on top) or 5-3 (table 1, with one) permits. The acceleration is in thousandths of g, the masses those of the

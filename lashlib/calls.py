@@ -11,6 +11,7 @@ from sheets.sheet import ANSWER_ROOM
 READ, NUMBERS, WRITTEN = "read", "numbers", "written"
 CALLS = {
     "lash_check": (READ, WRITTEN),
+    "lash_preview": (READ, ctypes.c_uint32, ctypes.c_uint16, WRITTEN),
     "lash_twenties": (ctypes.c_uint32, ctypes.c_uint32, NUMBERS),
 }
 POINTER_AND_LENGTH = {
@@ -67,6 +68,9 @@ class Library:
 
     def check(self, sheet, room=ANSWER_ROOM):
         return self.call("lash_check", sheet, room=room)
+
+    def preview(self, sheet, tier, mass, room=ANSWER_ROOM):
+        return self.call("lash_preview", sheet, tier, mass, room=room)
 
     def twenties(self, table, acceleration, masses):
         return self.call("lash_twenties", table, acceleration, masses, room=0)

@@ -8,8 +8,8 @@ from dataclasses import dataclass
 from pathlib import Path
 
 from lashlib.version import version
-from lashtool import report, svg, twenties
-from lashtool.checking import CheckFailed, library_check, outcome
+from lashtool import preview, report, svg, twenties
+from lashtool.checking import CheckFailed, library, library_check, outcome
 from lashtool.colour import wanted
 from lashtool.data import as_data
 from lashtool.description import BadDescription, describe
@@ -38,6 +38,7 @@ def arguments(words):
     parser.add_argument("--sheet", metavar="FILE", help="take a stack sheet's bytes instead")
     parser.add_argument("--write", metavar="FILE", help="store the sheet's bytes; - for standard output in place of the report")
     parser.add_argument("--svg", metavar="FILE", help="draw the stack with its forces; - as above")
+    parser.add_argument("--set", metavar="tier.N.mass=KG", action="append", help="preview another mass in a tier: before and after")
     parser.add_argument("--json", action="store_true", help="print the figures as JSON; of several stacks one line each")
     parser.add_argument("--template", action="store_true", help="print a commented description to start from")
     parser.add_argument("--version", action="version", version=f"lash {version()}")
@@ -112,14 +113,23 @@ def tried(source, check):
     return Tried(source, ACCEPTED if report.accepted else NOT_ACCEPTED, report, data)
 
 
+def untold(stack, options):
+    """The end of a stack that has no report."""
+    complain(f"{stack.source}: {stack.message}")
+    return say(json.dumps(stack.as_data(), indent=2), stack.status) if options.json else stack.status
+
+
+def warn(stack):
+    for warning in warnings(stack.report) if stack.report else ():
+        complain(f"{stack.source}: warning: {warning}")
+
+
 def one(options, check):
     """A stack in full."""
     stack = tried(options.sources[0], check)
     if not stack.report:
-        complain(f"{stack.source}: {stack.message}")
-        return say(json.dumps(stack.as_data(), indent=2), stack.status) if options.json else stack.status
-    for warning in warnings(stack.report):
-        complain(f"{stack.source}: warning: {warning}")
+        return untold(stack, options)
+    warn(stack)
     printed = json.dumps(stack.as_data(), indent=2) if options.json else report.table(stack.report, wanted(sys.stdout))
     for name, make in ((options.write, lambda: stack.data), (options.svg, lambda: svg.picture(stack.report))):
         if name == STREAM:
@@ -127,6 +137,23 @@ def one(options, check):
         elif name is not None:
             write(name, make())
     return say(printed, stack.status)
+
+
+def moved(options, check, call):
+    """A stack as it stands and with a move, side by side; the status is that of the verdict with the move."""
+    stack = tried(options.sources[0], check)
+    if not stack.report:
+        return untold(stack, options)
+    try:
+        found = preview.previewed(preview.read_move(options.set), stack.report, stack.data, call)
+    except preview.BadMove as fault:
+        return untold(Tried(stack.source, BAD_INPUT, message=str(fault)), options)
+    warn(stack)
+    status = ACCEPTED if found.after.accepted else NOT_ACCEPTED
+    if options.json:
+        head = {"version": version(), "source": str(stack.source), "status": status}
+        return say(json.dumps({**head, **preview.as_data(found)}, indent=2), status)
+    return say(preview.table(found, wanted(sys.stdout)), status)
 
 
 # Several stacks
@@ -151,8 +178,7 @@ def many(options, check):
     width = max(len(str(source)) for source in options.sources)
     for source in options.sources:
         stack = tried(source, check)
-        for warning in warnings(stack.report) if stack.report else ():
-            complain(f"{source}: warning: {warning}")
+        warn(stack)
         counts[stack.status] += 1
         status = max(status, say(json.dumps(stack.as_data()) if options.json else line(stack, width), stack.status))
     if not options.json:
@@ -161,8 +187,8 @@ def many(options, check):
     return status
 
 
-def main(words=None, check=None, judge=None):
-    """The exit status. `check` gives a sheet's reply in place of the library, `judge` that of twenties."""
+def main(words=None, check=None, judge=None, call=None):
+    """The exit status. `check` gives a sheet's reply in place of the library, `judge` that of twenties, `call` that of a preview."""
     words = sys.argv[1:] if words is None else words
     if words[:1] == [twenties.WORD]:
         return twenties.main(words[1:], judge)
@@ -171,6 +197,8 @@ def main(words=None, check=None, judge=None):
         return say(template().rstrip(), ACCEPTED)
     try:
         check = check or library_check(options.library)
+        if options.set:
+            return moved(options, check, call or library(options.library).preview)
         return many(options, check) if several(options) else one(options, check)
     except CheckFailed as failure:
         complain(str(failure))

@@ -50,7 +50,7 @@ def misuse(options):
     """What is wrong with the words given, if anything."""
     files = [name for name in (options.write, options.svg) if name is not None]
     if options.template:
-        return "--template goes alone" if options.sources or files or options.json else None
+        return "--template goes alone" if options.sources or files or options.json or options.set else None
     if not options.stacks and options.sheet is None:
         return "a stack is needed: a description in TOML, or --sheet with a sheet's bytes"
     if options.stacks and options.sheet is not None:
@@ -62,6 +62,8 @@ def misuse(options):
         return f"no *.toml in the folder {empty[0]}"
     if files and several(options):
         return "--write and --svg are for one stack"
+    if options.set and (files or several(options)):
+        return "--set previews a move of one stack, and goes with neither --write nor --svg"
     if "" in files:
         return "--write and --svg need a file's name"
     if files.count(STREAM) + options.json > 1 and STREAM in files:

@@ -15,10 +15,11 @@ class Made:
     data: bytes
 
 
-def make(seed):
+def make(seed, kinds=None):
     """The kinds take turns, so a run of seeds has each alike and goes through all edges."""
-    kind, turn = list(KINDS)[seed % len(KINDS)], seed // len(KINDS)
-    name, data = KINDS[kind](Random(seed), turn)
+    kinds = kinds or KINDS
+    kind, turn = list(kinds)[seed % len(kinds)], seed // len(kinds)
+    name, data = kinds[kind](Random(seed), turn)
     return Made(seed, kind, name, data)
 
 

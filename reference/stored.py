@@ -1,8 +1,8 @@
 #!/usr/bin/env python3
-"""Writes what the programs cases, cases_twenties and lashcheck are run on, and what they must write.
+"""Writes what the programs cases, cases_preview, cases_twenties and lashcheck are run on, and what they must write.
 
-crates/cases/src/main.rt and crates/cases_twenties/src/main.rt say how a case and a question are laid out. A field is the size of a
-number of the answer and the least and the most that it may be; a racking to windward lies in two's complement.
+The src/main.rt of each says how a case, a move and a question are laid out. A field is the size of a number of the answer and the
+least and the most that it may be; a racking to windward lies in two's complement.
 """
 
 import struct
@@ -14,6 +14,8 @@ sys.path.insert(0, str(ROOT))
 
 from reference.cases import CASES, may_be_named, reported_range, stands
 from reference.judge import figures
+from reference.preview import previewed, with_mass
+from reference.preview_asked import FIGURES as MOVES
 from reference.script import finish
 from reference.stack import exact
 from reference.twenties import Verdict, judge
@@ -24,6 +26,7 @@ from sheets.sheet import Refused, parse
 HEAD = struct.Struct("<BHHH")
 FIELD = struct.Struct("<BII")
 QUESTION = struct.Struct("<16I")  # table, acceleration, count, and thirteen masses of which so many count
+MOVE = struct.Struct("<IHHHH250s250s")  # tier, mass, room, lengths of the sheet and of the copy, and these
 ROOM_LIMIT = 1_024
 INPUT_LIMIT = 65_536
 
@@ -100,6 +103,38 @@ def line(case):
     return f"{case.name} {number} {second}{' inside' if listed else ''} untouched\n"
 
 
+def put_in(data, move):
+    """The copy that the check answers for, or none where the move is turned back before."""
+    try:
+        previewed(data, move.tier, move.mass, move.room)
+    except Refused:
+        return b""
+    return with_mass(data, move.tier, move.mass)
+
+
+def move_bytes(name, data, move):
+    copy = put_in(data, move)
+    if max(len(data), len(copy)) > 250:
+        raise ValueError(f"{name}: a sheet of more than 250 bytes")
+    return MOVE.pack(move.tier, move.mass, move.room, len(data), len(copy), data, copy)
+
+
+def answer_length(sheet):
+    """Of every right answer to a taken sheet."""
+    ends = exact(sheet)
+    lists = sum(4 + 4 * (tiers + levels + tensions) + 12 * lashes for tiers, levels, tensions, lashes in map(counts, ends))
+    return 2 + lists + 3 * len(list(findings_due(sheet, ends)))
+
+
+def move_line(name, data, move):
+    """What the program cases_preview must write of a move."""
+    try:
+        number, second = 0, answer_length(previewed(data, move.tier, move.mass, move.room))
+    except Refused as refused:
+        number, second = refused.number, refused.second
+    return f"{move.tier} {move.mass} {move.room} {number} {second} same\n"
+
+
 def question(table, acceleration, masses):
     """The bytes of a question on twenties; behind its masses stand ones, which would show if they were counted."""
     return QUESTION.pack(table, acceleration, len(masses), *masses, *(1,) * (13 - len(masses)))
@@ -125,6 +160,8 @@ def stored():
     return {
         "crates/cases/stdin": data,
         "crates/cases/stdout": "".join(map(line, CASES)).encode(),
+        "crates/cases_preview/stdin": b"".join(move_bytes(*moved) for moved in MOVES),
+        "crates/cases_preview/stdout": "".join(move_line(*moved) for moved in MOVES).encode(),
         "crates/cases_twenties/stdin": b"".join(question(*asked) for asked in FIGURES),
         "crates/cases_twenties/stdout": "".join(question_line(*asked) for asked in FIGURES).encode(),
         "crates/lashcheck/stdin": sample.data,

@@ -1,7 +1,8 @@
 /* The boundary of the C calls. Sheets good, damaged and random: the sheet lies in memory that can only be read and the answer buffer
    in memory of its own; unreadable pages stand right before and behind both. Each sheet is checked twice, first against the pages
    behind, then against those before, over two patterns that differ in every byte: whatever the call wrote, a byte written is told
-   from a byte left alone. Then twenties: their masses lie as the sheets do, and where no mass is to be read, on an unreadable page.
+   from a byte left alone. Each sheet is previewed the same way with a tier and a mass, and held to the check of a copy. Then twenties:
+   their masses lie as the sheets do, and where no mass is to be read, on an unreadable page.
 
    usage: boundary [--count N] [--seed N] [--dump FILE]
    Exit status 0: no fault; 1: a fault, shown with its sheet; 2: bad use, or no memory to run in. */
@@ -21,6 +22,7 @@ enum { HEAD = 8, TIER = 12, LASH = 20, MOST_TIERS = 10, MOST_LASHES = 8, LEAST_S
 enum { RULE_AT = 0, ZERO_AT = 3, LEAST_RULE = 1, MOST_RULE = 2 };
 enum { EVERY_LENGTH = 501, STRIDE = 211 }; /* no common divisor: every length has its turn */
 enum { AREA = 8192, DUMPED = 600, ENOUGH = 10000, NUMBERS = LASH_ROOM + 1 };
+enum { MASS_AT = 4 }; /* in a tier's bytes */
 enum { LEAST_TIERS_IN_GUIDES = 3, MOST_TIERS_IN_GUIDES = 11, MOST_MASS = 30480, SHEETS_A_QUESTION = 5 };
 
 /* Numbers at random, the same for the same seed. */
@@ -331,6 +333,9 @@ struct question {
 static struct sheet sheet;
 static struct question question;
 static int asking; /* about twenties, no longer about sheets */
+static int previewing;
+static uint32_t moved_tier;
+static uint16_t moved_mass;
 static unsigned long sheet_number;
 static size_t room;
 static sigjmp_buf stopped;
@@ -360,6 +365,8 @@ __attribute__((format(printf, 1, 2), noreturn)) static void fail(const char *for
         printf("FAULT: twenties: ");
     else
         printf("FAULT: sheet %lu (%s, %zu bytes, answer buffer of %zu): ", sheet_number, sheet.kind, sheet.length, room);
+    if (previewing)
+        printf("preview of tier %u, mass %u: ", moved_tier, moved_mass);
     vprintf(format, rest);
     printf(asking ? "\n  table, acceleration, count, masses " : "\n  sheet ");
     if (asking)
@@ -435,15 +442,22 @@ static int same(const uint8_t *bytes, const uint8_t *pattern, size_t from, size_
     return memcmp(bytes + from, pattern + from, to - from) == 0;
 }
 
-/* One call against the pages behind (0) or before (1); what it gave. The answer buffer begins at *at. */
-static uint64_t call(int before, size_t *at)
+/* Lays the sheet and a pattern for the answer against the pages behind (0) or before (1); where the sheet is. The answer buffer begins
+   at *at. */
+static const uint8_t *laid(int before, size_t *at)
 {
-    const uint8_t *pattern = patterns[before];
     size_t sheet_at = before ? 0 : AREA - sheet.length;
     *at = before ? 0 : AREA - room;
     memcpy(writable_sheet + sheet_at, sheet.bytes, sheet.length);
-    memcpy(guarded_answer, pattern, AREA);
-    uint64_t result = lash_check(guarded_sheet + sheet_at, sheet.length, guarded_answer + *at, room);
+    memcpy(guarded_answer, patterns[before], AREA);
+    return guarded_sheet + sheet_at;
+}
+
+/* One call; what it gave. */
+static uint64_t call(int before, size_t *at)
+{
+    const uint8_t *pattern = patterns[before], *lent = laid(before, at);
+    uint64_t result = lash_check(lent, sheet.length, guarded_answer + *at, room);
     unsigned number = lash_number_of(result);
     uint64_t second = lash_second_of(result);
     if (number != LASH_TAKEN) {
@@ -518,6 +532,82 @@ static void run(unsigned long count, FILE *out)
     for (int rule = LEAST_RULE; rule <= MOST_RULE && count >= ENOUGH; rule++)
         if (!taken_by[rule]) {
             printf("FAULT: no sheet was taken by rule %d\n", rule);
+            exit(1);
+        }
+}
+
+/* Previews. */
+
+static void make_move(void)
+{
+    static const uint32_t tiers[] = {0, 11, 255, 256 + 1, 65536 + 1, UINT32_MAX};
+    static const uint16_t masses[] = {0, 1, MOST_MASS, MOST_MASS + 1, UINT16_MAX};
+    moved_tier = below(4) ? between(1, MOST_TIERS) : tiers[below(COUNT(tiers))];
+    moved_mass = (uint16_t)(below(2) ? between(1, MOST_MASS) : masses[below(COUNT(masses))]);
+}
+
+/* What is due: `checked`, the sheet's own result in a long buffer, then 17, then what the check gives for a copy of the sheet, whose
+   answer it leaves in `answer`. */
+static uint64_t preview_due(uint64_t checked, uint8_t *answer)
+{
+    static uint8_t copy[AREA], fresh[AREA];
+    if (lash_number_of(checked) != LASH_TAKEN)
+        return checked;
+    if (moved_tier == 0 || moved_tier > sheet.bytes[HEAD])
+        return LASH_NO_TIER | (uint64_t)moved_tier << 8;
+    memcpy(copy, sheet.bytes, sheet.length);
+    put(copy + HEAD + 1 + TIER * (moved_tier - 1) + MASS_AT, 2, moved_mass);
+    uint64_t due = lash_check(copy, sheet.length, fresh, room);
+    memcpy(answer, fresh, lash_number_of(due) == LASH_TAKEN ? lash_second_of(due) : 0);
+    return due;
+}
+
+/* One preview against the pages behind (0) or before (1), held to what is due. */
+static void preview(int before, uint64_t due, const uint8_t *answer)
+{
+    size_t at;
+    const uint8_t *pattern = patterns[before], *lent = laid(before, &at);
+    uint64_t result = lash_preview(lent, sheet.length, moved_tier, moved_mass, guarded_answer + at, room);
+    size_t length = lash_number_of(result) == LASH_TAKEN ? lash_second_of(result) : 0;
+    if (result != due)
+        fail("gives %llx, %llx is due", (unsigned long long)result, (unsigned long long)due);
+    if (memcmp(guarded_answer + at, answer, length) != 0)
+        fail("the answer is not that of the copy");
+    if (!same(guarded_answer, pattern, 0, at) || !same(guarded_answer, pattern, at + length, AREA))
+        fail("a byte outside the answer of %zu bytes was written", length);
+}
+
+/* In the dump a line: preview, tier, mass, answer room, result, sheet. */
+static uint64_t check_preview(FILE *out)
+{
+    static uint8_t answer[LASH_ANSWER_SIZE], unused[LASH_ANSWER_SIZE];
+    make_move();
+    uint64_t due = preview_due(lash_check(sheet.bytes, sheet.length, unused, sizeof unused), answer);
+    previewing = 1;
+    preview(0, due, answer);
+    preview(1, due, answer);
+    previewing = 0;
+    if (out) {
+        fprintf(out, "preview %u %u %zu %llu ", moved_tier, moved_mass, room, (unsigned long long)due);
+        print_hex(out, sheet.bytes, sheet.length);
+        fputc('\n', out);
+    }
+    return due;
+}
+
+static void run_previews(unsigned long count, FILE *out)
+{
+    unsigned long tally[LASH_NO_TIER + 1] = {0};
+    for (sheet_number = 0; sheet_number < count; sheet_number++) {
+        make_sheet(&sheet, sheet_number);
+        room = choose_room();
+        tally[lash_number_of(check_preview(sheet_number < DUMPED ? out : NULL))]++;
+    }
+    printf("%lu previews, each made twice: %lu answered; refused by number 7: %lu, 13: %lu, 17: %lu\n", count, tally[LASH_TAKEN],
+           tally[LASH_TIER], tally[LASH_ROOM], tally[LASH_NO_TIER]);
+    for (int i = 0; i <= LASH_NO_TIER && count >= ENOUGH; i++)
+        if (!tally[i] && (i <= LASH_ROOM || i == LASH_NO_TIER)) {
+            printf("FAULT: no preview gave number %d\n", i);
             exit(1);
         }
 }
@@ -636,6 +726,7 @@ int main(int argc, char **argv)
     if (number)
         fail("ended by signal %d (%s)%s", number, strsignal(number), number == SIGSEGV ? ": memory that it was not lent" : "");
     run(count, out);
+    run_previews(count, out);
     run_twenties(count / SHEETS_A_QUESTION, out);
     if (out && fclose(out) != 0) {
         perror(path);

@@ -60,16 +60,17 @@ def reply(output):
     return Reply(number + 256 * second, output)
 
 
-def lash(*words, output=b"", stdin=b"", binary=False, twenties=None):
+def lash(*words, output=b"", stdin=b"", binary=False, twenties=None, preview=None):
     """Status, output and messages of ./lash with these words, given what the program would write for the sheet, or for each, or what
-    the call for twenties would return."""
+    the call for twenties would return, or what the program would write for the sheet with a move."""
     out, err = io.TextIOWrapper(io.BytesIO(), "utf-8"), io.StringIO()
     given = mock.patch("sys.stdin", io.TextIOWrapper(io.BytesIO(stdin)))
     with contextlib.redirect_stdout(out), contextlib.redirect_stderr(err), given:
         try:
             check = output if callable(output) else lambda data: output
             judge = None if twenties is None else lambda *asked: Reply(twenties)
-            status = main([str(word) for word in words], check=lambda data: reply(check(data)), judge=judge)
+            call = None if preview is None else lambda *asked: reply(preview)
+            status = main([str(word) for word in words], check=lambda data: reply(check(data)), judge=judge, call=call)
         except SystemExit as end:
             status = end.code
     out.flush()
@@ -88,6 +89,11 @@ uint64_t %s(const uint8_t *sheet, size_t sheet_len, uint8_t *answer, size_t answ
     memcpy(answer, fixed, sizeof fixed);
     return (uint64_t)sizeof fixed << 8;
 }
+uint64_t lash_preview(const uint8_t *sheet, size_t sheet_len, uint32_t tier, uint16_t mass, uint8_t *answer, size_t answer_len)
+{
+    (void)tier, (void)mass;
+    return %s(sheet, sheet_len, answer, answer_len);
+}
 uint64_t lash_twenties(uint32_t table, uint32_t acceleration, const uint32_t *masses, size_t count)
 {
     (void)table, (void)acceleration, (void)masses, (void)count;
@@ -97,8 +103,8 @@ uint64_t lash_twenties(uint32_t table, uint32_t acceleration, const uint32_t *ma
 
 
 def library_of(folder, answer, name="lash_check", twenties=0):
-    """A shared library whose call gives this answer for every sheet, and this number for all twenties."""
+    """A shared library whose call gives this answer for every sheet and every preview, and this number for all twenties."""
     source, made = folder / f"{name}.c", folder / f"{name}.so"
-    source.write_text(LIBRARY % (name, ", ".join(map(str, answer)), f"UINT64_C({twenties})"))
+    source.write_text(LIBRARY % (name, ", ".join(map(str, answer)), name, f"UINT64_C({twenties})"))
     subprocess.run(["cc", "-shared", "-fPIC", source, "-o", made], check=True)
     return made

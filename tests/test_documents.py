@@ -6,7 +6,7 @@ import sys
 import unittest
 from struct import calcsize
 
-from reference import twenties
+from reference import preview, twenties
 from reference.judge import KEPT, expected, judge
 from sheets.answer import read_answer
 from sheets.limits import (
@@ -64,12 +64,19 @@ class SheetDocument(unittest.TestCase):
         header = (ROOT / "include" / "lash_check.h").read_text()
         for title, name, numbers in (
             ("Refusals", "lash_number", list(range(1, 14))),
+            ("Refused by a preview alone", "lash_preview_number", [17]),
             ("Numbers of its refusals", "lash_twenties_number", [22, 23]),
         ):
             enum = header.split(f"enum {name}")[1].split("};")[0]
             listed = re.findall(r"LASH_\w+ = (\d+),? +/\* ([^:*]+): (.*?) \*/", enum)
             self.assertEqual([int(number) for number, *_ in listed], numbers)
             self.assertEqual([tuple(row) for row in rows(title)], listed)
+
+    def test_preview(self):
+        """The three that it tells of the example's sheet."""
+        sheet = hex_of("23 bytes:")
+        self.assertEqual(preview.with_mass(sheet, 1, 20_000), sheet)
+        self.assertEqual([preview.expected(sheet, *move).refusal for move in ((2, 0), (1, 0))], [(17, 2), (7, 9)])
 
     def test_twenties(self):
         said = twenties.packed(twenties.judge(0, 412, (24_000, 22_000, 20_000, 18_000)))

@@ -25,6 +25,7 @@ SHOWN = {
     "turned": ("accepted", []),
     "bottom-hook": ("accepted", []),
     "long-rods": ("accepted", []),
+    "last-box": ("accepted, and not with a heavier box on top", []),
     "racking": ("unacceptable racking", [(end, RACKING, 1) for end in BOTH]),
     "pulled-back": ("unacceptable racking, to windward", [(0, RACKING, 6)]),
     "stack-weight": ("unacceptable stack weight", [(end, COMPRESSION, 1) for end in BOTH]),

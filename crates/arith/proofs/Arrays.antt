@@ -1,12 +1,16 @@
 -- An array of blanks, set entry by entry from the front, is the entries and then blanks; the counted bytes of its entries.
 use Prim.Native.Nat.{ℕ, zero, suc, _+_, _-_, _<_, _≤_}
+use mathlib.Core.Bool.{Bool, true, false}
 use mathlib.Core.List.{List, [], _∷_, _++_, map, flatMap, append-assoc}
-use mathlib.Core.Path.{_≡_, refl, sym, ap, _∙_}
+use mathlib.Core.Logic.{_≢_}
+use mathlib.Core.Path.{_≡_, refl, sym, ap, ap₂, _∙_}
 use native.Mathlib.Nat.{add-zero, add-suc, suc-add, zero-add}
 use native.Mathlib.Numerals.{add-one}
 use native.Mathlib.Omega.{arith}
-use lib.ListN.{length, getD, List·getD-append, set, take, replicate, length-append, length-map, length-replicate, length-take}
-use lib.Seq.{set-at, ext-getD, getD-take}
+use borrow.Author.Tests.{eqb-true, eqb-false}
+use lib.Dec.{eqb}
+use lib.ListN.{length, getD, List·getD-append, set, take, replicate, length-append, length-map, length-replicate, length-take, length-set}
+use lib.Seq.{set-at, set-append-left, getD-set-same, getD-set-other, ext-getD, getD-take}
 use Rattle.arith.specs.Lists.{from, below, padded, counted}
 
 pub length-from : (i n : ℕ) → length (from i n) ≡ n
@@ -59,6 +63,29 @@ module _ {A : Type 0} (f : ℕ → A) (b : A) where
 
       more : map f (below (suc n)) ≡ map f (below n) ++ (f n ∷ [])
       more = entries-more 0 n ∙ ap {B = List A} (λ m. map f (below n) ++ (f m ∷ [])) (zero-add n)
+
+-- entries of which the k-th alone is other
+pub one-other :
+    {A : Type 0} (f g : ℕ → A) (b : A) (size n k : ℕ) →
+    k < n →
+    ((j : ℕ) → j < n → j ≢ k → g j ≡ f j) →
+    padded size b (map g (below n)) ≡ set (padded size b (map f (below n))) k (g k)
+one-other {A} f g b size n k h same =
+    ap₂ (λ (l : List A) (m : ℕ). l ++ replicate (size - m) b) entries (length-entries g b n ∙ sym (length-entries f b n))
+    ∙ sym (set-append-left (map f (below n)) (replicate (size - length (map f (below n))) b) k (g k) (rw (length-entries f b n) h))
+  where
+    each : (j : ℕ) → j < n → g j ≡ getD (set (map f (below n)) k (g k)) j b
+    each j q = go (eqb j k) refl
+      where
+        go : (same-place : Bool) → eqb j k ≡ same-place → g j ≡ getD (set (map f (below n)) k (g k)) j b
+        go true e = rw (eqb-true j k e) (sym (getD-set-same (map f (below n)) k (g k) b (rw (length-entries f b n) h)))
+        go false e =
+            let ne = eqb-false j k e in
+            same j q ne ∙ sym (getD-set-other (map f (below n)) k j (g k) b ne ∙ entry f b 0 n j q ∙ ap f (zero-add j))
+
+    entries : map g (below n) ≡ set (map f (below n)) k (g k)
+    entries =
+        entries-are g b (set (map f (below n)) k (g k)) n (length-set (map f (below n)) k (g k) ∙ length-entries f b n) each
 
 length-padded : {A : Type 0} (size : ℕ) (b : A) (l : List A) → length l ≤ size → length (padded size b l) ≡ size
 length-padded size b l h = simp (length-append, length-replicate) (omega arith)

@@ -2,8 +2,12 @@
 ghost use mathlib.Core.Bool.{cond};
 ghost use mathlib.Core.Path.{_≡_};
 ghost use Prim.Native.Nat.{_+_, _*_, _<_, _^_};
+ghost use lib.ListN.{length};
 ghost use Rattle.answer.specs.Checked.{Checked, number, second, kept};
+ghost use Rattle.answer.specs.inner.Named.{returned, written};
 ghost use Rattle.lash.specs.Called.{Called};
+ghost use Rattle.preview.specs.Previews.{Previewed};
+ghost use Rattle.preview.specs.inner.Moved.{AsChecked};
 ghost use Rattle.lash.specs.Told.{Told, VerdictIn};
 use answer::Outcome;
 use twenties::Judgement;
@@ -12,9 +16,21 @@ use twenties::Verdict;
 // Checks a sheet as stack_check::check does. The number is in the low 8 bits of what is returned, the second number above them.
 #[no_mangle]
 pub extern "C" fn lash_check(sheet: &[u8], answer: &mut [u8]) -> u64
-    ensures { λ r. ⌜ Called (Checked kept (now (sheet .entry)) (now (answer .entry)) (now (answer .exit))) r ⌝ }
+    ensures checked { λ r. ⌜ Called (Checked kept (now (sheet .entry)) (now (answer .entry)) (now (answer .exit))) r ⌝ }
+    ensures named { λ r. ⌜ Called (λ o. (o ≡ returned (now (sheet .entry)) (length (now (answer .entry))))
+        × (now (answer .exit) ≡ written (now (sheet .entry)) (now (answer .entry)))) r ⌝ }
 {
     let outcome = stack_check::check(sheet, answer);
+    packed_outcome(outcome)
+}
+
+// Previews a move as preview::preview does: tiers are counted from 1. What is returned is told as lash_check tells it.
+#[no_mangle]
+pub extern "C" fn lash_preview(sheet: &[u8], tier: u32, mass: u16, answer: &mut [u8]) -> u64
+    ensures previewed { λ r. ⌜ Called (Previewed kept (now (sheet .entry)) tier mass (now (answer .entry)) (now (answer .exit))) r ⌝ }
+    ensures named { λ r. ⌜ Called (AsChecked (now (sheet .entry)) tier mass (now (answer .entry)) (now (answer .exit))) r ⌝ }
+{
+    let outcome = preview::preview(sheet, tier, mass, answer);
     packed_outcome(outcome)
 }
 

@@ -10,11 +10,11 @@ use borrow.Author.Tests.{ltb-true, ltb-false, le-ltb, lt-ltb}
 use lib.Dec.{ltb}
 use lib.ListN.{length, getD, take, length-take}
 use lib.Seq.{take-all, getD-take}
-use Rattle.arith.specs.Bytes.{le2, le4, byteAt}
+use Rattle.arith.specs.Bytes.{byteAt}
 use Rattle.sheet.specs.declared.Reading.{Reading}
 use Rattle.sheet.specs.declared.Reading.the-variants.{Taken, Refused}
 use Rattle.sheet.specs.declared.Sheet.{Sheet}
-use Rattle.sheet.specs.Layout.{headOf, tierOf, lashOf, tierCount, tierPlace, lashPlace, doorPlace, closedPlace, sparePlace, sheetOf}
+use Rattle.sheet.specs.Layout.{tierOf, lashOf, tierCount, tierPlace, lashPlace, doorPlace, closedPlace, sparePlace, sheetOf}
 use Rattle.arith.specs.Lists.{from, below}
 use Rattle.sheet.specs.Refusals.{Row, row1, row2, row3, row4, row5, row6, row7, row8, row9, row10, row11, row12, row13, notLater}
 use Rattle.sheet.specs.Refusals.{first, headRows, tierCountRows, tierRows, tiersRows, lashCountRows, lashRows, endRows, doorRows}
@@ -24,6 +24,7 @@ use Rattle.sheet.proofs.Items.{count-fits}
 use Rattle.sheet.proofs.Rows.{row-holds, row-passed, orElse, first-append}
 use Rattle.sheet.proofs.Clear.{clear, few-tiers, few-lashes}
 use Rattle.sheet.proofs.Refusal.{refusal-of}
+use Rattle.sheet.proofs.SameBytes.{Agree, head-same, tier-same, lash-same}
 
 -- two readings are one refusal
 record Alike (r q : Reading) : Type 0 where
@@ -71,46 +72,14 @@ same-decoded r q t u a = rw (a .left, a .right)
 
 -- two inputs of 452 bytes or more that agree on the first 452
 module _ (s t : List ℕ) (ls : 452 ≤ length s) (lt : 452 ≤ length t) (same : (i : ℕ) → i < 452 → getD s i 0 ≡ getD t i 0) where
-  two : (at : ℕ) → at + 2 ≤ 452 → le2 s at ≡ le2 t at
-  two at h = rw (same at (omega arith), same (at + 1) (omega arith))
+  agree : (at size : ℕ) → at + size ≤ 452 → Agree s t at size
+  agree at size h i _ q = same i (omega arith)
 
-  four : (at : ℕ) → at + 4 ≤ 452 → le4 s at ≡ le4 t at
-  four at h =
-      rw (same at (omega arith), same (at + 1) (omega arith), same (at + 2) (omega arith), same (at + 2 + 1) (omega arith))
+  tier-alike : (at : ℕ) → at + 12 ≤ 452 → tierOf s at ≡ tierOf t at
+  tier-alike at h = tier-same s t at (agree at 12 h)
 
-  head-same : headOf s ≡ headOf t
-  unfolding headOf
-  head-same =
-      rw (same 0 (omega arith), same 1 (omega arith), same 2 (omega arith), same 3 (omega arith), four 4 (omega arith))
-
-  tier-same : (at : ℕ) → at + 12 ≤ 452 → tierOf s at ≡ tierOf t at
-  unfolding tierOf
-  tier-same at h =
-      rw (
-        same at (omega arith),
-        same (at + 1) (omega arith),
-        two (at + 2) (omega arith),
-        two (at + 4) (omega arith),
-        two (at + 6) (omega arith),
-        two (at + 8) (omega arith),
-        two (at + 10) (omega arith),
-      )
-
-  lash-same : (at : ℕ) → at + 20 ≤ 452 → lashOf s at ≡ lashOf t at
-  unfolding lashOf
-  lash-same at h =
-      rw (
-        same at (omega arith),
-        same (at + 1) (omega arith),
-        same (at + 2) (omega arith),
-        same (at + 3) (omega arith),
-        two (at + 4) (omega arith),
-        two (at + 6) (omega arith),
-        two (at + 8) (omega arith),
-        two (at + 10) (omega arith),
-        four (at + 12) (omega arith),
-        four (at + 16) (omega arith),
-      )
+  lash-alike : (at : ℕ) → at + 20 ≤ 452 → lashOf s at ≡ lashOf t at
+  lash-alike at h = lash-same s t at (agree at 20 h)
 
   count-same : tierCount s ≡ tierCount t
   count-same = same 8 (omega arith)
@@ -118,7 +87,7 @@ module _ (s t : List ℕ) (ls : 452 ≤ length s) (lt : 452 ≤ length t) (same 
   head-rows : first (headRows s) ≡ first (headRows t)
   head-rows =
       enough s ls 0 8 (omega arith) (row3 s ∷ row4 s ∷ row5 s ∷ [])
-      ∙ rw head-same (sym (enough t lt 0 8 (omega arith) (row3 t ∷ row4 t ∷ row5 t ∷ [])))
+      ∙ rw (head-same s t (agree 0 8 (omega arith))) (sym (enough t lt 0 8 (omega arith) (row3 t ∷ row4 t ∷ row5 t ∷ [])))
 
   count-rows : first (tierCountRows s) ≡ first (tierCountRows t)
   count-rows =
@@ -127,7 +96,7 @@ module _ (s t : List ℕ) (ls : 452 ≤ length s) (lt : 452 ≤ length t) (same 
   tier-rows : (k : ℕ) → k < 10 → first (tierRows s k) ≡ first (tierRows t k)
   tier-rows k h =
       enough s ls (tierPlace k) 12 (omega arith) (row7 s k ∷ row8 s k ∷ [])
-      ∙ rw (tier-same (tierPlace k) (omega arith), tier-same 9 (omega arith))
+      ∙ rw (tier-alike (tierPlace k) (omega arith), tier-alike 9 (omega arith))
       (sym (enough t lt (tierPlace k) 12 (omega arith) (row7 t k ∷ row8 t k ∷ [])))
 
   few : first (tierCountRows s) ≡ Taken → tierCount s ≤ 10
@@ -144,12 +113,12 @@ module _ (s t : List ℕ) (ls : 452 ≤ length s) (lt : 452 ≤ length t) (same 
   unfolding notLater
   later-same at zero h = refl
   later-same at (suc k) h =
-      rw (lash-same (lashPlace at k) (omega (arith, h)), lash-same (lashPlace at (suc k)) (omega (arith, h)))
+      rw (lash-alike (lashPlace at k) (omega (arith, h)), lash-alike (lashPlace at (suc k)) (omega (arith, h)))
 
   lash-rows : (n at k : ℕ) → at ≤ 290 → k < 8 → first (lashRows n s at k) ≡ first (lashRows n t at k)
   lash-rows n at k b h =
       enough s ls (lashPlace at k) 20 fit (row10 s at k ∷ row11 n s at k ∷ row12 s at k ∷ [])
-      ∙ rw (lash-same (lashPlace at k) fit, later-same at k fit)
+      ∙ rw (lash-alike (lashPlace at k) fit, later-same at k fit)
       (sym (enough t lt (lashPlace at k) 20 fit (row10 t at k ∷ row11 n t at k ∷ row12 t at k ∷ [])))
     where
       fit : lashPlace at k + 20 ≤ 452

@@ -6,6 +6,7 @@ pub mod SheetLimits
 pub mod Refusal
 pub mod Routes
 pub mod FirstBytes
+pub mod OtherTiers
 pub mod Numbers
 pub mod RoundTrip
 pub mod WrittenBytes
@@ -14,5 +15,6 @@ pub mod Rows
 pub mod Items
 pub mod Clear
 pub mod Bools
+pub mod SameBytes
 mod ReadBack
 mod Examples

@@ -3,12 +3,13 @@ use Prim.Native.Nat.{ℕ, zero, suc, _+_, _-_, _<_, _≤_}
 use mathlib.Core.Bool.{Bool, true, false, cond}
 use mathlib.Core.List.{List, [], _∷_, _++_, flatMap}
 use mathlib.Core.Path.{_≡_, refl, ap, _∙_}
+use native.Mathlib.Nat.{add-zero, suc-add, add-suc, zero-add}
 use native.Mathlib.Numerals.{add-one}
 use native.Mathlib.Omega.{arith}
 use Rattle.sheet.specs.declared.Reading.{Reading}
 use Rattle.sheet.specs.declared.Reading.the-variants.{Taken, Refused}
 use Rattle.sheet.specs.Layout.{sparePlace}
-use Rattle.arith.specs.Lists.{from}
+use Rattle.arith.specs.Lists.{from, below}
 use Rattle.sheet.specs.Refusals.{Row, first, row2, headRows, tiersRows, doorRows, closedRows, endsRows, sheetRows}
 
 pub no-rows : first [] ≡ Taken
@@ -72,6 +73,31 @@ module _ (f : ℕ → List Row) (k n : ℕ) where
   pub no-entry-left : n ≤ k → first (rest k) ≡ Taken
   unfolding first flatMap from
   no-entry-left h = rw (none-left k n h)
+
+-- of rows of entries i, i + 1, .. the first that turn back are those of entry i + k
+first-refused-from :
+    (f : ℕ → List Row) (i left k : ℕ) {n p : ℕ} →
+    k < left →
+    ((j : ℕ) → j < k → first (f (i + j)) ≡ Taken) →
+    first (f (i + k)) ≡ Refused n p →
+    first (flatMap f (from i left)) ≡ Refused n p
+unfolding flatMap from
+first-refused-from f i zero k h before e = absurd (omega (arith, h))
+first-refused-from f i (suc left) zero h before e = behind-refused (f i) (flatMap f (from (suc i) left)) (rw (add-zero i) at e)
+first-refused-from f i (suc left) (suc k) h before e =
+    behind-taken (f i) (flatMap f (from (suc i) left)) (rw (add-zero i) at (before 0 (omega arith)))
+    ∙ first-refused-from f (suc i) left k (omega (arith, h))
+    (λ j q. rw (suc-add i j, ← add-suc i j) (before (suc j) (omega (arith, q))))
+    (rw (suc-add i k, ← add-suc i k) e)
+
+pub first-refused :
+    (f : ℕ → List Row) (count k : ℕ) {n p : ℕ} →
+    k < count →
+    ((j : ℕ) → j < k → first (f j) ≡ Taken) →
+    first (f k) ≡ Refused n p →
+    first (flatMap f (below count)) ≡ Refused n p
+first-refused f count k h before e =
+    first-refused-from f 0 count k h (λ j q. rw (zero-add j) (before j q)) (rw (zero-add k) e)
 
 -- the parts of a sheet
 module _ (s : List ℕ) where

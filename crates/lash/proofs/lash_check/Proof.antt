@@ -16,7 +16,10 @@ same-length c = search needs
 returns : tie.Need-returns
 returns c =
     let k = c .before .before .before .check in
-    called (k .result) (k .ensures .0) (checked-fits (k .ensures .0)) (c .packed-outcome .result) (c .packed-outcome .ensures)
+    let e = k .ensures in
+    let fits = checked-fits (e .0) in
+    let p = c .packed-outcome in
+    (called (k .result) (e .0) fits (p .result) (p .ensures), called (k .result) (e .1) fits (p .result) (p .ensures))
 
 pub lash-check-spec : {M : Type 1} → statement M
 lash-check-spec = tie.close (tie.spec check-requires packed-outcome-requires same-length returns)

@@ -1,0 +1,3 @@
+pub mod Previews
+pub mod Theorems
+pub mod inner
