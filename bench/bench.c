@@ -1,6 +1,6 @@
 /* Times the proved check and the same check in doubles, interleaved in one run. Reads a corpus (bench/corpus.py) and prints a line
-   a group: its number, its sheets, then medians in ns a sheet: whole check proved, in doubles, decode proved, in doubles, and a preview
-   of the sheet. */
+   a group: its number, its sheets, then medians in ns a sheet: whole check proved, in doubles, decode proved, in doubles, a preview of
+   the sheet, and the check by a forecast. */
 #include "../include/lash_check.h"
 #include "doubles.h"
 #include "timing.h"
@@ -8,7 +8,7 @@
 #include <stdio.h>
 #include <stdlib.h>
 
-enum { ROUNDS = 61, GROUPS = 256, MEASURES = 5 };
+enum { ROUNDS = 61, GROUPS = 256, MEASURES = 6 };
 enum { COUNT_AT = 8, TIERS_AT = 9, TIER = 12, MASS_AT = 4 };
 
 typedef uint64_t check_call(const uint8_t *, size_t, uint8_t *, size_t);
@@ -21,6 +21,12 @@ static uint64_t preview_top(const uint8_t *sheet, size_t length, uint8_t *answer
     return lash_preview(sheet, length, tier, (uint16_t)(mass[0] | mass[1] << 8), answer, room);
 }
 
+/* The check by a forecast whose factor, 0.765, takes as many comparisons as any. */
+static uint64_t by_forecast(const uint8_t *sheet, size_t sheet_len, uint8_t *answer, size_t answer_len)
+{
+    return lash_forecast(sheet, sheet_len, 365, 2500, 48, answer, answer_len);
+}
+
 /* A buffer one byte short is refused after the whole sheet was decoded: that times decode alone. */
 static const struct measure {
     check_call *call;
@@ -31,6 +37,7 @@ static const struct measure {
     {lash_check, LASH_ANSWER_SIZE - 1},
     {doubles_check, LASH_ANSWER_SIZE - 1},
     {preview_top, LASH_ANSWER_SIZE},
+    {by_forecast, LASH_ANSWER_SIZE},
 };
 
 struct item {

@@ -1,12 +1,15 @@
-/* Checks the stack sheet in a file and says the result in words.
+/* Checks the stack sheet in a file, with three numbers more by the forecast of a short voyage, and says the result in words.
    Exit status 0: accepted; 1: not accepted; 2: refused, or no sheet to read.
 
-   cc examples/check.c target/staticlib/liblash.a -o check        after `rt staticlib lash`, in the repository's folder */
+   cc examples/check.c target/staticlib/liblash.a -o check        after `rt staticlib lash`, in the repository's folder
+   ./check SHEET
+   ./check SHEET 300 2500 48                                      wave height and breadth in cm, voyage in hours */
 #include "../include/lash_check.h"
 
 #include <errno.h>
 #include <inttypes.h>
 #include <stdio.h>
+#include <stdlib.h>
 #include <string.h>
 
 enum { ACCEPTED = 0, NOT_ACCEPTED = 1, NO_ANSWER = 2 };
@@ -30,6 +33,8 @@ static const struct {
     [LASH_PLACE] = {"tier 0 or above the tier count, or bottom corner of tier 1", "offset of the lash"},
     [LASH_ORDER] = {"not later than the lash before it at the same end", "offset of the lash"},
     [LASH_ROOM] = {"the answer buffer is too short", "the bytes it must have"},
+    [LASH_WITH_ROUTE] = {"a forecast on a route other than 0", "always 0"},
+    [LASH_NO_FORECAST] = {"a voyage of 72 hours or more, or a breadth of 0", "always 0"},
 };
 
 /* By kind of finding: the force, where it stands, and what it exceeds. */
@@ -45,7 +50,7 @@ static const struct {
     [LASH_OVER_ATHWART] = {"athwart part", "lash", "its limit"},
 };
 
-/* A checked sheet: what lash_check returned and the answer's bytes. */
+/* A checked sheet: what the call returned and the answer's bytes. */
 struct checked {
     uint64_t result;
     uint8_t answer[LASH_ANSWER_SIZE];
@@ -127,17 +132,36 @@ static int read_sheet(const char *path, uint8_t *sheet, size_t *length)
     return !failed;
 }
 
+/* Wave height, breadth and hours, as far as the call can be given them. */
+static int read_forecast(char **words, unsigned long *numbers)
+{
+    static const unsigned long most[] = {UINT16_MAX, UINT16_MAX, UINT32_MAX};
+    for (int i = 0; i < 3; i++) {
+        char *end = words[i];
+        errno = 0;
+        numbers[i] = words[i][0] >= '0' && words[i][0] <= '9' ? strtoul(words[i], &end, 10) : 0;
+        if (end == words[i] || *end != '\0' || errno || numbers[i] > most[i])
+            return 0;
+    }
+    return 1;
+}
+
 int main(int argc, char **argv)
 {
     uint8_t sheet[LASH_SHEET_SIZE + 1];
+    unsigned long weather[3];
     struct checked c;
     size_t length;
-    if (argc != 2) {
-        fprintf(stderr, "usage: check SHEET, a file with the bytes of a stack sheet\n");
+    if (argc != 2 && !(argc == 5 && read_forecast(argv + 2, weather))) {
+        fprintf(stderr, "usage: check SHEET [WAVE_HEIGHT BREADTH HOURS], a file with the bytes of a stack sheet, and a forecast\n");
         return NO_ANSWER;
     }
     if (!read_sheet(argv[1], sheet, &length))
         return NO_ANSWER;
-    c.result = lash_check(sheet, length, c.answer, sizeof c.answer);
+    if (argc == 2)
+        c.result = lash_check(sheet, length, c.answer, sizeof c.answer);
+    else
+        c.result = lash_forecast(sheet, length, (uint16_t)weather[0], (uint16_t)weather[1], (uint32_t)weather[2], c.answer,
+                                 sizeof c.answer);
     return lash_number_of(c.result) == LASH_TAKEN ? print_answer(&c) : print_refusal(c.result);
 }

@@ -1,6 +1,6 @@
 /* The lashing check of a container stack: bytes of a stack sheet in, bytes of an answer sheet out; docs/SHEET.md has the layout
-   of both, byte by byte. lash_preview answers for the sheet with another mass in one tier. And lash_twenties, for 20-ft boxes in
-   40-ft cell guides: numbers in, one number out.
+   of both, byte by byte. lash_preview answers for the sheet with another mass in one tier, lash_forecast for a short voyage by its
+   forecast. And lash_twenties, for 20-ft boxes in 40-ft cell guides: numbers in, one number out.
 
    rt staticlib lash                                                      proves the check and writes target/staticlib/liblash.a
    cc -Iinclude yours.c target/staticlib/liblash.a -o yours               a program over it, on x86-64 Linux
@@ -15,9 +15,9 @@
 extern "C" {
 #endif
 
-/* The version of the header and of the library built beside it; the text is LASH_VERSION, as "0.9.0". */
+/* The version of the header and of the library built beside it; the text is LASH_VERSION, as "0.10.0". */
 #define LASH_VERSION_MAJOR 0
-#define LASH_VERSION_MINOR 9
+#define LASH_VERSION_MINOR 10
 #define LASH_VERSION_PATCH 0
 #define LASH_TEXT_(number) #number
 #define LASH_TEXT(number) LASH_TEXT_(number)
@@ -72,8 +72,8 @@ uint64_t lash_check(const uint8_t *sheet, size_t sheet_len, uint8_t *answer, siz
 static inline unsigned lash_number_of(uint64_t result) { return (unsigned)(result & 255); }
 static inline uint64_t lash_second_of(uint64_t result) { return result >> 8; }
 
-/* Readers of an answer. `result` is what lash_check or lash_preview returned for it. They read no byte behind the answer, and none at
-   all after a refusal. Forces are in N. */
+/* Readers of an answer. `result` is what lash_check, lash_preview or lash_forecast returned for it. They read no byte behind the
+   answer, and none at all after a refusal. Forces are in N. */
 
 /* A force that the answer does not have: after a refusal, or at an end, tier, level or lash that there is not. It is above every
    limit, so that such a slip shows. */
@@ -228,6 +228,19 @@ static inline int64_t lash_twenties_permitted(uint64_t result)
 {
     return lash_number_of(result) == LASH_TAKEN ? (int64_t)(result >> 40) : 0;
 }
+
+/* Short voyages by forecast (CR 5.2.4(d)): the check of a sheet of route 0 with a factor by the weather in place of the route factor.
+   Wave height H and breadth B are in centimetres, the voyage in hours. The factor in thousandths is the least whole t with t - 400 at
+   least 1,000 x H / (20 x the root of B), kept within 600 and 1,000; at 1,000 the call returns and writes what lash_check does. What
+   is returned and written, and what holds of the buffers, is as with lash_check, and the readers above read it; the sheet's own
+   refusals come first, then the two below, then LASH_ROOM. The caller tests nothing first. */
+uint64_t lash_forecast(const uint8_t *sheet, size_t sheet_len, uint16_t wave_height, uint16_t breadth, uint32_t hours, uint8_t *answer,
+                       size_t answer_len);
+
+enum lash_forecast_number {
+    LASH_WITH_ROUTE = 20,  /* 0: a route other than 0 */
+    LASH_NO_FORECAST = 21  /* 0: a voyage of 72 hours or more, or a breadth of 0 */
+};
 
 #ifdef __cplusplus
 }

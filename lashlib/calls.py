@@ -13,6 +13,7 @@ CALLS = {
     "lash_check": (READ, WRITTEN),
     "lash_preview": (READ, ctypes.c_uint32, ctypes.c_uint16, WRITTEN),
     "lash_twenties": (ctypes.c_uint32, ctypes.c_uint32, NUMBERS),
+    "lash_forecast": (READ, ctypes.c_uint16, ctypes.c_uint16, ctypes.c_uint32, WRITTEN),
 }
 POINTER_AND_LENGTH = {
     READ: (ctypes.c_char_p, ctypes.c_size_t),
@@ -74,6 +75,9 @@ class Library:
 
     def twenties(self, table, acceleration, masses):
         return self.call("lash_twenties", table, acceleration, masses, room=0)
+
+    def forecast(self, sheet, wave_height, breadth, hours, room=ANSWER_ROOM):
+        return self.call("lash_forecast", sheet, wave_height, breadth, hours, room=room)
 
 
 def lent(kind, value):

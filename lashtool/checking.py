@@ -21,9 +21,10 @@ def library(path=None):
         raise CheckFailed(f"the library cannot be loaded: {error}") from None
 
 
-def library_check(path=None):
-    """The library's check, from a sheet's bytes to its reply."""
-    return library(path).check
+def library_check(path=None, forecast=None):
+    """The library's check, from a sheet's bytes to its reply; the one by a forecast, if there is one."""
+    calls = library(path)
+    return (lambda data: calls.forecast(data, *forecast.numbers)) if forecast else calls.check
 
 
 def outcome(data, reply):

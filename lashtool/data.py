@@ -37,7 +37,7 @@ def stack_data(outcome):
     return {
         "rule": head.rule,
         "rule_name": RULES[head.rule],
-        "route": {"number": head.route, "name": ROUTES[head.route], "A_T_percent": ROUTE_PERCENT[head.route]},
+        **factor_data(head, outcome.forecast),
         "lock": {
             "material": word(LOCK_FIELDS, head, "lock_material"),
             "breaking_load": head.lock_breaking,
@@ -49,6 +49,13 @@ def stack_data(outcome):
         "tiers": [{"tier": n, **fields_data(TIER_FIELDS, tier)} for n, tier in enumerate(sheet.tiers, 1)],
         "lashes": [lash_data(sheet, row) for row in outcome.listed()],
     }
+
+
+def factor_data(head, forecast):
+    """What A_T is multiplied by: the route's factor, or the forecast's in its place."""
+    if forecast:
+        return {"forecast": forecast.as_data()}
+    return {"route": {"number": head.route, "name": ROUTES[head.route], "A_T_percent": ROUTE_PERCENT[head.route]}}
 
 
 def fields_data(fields, entry):

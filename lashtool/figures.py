@@ -84,6 +84,7 @@ class Result:
     assumed: list
     numbers: tuple  # of the lashes of each end, as a person counts them
     figures: dict  # Figure by (end, kind, index)
+    forecast: object = None  # whose factor stands in place of the route's
 
     @property
     def accepted(self):
@@ -133,10 +134,10 @@ class Result:
         return greatest(self.figure(end, kind, index) for kind in LASH_KINDS)
 
 
-def result(title, sheet, answer, assumed, numbers=None):
+def result(title, sheet, answer, assumed, numbers=None, forecast=None):
     """Without numbers from a description, lashes count from 1 at each end in the sheet's order."""
     numbers = numbers or tuple(tuple(range(1, len(sheet.lashes(end)) + 1)) for end in range(2))
-    return Result(title, sheet, answer, assumed, numbers, figures(sheet, answer))
+    return Result(title, sheet, answer, assumed, numbers, figures(sheet, answer), forecast)
 
 
 def figures(sheet, answer):

@@ -16,9 +16,13 @@ from lashtool.description import BadDescription, describe
 from lashtool.ending import ACCEPTED, BAD_INPUT, FAILED, NOT_ACCEPTED, complain, reason, say
 from lashtool.fields import CLASS_RULE
 from lashtool.figures import result
+from lashtool.forecast import HELP as FORECAST_HELP
+from lashtool.forecast import OPTION as FORECAST
+from lashtool.forecast import forecast
 from lashtool.refusals import explain
 from lashtool.sources import STREAM, Source, misuse, read, several, sources
 from lashtool.template import template
+from lashtool.values import BadValue, failed
 from lashtool.words import KIND_WORDS, rule_words, warnings, where
 from sheets.sheet import Refused, pack
 
@@ -27,7 +31,7 @@ HELP = (
     "or of a folder of *.toml, a line each with the worst use of a limit. `lash twenties --help` tells of 20-ft boxes in 40-ft guides."
 )
 STATUS_HELP = (
-    "Exit status: 0 accepted, 1 not accepted, 2 refused or a bad description, "
+    "Exit status: 0 accepted, 1 not accepted, 2 refused, or a bad description, move or forecast, "
     "3 the check could not be built or run, or a file not be written; of several stacks the greatest."
 )
 
@@ -40,6 +44,7 @@ def arguments(words):
     parser.add_argument("--svg", metavar="FILE", help="draw the stack with its forces; - as above")
     parser.add_argument("--set", metavar="tier.N.mass=KG", action="append", help="preview another mass in a tier: before and after")
     parser.add_argument("--json", action="store_true", help="print the figures as JSON; of several stacks one line each")
+    parser.add_argument(FORECAST, metavar="H,B,HOURS", help=FORECAST_HELP)
     parser.add_argument("--template", action="store_true", help="print a commented description to start from")
     parser.add_argument("--version", action="version", version=f"lash {version()}")
     parser.add_argument("--library", type=Path, help=argparse.SUPPRESS)
@@ -69,15 +74,15 @@ def load(source):
     return pack(description.sheet), (description.title, description.assumed, description.numbers)
 
 
-def checked(source, check):
-    """The report of a stack and its sheet's bytes. Raises what stands against one."""
+def checked(source, check, weather):
+    """The report of a stack, by the forecast if there is one, and its sheet's bytes. Raises what stands against one."""
     data, (title, assumed, numbers) = load(source)
     try:
         sheet, answer = outcome(data, check(data))
     except Refused as refused:
         refused.meaning = explain(data, refused.number, refused.second)
         raise
-    return result(title, sheet, answer, assumed, numbers), data
+    return result(title, sheet, answer, assumed, numbers, weather), data
 
 
 @dataclass(frozen=True)
@@ -99,10 +104,10 @@ class Tried:
         return {**head, **({"refused": self.numbers} if self.numbers else {"error": self.message})}
 
 
-def tried(source, check):
+def tried(source, check, weather):
     """A stack checked, with what stands against a report in words."""
     try:
-        report, data = checked(source, check)
+        report, data = checked(source, check, weather)
     except Refused as refused:
         numbers = {"number": refused.number, "second": refused.second, "meaning": refused.meaning}
         return Tried(source, BAD_INPUT, message=f"refused with {refused}: {refused.meaning}", numbers=numbers)
@@ -126,7 +131,7 @@ def warn(stack):
 
 def one(options, check):
     """A stack in full."""
-    stack = tried(options.sources[0], check)
+    stack = tried(options.sources[0], check, options.forecast)
     if not stack.report:
         return untold(stack, options)
     warn(stack)
@@ -141,7 +146,7 @@ def one(options, check):
 
 def moved(options, check, call):
     """A stack as it stands and with a move, side by side; the status is that of the verdict with the move."""
-    stack = tried(options.sources[0], check)
+    stack = tried(options.sources[0], check, options.forecast)
     if not stack.report:
         return untold(stack, options)
     try:
@@ -177,13 +182,14 @@ def many(options, check):
     counts, status = Counter(), ACCEPTED
     width = max(len(str(source)) for source in options.sources)
     for source in options.sources:
-        stack = tried(source, check)
+        stack = tried(source, check, options.forecast)
         warn(stack)
         counts[stack.status] += 1
         status = max(status, say(json.dumps(stack.as_data()) if options.json else line(stack, width), stack.status))
     if not options.json:
         words = ", ".join(f"{count} {VERDICTS[each]}" for each, count in sorted(counts.items()))
-        status = max(status, say(f"{counts.total()} stacks: {words}", status))
+        weather = f" by {options.forecast}" if options.forecast else ""
+        status = max(status, say(f"{counts.total()} stacks{weather}: {words}", status))
     return status
 
 
@@ -196,11 +202,12 @@ def main(words=None, check=None, judge=None, call=None):
     if options.template:
         return say(template().rstrip(), ACCEPTED)
     try:
-        check = check or library_check(options.library)
+        options.forecast = forecast(options.forecast)
+        check = check or library_check(options.library, options.forecast)
         if options.set:
             return moved(options, check, call or library(options.library).preview)
         return many(options, check) if several(options) else one(options, check)
+    except BadValue as fault:
+        return failed(options, str(fault), BAD_INPUT)
     except CheckFailed as failure:
-        complain(str(failure))
-        data = {"version": version(), "status": FAILED, "error": str(failure)}
-        return say(json.dumps(data, indent=2), FAILED) if options.json else FAILED
+        return failed(options, str(failure), FAILED)

@@ -3,10 +3,13 @@
 from lashtool.fields import (
     ENDS, HEAD_FIELDS, LASH_FIELDS, LOCK_FIELDS, TIER_FIELDS, field, lash_place,
 )
+from lashtool.forecast import with_route
 from sheets.sheet import (
     HEAD, HEAD_LIMITS, HEIGHTS, LASH, MOST_LASHES, MOST_TIERS, TIER, TIER_LIMITS, Head, Lash, Refused, Tier,
     lash_faults, outside, parse, sheet_order, tier_faults,
 )
+
+WITH_ROUTE = 20  # of the check by a forecast
 
 
 def items(data):
@@ -33,7 +36,9 @@ def count_at(data, place):
 def explain(data, number, second):
     """The meaning of a refusal, naming the place and the field."""
     try:
-        parse(data)
+        sheet = parse(data)
+        if number == WITH_ROUTE and sheet.head.route:
+            return with_route(sheet.head.route)
     except Refused as due:
         if (due.number, due.second) == (number, second):
             return EXPLANATIONS[number](data, second)

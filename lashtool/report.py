@@ -8,7 +8,7 @@ from lashtool.fields import ENDS, LASH_FIELDS, TIER_FIELDS, lash_place, word
 from lashtool.figures import CALM, LASH_KINDS, OVER, greatest
 from lashtool.geometry import foot_height, lash_length
 from lashtool.words import (
-    KIND_WORDS, NOT_CHECKED, ONE_PULL_WORDS, PAD_WORDS, assumed_words, ends_words, force_words, lock_words, route_words,
+    FORECAST_WORDS, KIND_WORDS, NOT_CHECKED, ONE_PULL_WORDS, PAD_WORDS, assumed_words, ends_words, force_words, lock_words, route_words,
     rule_notes, stack_words, stiffness_words, verdict_words, warnings, way_words, where, worst_words,
 )
 from sheets.limits import (
@@ -81,7 +81,8 @@ def checked(outcome):
     """What was checked, as the check read it."""
     sheet = outcome.sheet
     words = (
-        stack_words(sheet), route_words(sheet.head), lock_words(sheet.head), stiffness_words(sheet), assumed_words(outcome),
+        stack_words(sheet), route_words(sheet.head, outcome.forecast), lock_words(sheet.head), stiffness_words(sheet),
+        assumed_words(outcome),
     )
     return [
         *bulleted("CHECKED", [line for line in words if line]),
@@ -198,6 +199,7 @@ def notes(outcome):
     """How to read the figures."""
     texts = [
         *rule_notes(outcome.sheet.head),
+        *([FORECAST_WORDS] if outcome.forecast else []),
         "Forces in N. Level 0 is the deck, level i the top of tier i; compression on the deck is reported only. "
         "Racking is to leeward unless marked.",
         "used: share of the limit, rounded up to a tenth of a percent; the bar is of the row's greatest: "

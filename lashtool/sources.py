@@ -50,7 +50,8 @@ def misuse(options):
     """What is wrong with the words given, if anything."""
     files = [name for name in (options.write, options.svg) if name is not None]
     if options.template:
-        return "--template goes alone" if options.sources or files or options.json or options.set else None
+        others = options.sources or files or options.json or options.set or options.forecast is not None
+        return "--template goes alone" if others else None
     if not options.stacks and options.sheet is None:
         return "a stack is needed: a description in TOML, or --sheet with a sheet's bytes"
     if options.stacks and options.sheet is not None:
@@ -64,6 +65,8 @@ def misuse(options):
         return "--write and --svg are for one stack"
     if options.set and (files or several(options)):
         return "--set previews a move of one stack, and goes with neither --write nor --svg"
+    if options.set and options.forecast is not None:
+        return "--set previews a move by the route, and does not go with --forecast"
     if "" in files:
         return "--write and --svg need a file's name"
     if files.count(STREAM) + options.json > 1 and STREAM in files:

@@ -93,7 +93,7 @@ def draw_head(drawing, outcome, width):
     drawing.text(MARGIN, 44, shown, **{"font-size": 22, "font-weight": "bold"})
     head = outcome.sheet.head
     drawing.text(MARGIN, 68, f"Worst use of a limit: {worst_words(outcome)}", **{"font-size": 14, "font-weight": "bold"})
-    drawing.text(MARGIN, 88, f"{stack_words(outcome.sheet)}; {route_words(head)}", **{"font-size": 13})
+    drawing.text(MARGIN, 88, f"{stack_words(outcome.sheet)}; {route_words(head, outcome.forecast)}", **{"font-size": 13})
     drawing.text(MARGIN, 106, f"{lock_words(head)}; {stiffness_words(outcome.sheet)}", **{"font-size": 13})
     fill, colour = (PAPER, INK) if outcome.accepted else (BARS[OVER], PAPER)
     badge = 300

@@ -2,7 +2,6 @@
 
 import argparse
 import json
-import re
 from dataclasses import dataclass
 from fractions import Fraction
 from math import ceil
@@ -10,9 +9,9 @@ from pathlib import Path
 
 from lashlib.version import version
 from lashtool.checking import CheckFailed, library
-from lashtool.description import shown
-from lashtool.ending import ACCEPTED, BAD_INPUT, FAILED, NOT_ACCEPTED, complain, say
+from lashtool.ending import ACCEPTED, BAD_INPUT, FAILED, NOT_ACCEPTED, say
 from lashtool.report import aligned, bulleted
+from lashtool.values import BadValue, failed, number
 
 WORD = "twenties"
 HELP = (
@@ -31,10 +30,6 @@ NOTES = (
     "Not covered: cones, their strength and that of the boxes, the second stack in the cell, the guides and the tank top. No class "
     "society has certified this program.",
 )
-
-
-class BadValue(Exception):
-    """A value that cannot be asked with, named by its option."""
 
 
 @dataclass(frozen=True)
@@ -67,16 +62,6 @@ def arguments(words):
     parser.add_argument("--json", action="store_true", help="print the figures as JSON")
     parser.add_argument("--library", type=Path, help=argparse.SUPPRESS)
     return parser.parse_args(words)
-
-
-def number(name, text, allowed, unit):
-    """A whole number within its range."""
-    words = f"a whole number of {unit} from {allowed[0]:,} to {allowed[-1]:,}"
-    if not re.fullmatch(r"[0-9]{1,12}", text.strip()):
-        raise BadValue(f"{name} is {shown(text)}; it has to be {words}")
-    if int(text) not in allowed:
-        raise BadValue(f"{name} is {int(text):,}; it has to be {words}")
-    return int(text)
 
 
 def asked(options):
@@ -134,13 +119,6 @@ def as_data(asked, verdict, status):
         "table": TABLES[asked.table].split(",")[0].removeprefix("CR Table "), "forty_on_top": bool(asked.table),
         "acceleration": asked.acceleration, "row": asked.row, "entry_tonnes": entry(asked, verdict) / 10, "masses": list(asked.masses),
     }
-
-
-def failed(options, message, status):
-    complain(message)
-    if options.json:
-        return say(json.dumps({"version": version(), "status": status, "error": message}, indent=2), status)
-    return status
 
 
 def main(words, judge=None):

@@ -41,6 +41,13 @@ FLEET_WORDS = (
 )
 
 
+FORECAST_WORDS = (
+    "By forecast (CR 5.2.4(d)): the wave height is the greatest significant one forecast for the whole voyage and 12 hours more, swell "
+    "included. It is taken as given, and so is the rest of what CR asks of such a voyage: the ship's notation, the report's source and "
+    "age, watching the weather, refuges."
+)
+
+
 def counted(number, noun):
     return f"{number} {noun}" if number == 1 else f"{number} {noun}s"
 
@@ -68,8 +75,10 @@ def rule_notes(head):
     return [FLEET_WORDS] if head.rule == FLEET_STANDARD else []
 
 
-def route_words(head):
-    return f"{rule_words(head)}; route {head.route}, {ROUTES[head.route]}: A_T x {ROUTE_PERCENT[head.route] / 100:.2f}"
+def route_words(head, forecast=None):
+    """The rule, and what A_T is multiplied by: the route's factor, or the forecast's in its place."""
+    route = f"route {head.route}, {ROUTES[head.route]}: A_T x {ROUTE_PERCENT[head.route] / 100:.2f}"
+    return f"{rule_words(head)}; {forecast or route}"
 
 
 def lock_safe_load(head):

@@ -27,9 +27,14 @@ THOUSAND = 1000  # accelerations are in thousandths of g
 PERCENT = 100
 
 
-def transverse(tier, route):
-    """F = 0.5 × W × A_T × route factor, W = mass × 9.81."""
-    return UNIT * tier.mass * GRAVITY * tier.a_t * ROUTE_PERCENT[route] // (2 * PERCENT * THOUSAND * PERCENT)
+def route_factor(route):
+    """In thousandths."""
+    return ROUTE_PERCENT[route] * THOUSAND // PERCENT
+
+
+def transverse(tier, factor):
+    """F = 0.5 × W × A_T × route factor, or another in its place, in thousandths; W = mass × 9.81."""
+    return UNIT * tier.mass * GRAVITY * tier.a_t * factor // (2 * PERCENT * THOUSAND * THOUSAND)
 
 
 def vertical(tier, thousandths):
@@ -52,9 +57,11 @@ class Loads:
     least: tuple  # and by A_Vmin
 
 
-def loads(sheet):
-    tiers, route, share = sheet.tiers, sheet.head.route, SHARE_TO_TOP[sheet.head.rule]
-    f, p = [transverse(tier, route) for tier in tiers], [wind(tier) for tier in tiers]
+def loads(sheet, factor=None):
+    """By the sheet's route, or by a factor in thousandths in place of the route's."""
+    tiers, share = sheet.tiers, SHARE_TO_TOP[sheet.head.rule]
+    factor = route_factor(sheet.head.route) if factor is None else factor
+    f, p = [transverse(tier, factor) for tier in tiers], [wind(tier) for tier in tiers]
     levels = range(len(tiers) + 1)
     return Loads(
         tuple(racking_load(f, p, index, share) for index in range(len(tiers))),
@@ -235,7 +242,7 @@ def exact_end(sheet, end, borne=None):
     )
 
 
-def exact(sheet):
-    """Both ends, door first."""
-    borne = loads(sheet)
+def exact(sheet, factor=None):
+    """Both ends, door first; by the sheet's route, or by a factor in thousandths in its place."""
+    borne = loads(sheet, factor)
     return exact_end(sheet, DOOR, borne), exact_end(sheet, CLOSED, borne)

@@ -1,5 +1,5 @@
 #!/usr/bin/env python3
-"""Writes what the programs cases, cases_preview, cases_twenties and lashcheck are run on, and what they must write.
+"""Writes what the programs cases, cases_preview, cases_twenties, cases_forecast and lashcheck are run on, and what they must write.
 
 The src/main.rt of each says how a case, a move and a question are laid out. A field is the size of a number of the answer and the
 least and the most that it may be; a racking to windward lies in two's complement.
@@ -12,6 +12,7 @@ from pathlib import Path
 ROOT = Path(__file__).resolve().parent.parent
 sys.path.insert(0, str(ROOT))
 
+from reference import forecast, forecast_asked
 from reference.cases import CASES, may_be_named, reported_range, stands
 from reference.judge import figures
 from reference.preview import previewed, with_mass
@@ -27,6 +28,7 @@ HEAD = struct.Struct("<BHHH")
 FIELD = struct.Struct("<BII")
 QUESTION = struct.Struct("<16I")  # table, acceleration, count, and thirteen masses of which so many count
 MOVE = struct.Struct("<IHHHH250s250s")  # tier, mass, room, lengths of the sheet and of the copy, and these
+FORECAST = struct.Struct("<HHIHIIH")  # wave height, breadth, hours, room, least and most of a racking, length of the sheet
 ROOM_LIMIT = 1_024
 INPUT_LIMIT = 65_536
 
@@ -66,9 +68,9 @@ def findings_due(sheet, ends):
         yield check.end, check.kind, check.index
 
 
-def fields(sheet):
+def fields(sheet, factor=None):
     """What the answer of a taken sheet holds: (size, least, most) of each of its numbers."""
-    ends = exact(sheet)
+    ends = exact(sheet, factor)
     found = list(findings_due(sheet, ends))
     yield byte(1 if found else 0)
     for end in ends:
@@ -78,14 +80,19 @@ def fields(sheet):
         yield from map(byte, finding)
 
 
-def due(case):
-    """What the check must return for a case, and the fields of its answer."""
+def given(read, factor=None):
+    """What a call must return that reads its sheet so, and the fields of its answer."""
     try:
-        sheet = parse(case.data, case.room)
+        sheet = read()
     except Refused as refused:
         return refused.number, refused.second, []
-    listed = list(fields(sheet))
+    listed = list(fields(sheet, factor))
     return 0, sum(size for size, _, _ in listed), listed
+
+
+def due(case):
+    """What the check must return for a case, and the fields of its answer."""
+    return given(lambda: parse(case.data, case.room))
 
 
 def packed(case):
@@ -150,6 +157,27 @@ def question_line(table, acceleration, masses):
     return f"{table} {acceleration} {len(masses)} {words}\n"
 
 
+def forecast_due(asked):
+    """The same of a check by a forecast."""
+    factor = forecast.factor(asked.wave_height, asked.breadth) if asked.breadth else None
+    return given(lambda: forecast.taken(asked.data, asked.breadth, asked.hours, asked.room), factor)
+
+
+def forecast_question(asked):
+    """The bytes of a question by a forecast; behind verdict and count the third field is the racking of tier 1 at the door end."""
+    _, _, listed = forecast_due(asked)
+    _, least, most = listed[2] if listed else byte(0)
+    return FORECAST.pack(*asked.forecast, asked.room, least, most, len(asked.data)) + asked.data
+
+
+def forecast_line(asked):
+    """What the program cases_forecast must write of a question."""
+    number, second, listed = forecast_due(asked)
+    words = f"taken {second} {listed[0][1]} inside" if listed else f"refused {number} {second}"
+    factor = f" factor {forecast.factor(asked.wave_height, asked.breadth)}" if asked.breadth else ""
+    return f"{asked.wave_height} {asked.breadth} {asked.hours}{factor} {words}\n"
+
+
 def stored():
     """The bytes of each file, by its path from the top."""
     data = b"".join(map(packed, CASES))
@@ -164,6 +192,8 @@ def stored():
         "crates/cases_preview/stdout": "".join(move_line(*moved) for moved in MOVES).encode(),
         "crates/cases_twenties/stdin": b"".join(question(*asked) for asked in FIGURES),
         "crates/cases_twenties/stdout": "".join(question_line(*asked) for asked in FIGURES).encode(),
+        "crates/cases_forecast/stdin": b"".join(map(forecast_question, forecast_asked.FIGURES)),
+        "crates/cases_forecast/stdout": "".join(map(forecast_line, forecast_asked.FIGURES)).encode(),
         "crates/lashcheck/stdin": sample.data,
         "crates/lashcheck/stdout": b"%d %d\n" % (number, second),
     }

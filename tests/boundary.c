@@ -1,8 +1,9 @@
 /* The boundary of the C calls. Sheets good, damaged and random: the sheet lies in memory that can only be read and the answer buffer
    in memory of its own; unreadable pages stand right before and behind both. Each sheet is checked twice, first against the pages
    behind, then against those before, over two patterns that differ in every byte: whatever the call wrote, a byte written is told
-   from a byte left alone. Each sheet is previewed the same way with a tier and a mass, and held to the check of a copy. Then twenties:
-   their masses lie as the sheets do, and where no mass is to be read, on an unreadable page.
+   from a byte left alone. Each sheet is previewed the same way with a tier and a mass, and held to the check of a copy. Then forecasts,
+   a fifth as many, on sheets of their own in the same way; beside each the greatest factor, by which the call must do what the check
+   does. Then twenties: their masses lie as the sheets do, and where no mass is to be read, on an unreadable page.
 
    usage: boundary [--count N] [--seed N] [--dump FILE]
    Exit status 0: no fault; 1: a fault, shown with its sheet; 2: bad use, or no memory to run in. */
@@ -19,9 +20,9 @@
 #include <unistd.h>
 
 enum { HEAD = 8, TIER = 12, LASH = 20, MOST_TIERS = 10, MOST_LASHES = 8, LEAST_SHEET = 23 };
-enum { RULE_AT = 0, ZERO_AT = 3, LEAST_RULE = 1, MOST_RULE = 2 };
+enum { RULE_AT = 0, ROUTE_AT = 1, ZERO_AT = 3, LEAST_RULE = 1, MOST_RULE = 2 };
 enum { EVERY_LENGTH = 501, STRIDE = 211 }; /* no common divisor: every length has its turn */
-enum { AREA = 8192, DUMPED = 600, ENOUGH = 10000, NUMBERS = LASH_ROOM + 1 };
+enum { AREA = 8192, DUMPED = 600, ENOUGH = 10000, NUMBERS = LASH_ROOM + 1, SHEETS_A_FORECAST = 5, LEAST_HOURS_REFUSED = 72 };
 enum { MASS_AT = 4 }; /* in a tier's bytes */
 enum { LEAST_TIERS_IN_GUIDES = 3, MOST_TIERS_IN_GUIDES = 11, MOST_MASS = 30480, SHEETS_A_QUESTION = 5 };
 
@@ -330,7 +331,14 @@ struct question {
     size_t count; /* of masses, but for a count that is none as many as there are */
 };
 
+/* Wave height and breadth in cm, the voyage in hours. */
+struct forecast {
+    uint16_t wave_height, breadth;
+    uint32_t hours;
+};
+
 static struct sheet sheet;
+static const struct forecast *weather; /* none: the plain check */
 static struct question question;
 static int asking; /* about twenties, no longer about sheets */
 static int previewing;
@@ -367,6 +375,8 @@ __attribute__((format(printf, 1, 2), noreturn)) static void fail(const char *for
         printf("FAULT: sheet %lu (%s, %zu bytes, answer buffer of %zu): ", sheet_number, sheet.kind, sheet.length, room);
     if (previewing)
         printf("preview of tier %u, mass %u: ", moved_tier, moved_mass);
+    if (!asking && weather)
+        printf("by forecast %u %u %u: ", weather->wave_height, weather->breadth, weather->hours);
     vprintf(format, rest);
     printf(asking ? "\n  table, acceleration, count, masses " : "\n  sheet ");
     if (asking)
@@ -388,6 +398,8 @@ static void catch_signals(void)
 }
 
 /* What a call may give. */
+
+static int no_forecast(void) { return weather->hours >= LEAST_HOURS_REFUSED || weather->breadth == 0; }
 
 static int refusal_possible(unsigned number, uint64_t second, size_t length)
 {
@@ -415,6 +427,10 @@ static int refusal_possible(unsigned number, uint64_t second, size_t length)
         return second > HEAD + TIER + 1 && second + LASH <= length && second + LASH <= LASH_SHEET_SIZE;
     case LASH_ROOM:
         return second == LASH_ANSWER_SIZE && room < LASH_ANSWER_SIZE;
+    case LASH_WITH_ROUTE:
+        return second == 0 && weather && sheet.bytes[ROUTE_AT] != 0;
+    case LASH_NO_FORECAST:
+        return second == 0 && weather && no_forecast() && sheet.bytes[ROUTE_AT] == 0;
     default:
         return 0;
     }
@@ -457,7 +473,9 @@ static const uint8_t *laid(int before, size_t *at)
 static uint64_t call(int before, size_t *at)
 {
     const uint8_t *pattern = patterns[before], *lent = laid(before, at);
-    uint64_t result = lash_check(lent, sheet.length, guarded_answer + *at, room);
+    uint8_t *written = guarded_answer + *at;
+    uint64_t result = weather ? lash_forecast(lent, sheet.length, weather->wave_height, weather->breadth, weather->hours, written, room)
+                              : lash_check(lent, sheet.length, written, room);
     unsigned number = lash_number_of(result);
     uint64_t second = lash_second_of(result);
     if (number != LASH_TAKEN) {
@@ -469,6 +487,8 @@ static uint64_t call(int before, size_t *at)
     }
     if (room < LASH_ANSWER_SIZE || second > LASH_ANSWER_SIZE)
         fail("taken with an answer of %llu bytes", (unsigned long long)second);
+    if (weather && (no_forecast() || sheet.bytes[ROUTE_AT] != 0))
+        fail("taken on route %u", sheet.bytes[ROUTE_AT]);
     if (!head_begins_well(sheet.bytes))
         fail("taken by rule %u, with %u in the zero byte", sheet.bytes[RULE_AT], sheet.bytes[ZERO_AT]);
     if (!answer_possible(guarded_answer + *at, second))
@@ -476,6 +496,16 @@ static uint64_t call(int before, size_t *at)
     if (!same(guarded_answer, pattern, 0, *at) || !same(guarded_answer, pattern, *at + second, AREA))
         fail("taken, and a byte outside the answer of %llu bytes was written", (unsigned long long)second);
     return result;
+}
+
+/* What a sheet that is free of faults must give: by a forecast 20, then 21; then a short buffer. */
+static uint64_t own_due(void)
+{
+    if (weather && sheet.bytes[ROUTE_AT] != 0)
+        return LASH_WITH_ROUTE;
+    if (weather && no_forecast())
+        return LASH_NO_FORECAST;
+    return room < LASH_ANSWER_SIZE ? LASH_ROOM | (uint64_t)LASH_ANSWER_SIZE << 8 : LASH_TAKEN;
 }
 
 /* Both calls on the sheet; the answer of the second stands at the start of the guarded memory. */
@@ -489,16 +519,18 @@ static uint64_t check_sheet(void)
     uint64_t second = call(1, &at);
     if (first != second || memcmp(answer, guarded_answer + at, length) != 0)
         fail("two calls on the same sheet differ: %llx and %llx", (unsigned long long)first, (unsigned long long)second);
-    uint64_t due = sheet.due == LASH_TAKEN && room < LASH_ANSWER_SIZE ? LASH_ROOM | (uint64_t)LASH_ANSWER_SIZE << 8 : sheet.due;
+    uint64_t due = sheet.due == LASH_TAKEN ? own_due() : sheet.due;
     if (sheet.known && due != (lash_number_of(first) == LASH_TAKEN ? LASH_TAKEN : first))
         fail("gives %u, %u is due", lash_number_of(first), lash_number_of(due));
     return first;
 }
 
-/* A line: answer room, number, second number, sheet, answer. */
+/* A line: `forecast` with its three numbers, if it is one; answer room, number, second number, sheet, answer. */
 static void dump(FILE *out, uint64_t result)
 {
     int taken = lash_number_of(result) == LASH_TAKEN;
+    if (weather)
+        fprintf(out, "forecast %u %u %u ", weather->wave_height, weather->breadth, weather->hours);
     fprintf(out, "%zu %u %llu ", room, lash_number_of(result), (unsigned long long)lash_second_of(result));
     print_hex(out, sheet.bytes, sheet.length);
     fputc(' ', out);
@@ -610,6 +642,60 @@ static void run_previews(unsigned long count, FILE *out)
             printf("FAULT: no preview gave number %d\n", i);
             exit(1);
         }
+}
+
+/* Forecasts. */
+
+static struct forecast make_forecast(void)
+{
+    static const uint16_t breadths[] = {0, 1, 2500, UINT16_MAX};
+    static const uint32_t hours[] = {0, 71, 72, 73, UINT16_MAX + 1, UINT32_MAX};
+    struct forecast made;
+    made.wave_height = (uint16_t)(below(8) ? below(1000) : below(2) ? UINT16_MAX : below(UINT16_MAX));
+    made.breadth = (uint16_t)(below(4) ? between(1000, 6000) : breadths[below(COUNT(breadths))]);
+    made.hours = below(4) ? below(LEAST_HOURS_REFUSED) : hours[below(COUNT(hours))];
+    return made;
+}
+
+/* At the greatest factor, on route 0, the answer and what is returned are the check's. */
+static void compare_with_check(void)
+{
+    static const struct forecast heavy_weather = {UINT16_MAX, 1, 0};
+    static uint8_t answer[AREA];
+    size_t at;
+    weather = &heavy_weather;
+    uint64_t by_forecast = call(0, &at);
+    memcpy(answer, guarded_answer, AREA);
+    weather = NULL;
+    uint64_t by_check = call(0, &at);
+    if (sheet.length > ROUTE_AT && sheet.bytes[ROUTE_AT] == 0 && (by_forecast != by_check || memcmp(answer, guarded_answer, AREA) != 0))
+        fail("with a factor of 1,000 gives %llx, the check %llx", (unsigned long long)by_forecast, (unsigned long long)by_check);
+}
+
+static void run_forecasts(unsigned long count, FILE *out)
+{
+    unsigned long tally[LASH_NO_FORECAST + 1] = {0};
+    for (sheet_number = 0; sheet_number < count; sheet_number++) {
+        make_sheet(&sheet, sheet_number);
+        if (below(4) && sheet.length > ROUTE_AT && sheet.bytes[ROUTE_AT] <= 12)
+            sheet.bytes[ROUTE_AT] = 0;
+        room = choose_room();
+        compare_with_check();
+        struct forecast made = make_forecast();
+        weather = &made;
+        uint64_t result = check_sheet();
+        tally[lash_number_of(result)]++;
+        if (out && sheet_number < DUMPED)
+            dump(out, result);
+        weather = NULL;
+    }
+    printf("%lu forecasts, each checked twice: %lu taken; refused by number 13: %lu, 20: %lu, 21: %lu\n", count, tally[LASH_TAKEN],
+           tally[LASH_ROOM], tally[LASH_WITH_ROUTE], tally[LASH_NO_FORECAST]);
+    if (count >= ENOUGH / SHEETS_A_FORECAST &&
+        !(tally[LASH_TAKEN] && tally[LASH_ROOM] && tally[LASH_WITH_ROUTE] && tally[LASH_NO_FORECAST])) {
+        printf("FAULT: no forecast gave one of these\n");
+        exit(1);
+    }
 }
 
 /* Twenties. */
@@ -727,6 +813,7 @@ int main(int argc, char **argv)
         fail("ended by signal %d (%s)%s", number, strsignal(number), number == SIGSEGV ? ": memory that it was not lent" : "");
     run(count, out);
     run_previews(count, out);
+    run_forecasts(count / SHEETS_A_FORECAST, out);
     run_twenties(count / SHEETS_A_QUESTION, out);
     if (out && fclose(out) != 0) {
         perror(path);

@@ -94,6 +94,12 @@ uint64_t lash_preview(const uint8_t *sheet, size_t sheet_len, uint32_t tier, uin
     (void)tier, (void)mass;
     return %s(sheet, sheet_len, answer, answer_len);
 }
+uint64_t lash_forecast(const uint8_t *sheet, size_t sheet_len, uint16_t wave_height, uint16_t breadth, uint32_t hours, uint8_t *answer,
+                       size_t answer_len)
+{
+    (void)wave_height, (void)breadth, (void)hours;
+    return answer_len < 834 ? 13 | 834 << 8 : %s(sheet, sheet_len, answer, answer_len);
+}
 uint64_t lash_twenties(uint32_t table, uint32_t acceleration, const uint32_t *masses, size_t count)
 {
     (void)table, (void)acceleration, (void)masses, (void)count;
@@ -103,8 +109,8 @@ uint64_t lash_twenties(uint32_t table, uint32_t acceleration, const uint32_t *ma
 
 
 def library_of(folder, answer, name="lash_check", twenties=0):
-    """A shared library whose call gives this answer for every sheet and every preview, and this number for all twenties."""
+    """A shared library whose call gives this answer for every sheet, preview and forecast, and this number for all twenties."""
     source, made = folder / f"{name}.c", folder / f"{name}.so"
-    source.write_text(LIBRARY % (name, ", ".join(map(str, answer)), name, f"UINT64_C({twenties})"))
+    source.write_text(LIBRARY % (name, ", ".join(map(str, answer)), name, name, f"UINT64_C({twenties})"))
     subprocess.run(["cc", "-shared", "-fPIC", source, "-o", made], check=True)
     return made

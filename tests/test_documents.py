@@ -7,6 +7,7 @@ import unittest
 from struct import calcsize
 
 from reference import preview, twenties
+from reference.forecast import factor
 from reference.judge import KEPT, expected, judge
 from sheets.answer import read_answer
 from sheets.limits import (
@@ -65,6 +66,7 @@ class SheetDocument(unittest.TestCase):
         for title, name, numbers in (
             ("Refusals", "lash_number", list(range(1, 14))),
             ("Refused by a preview alone", "lash_preview_number", [17]),
+            ("Refused by a forecast alone", "lash_forecast_number", [20, 21]),
             ("Numbers of its refusals", "lash_twenties_number", [22, 23]),
         ):
             enum = header.split(f"enum {name}")[1].split("};")[0]
@@ -77,6 +79,9 @@ class SheetDocument(unittest.TestCase):
         sheet = hex_of("23 bytes:")
         self.assertEqual(preview.with_mass(sheet, 1, 20_000), sheet)
         self.assertEqual([preview.expected(sheet, *move).refusal for move in ((2, 0), (1, 0))], [(17, 2), (7, 9)])
+
+    def test_forecast(self):
+        self.assertIn(f"Breadth 2,500 and wave height 300 give {factor(300, 2_500)}.", TEXT)
 
     def test_twenties(self):
         said = twenties.packed(twenties.judge(0, 412, (24_000, 22_000, 20_000, 18_000)))

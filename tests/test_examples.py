@@ -6,6 +6,7 @@ from dataclasses import replace
 from lashtool.description import describe
 from lashtool.template import template
 from reference.cases import HOOKED
+from reference.forecast import factor
 from reference.stack import exact, lash_length
 from sheets.limits import (
     COMPRESSION, CORNER, LASH_TENSION, LOCK, RACKING, checks, findings,
@@ -34,6 +35,7 @@ SHOWN = {
     "lock": ("unacceptable tension in the locks", [(end, LOCK, 0) for end in BOTH]),
     "two-limits": ("unacceptable tension in the locks, and in the corners too", [(end, LOCK, 0) for end in BOTH]),
     "lash-force": ("unacceptable lash force", [(0, LASH_TENSION, 0)]),
+    "feeder": ("unacceptable corner tension, but accepted by forecast", [(1, CORNER, 0)]),
     "fleet-standard": ("unacceptable corner tension by the fleet standard", [(1, CORNER, 0)]),
 }
 
@@ -72,6 +74,12 @@ class Examples(unittest.TestCase):
         sheet = sheet_of("route")
         unrestricted = replace(sheet, head=replace(sheet.head, route=0))
         self.assertEqual(findings(unrestricted, exact(unrestricted)), [(1, CORNER, 0)])
+
+    def test_the_forecast_decides(self):
+        sheet = sheet_of("feeder")
+        ends = exact(sheet, factor(300, 2_500))
+        self.assertEqual(findings(sheet, ends), [])
+        self.assertFalse([c for c in checks(sheet, ends) if c.limit - 100 < c.size])
 
     def test_the_turn_decides(self):
         """With no box turned it is the stack of lash-force; with all of them the wire at the other end is overloaded."""

@@ -11,7 +11,8 @@ from reference.cases import HEAD, HOOKED
 from reference.cases import ROD_S as S
 from reference.samples import extreme, realistic
 from reference.stack import (
-    UNIT, equations, exact, in_tension, lash_forces, lash_length, loads, racking_load as load_by_share, shifts, transverse, vertical, wind,
+    UNIT, equations, exact, in_tension, lash_forces, lash_length, loads, racking_load as load_by_share, route_factor, shifts, transverse,
+    vertical, wind,
 )
 from sheets.answer import BadAnswer, End, LashForces, read_answer
 from sheets.limits import checks, findings, safe_working_load
@@ -85,7 +86,7 @@ class Figures(unittest.TestCase):
         self.assertEqual(wind(B), 0)
 
     def test_j_route_seven(self):
-        self.assertEqual(newtons(transverse(B, 7)), Fraction("35806.5"))
+        self.assertEqual(newtons(transverse(B, route_factor(7))), Fraction("35806.5"))
 
 
 class Turned(unittest.TestCase):
@@ -286,7 +287,8 @@ class Forces(unittest.TestCase):
         )
         f = [half * tier.mass * g * Fraction(tier.a_t, 1000) * Fraction("0.87") for tier in sheet.tiers]
         p = [half * Fraction("0.00108") * 12192 * tier.height * tier.wind for tier in sheet.tiers]
-        self.assertEqual([newtons(transverse(tier, 1)) for tier in sheet.tiers], f)
+        self.assertEqual([newtons(transverse(tier, route_factor(1))) for tier in sheet.tiers], f)
+        self.assertEqual([newtons(transverse(tier, 601)) for tier in sheet.tiers], [each * 601 / 870 for each in f])
         self.assertEqual([newtons(wind(tier)) for tier in sheet.tiers], p)
         v = [half * tier.mass * g * Fraction(tier.a_vmax, 1000) for tier in sheet.tiers]
         self.assertEqual([newtons(vertical(tier, tier.a_vmax)) for tier in sheet.tiers], v)
@@ -294,10 +296,12 @@ class Forces(unittest.TestCase):
         self.assertEqual([newtons(load) for load in borne.greatest], [sum(v), v[1] + v[2], v[2], 0])
         self.assertEqual(newtons(borne.least[1]), half * g * Fraction(1 + 7_919 * 811, 1000))
         for rule, share in ((1, Fraction("0.45")), (2, half)):
-            borne = loads(replace(sheet, head=replace(sheet.head, rule=rule)))
-            self.assertEqual(newtons(borne.racking[1]), share * f[1] + half * p[1] + f[2] + p[2])
-            own = f[1] * share * 2896 + p[1] * half * 2896
-            self.assertEqual(newtons(borne.moment[1]), own + f[2] * (2896 + share * 2591) + p[2] * (2896 + half * 2591))
+            for factor, part in ((None, 1), (601, Fraction(601, 870))):
+                borne = loads(replace(sheet, head=replace(sheet.head, rule=rule)), factor)
+                self.assertEqual(newtons(borne.racking[1]), part * (share * f[1] + f[2]) + half * p[1] + p[2])
+                own = part * f[1] * share * 2896 + p[1] * half * 2896
+                above = part * f[2] * (2896 + share * 2591) + p[2] * (2896 + half * 2591)
+                self.assertEqual(newtons(borne.moment[1]), own + above)
 
     def test_the_solution_solves_the_equations(self):
         lashes = (S, replace(S, kind=SIDE, ly=700), replace(S, tier=3, hook=BOTTOM, lx=317))

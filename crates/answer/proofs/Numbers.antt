@@ -1,46 +1,51 @@
--- The two numbers that a check returns: 0 to 13, and at most 834.
+-- The two numbers that a call returns which answers as a check does: its refusals', or 0 and at most 834. Those of a check: 0 to 13.
 use Prim.Native.Nat.{ℕ, _≤_}
 use mathlib.Core.List.{List}
 use mathlib.Core.Path.{_≡_, refl}
 use native.Mathlib.Omega.{arith}
 use lib.ListN.{length, take, length-take}
 use Rattle.sheet.specs.declared.Lash.{Lash}
+use Rattle.sheet.specs.declared.Sheet.{Sheet}
 use Rattle.sheet.specs.declared.Reading.{Reading}
 use Rattle.sheet.specs.declared.Reading.the-variants.{Taken, Refused}
-use Rattle.sheet.specs.Layout.{sheetOf}
 use Rattle.sheet.specs.Refusals.{refusal}
 use Rattle.sheet.specs.Fits.{Fits}
 use Rattle.sheet.proofs.Numbers.{check-numbers}
 use Rattle.sheet.proofs.Refusal.{sheet-taken}
 use Rattle.sheet.proofs.TakenSheets.{taken-fits}
 use Rattle.sheet.specs.Ends.{End, door, closed, lashesOf}
-use Rattle.statics.specs.Loads.{ruleOf}
+use Rattle.statics.specs.Loads.{Rule}
 use Rattle.answer.specs.declared.Outcome.{Outcome}
 use Rattle.answer.specs.Checked.{number, second, AnsweredAs, Checked}
 use Rattle.answer.proofs.Longest.{answer-most}
 
-pub record Numbers (r : Outcome) : Type 0 where
-  pub first : number r ≤ 13
+pub record Numbers (most : ℕ) (r : Outcome) : Type 0 where
+  pub first : number r ≤ most
   pub next : second r ≤ 834
 
 at-most : (ls : List Lash) (n : ℕ) → n ≤ 8 → length (take n ls) ≤ 8
 at-most ls n h = rw (length-take n ls) (omega arith)
 
-module _ (s : List ℕ) (room : ℕ) (e : refusal s room ≡ Taken) where
-  within : Fits (sheetOf s)
-  within = taken-fits s (sheet-taken s room e)
+lashes : {t : Sheet} → Fits t → (e : End) → length (lashesOf e t) ≤ 8
+lashes {t} f door = at-most (t .door) (t .ndoor) (f .door .few)
+lashes {t} f closed = at-most (t .closed) (t .nclosed) (f .closed .few)
 
-  lashes : (e : End) → length (lashesOf e (sheetOf s)) ≤ 8
-  lashes door = at-most (sheetOf s .door) (sheetOf s .ndoor) (within .door .few)
-  lashes closed = at-most (sheetOf s .closed) (sheetOf s .nclosed) (within .closed .few)
+-- by cases on a refusal, whose number is at most `most`
+pub answered-numbers :
+    (most : ℕ) (q : Reading) (margin : ℕ) (rule : Rule) (t : Sheet) (before after : List ℕ) {r : Outcome} →
+    ((n p : ℕ) → q ≡ Refused n p → (1 ≤ n) × (n ≤ most) × (p ≤ 834)) →
+    (q ≡ Taken → Fits t) →
+    AnsweredAs q margin rule t before after r →
+    Numbers most r
+answered-numbers most (Refused n p) margin rule t before after small fits h =
+    let b = small n p refl in
+    rw (h .refused) (record { first = b .1; next = b .2 })
+answered-numbers most Taken margin rule t before after small fits h =
+    let f = fits refl in
+    let short = answer-most t (h .answer .figures) (f .few) (lashes f) in
+    rw (h .taken) (record { first = omega arith; next = rw (h .answer .encoded) (omega (arith, short)) })
 
-pub numbers : {margin : ℕ} {s before after : List ℕ} {r : Outcome} → Checked margin s before after r → Numbers r
-numbers {margin} {s} {before} {after} {r} c = go (refusal s (length before)) refl (c .holds)
-  where
-    go : (q : Reading) → refusal s (length before) ≡ q → AnsweredAs q margin (ruleOf (sheetOf s)) (sheetOf s) before after r → Numbers r
-    go (Refused n p) e h =
-        let b = check-numbers s (length before) e in
-        rw (h .refused) (record { first = b .1; next = b .2 })
-    go Taken e h =
-        let short = answer-most (sheetOf s) (h .answer .figures) (within s (length before) e .few) (lashes s (length before) e) in
-        rw (h .taken) (record { first = omega arith; next = rw (h .answer .encoded) (omega (arith, short)) })
+pub numbers : {margin : ℕ} {s before after : List ℕ} {r : Outcome} → Checked margin s before after r → Numbers 13 r
+numbers {margin} {s} {before} {after} c =
+    answered-numbers 13 (refusal s (length before)) margin _ _ before after (λ n p e. check-numbers s (length before) e)
+    (λ e. taken-fits s (sheet-taken s (length before) e)) (c .holds)

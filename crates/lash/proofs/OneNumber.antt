@@ -6,6 +6,8 @@ use native.Mathlib.Omega.{arith}
 use Rattle.answer.specs.declared.Outcome.{Outcome}
 use Rattle.answer.specs.Checked.{Checked, number, second}
 use Rattle.answer.proofs.Numbers.{numbers}
+use Rattle.forecast.specs.Forecasts.{Forecast}
+use Rattle.forecast.proofs.Numbers.{forecast-numbers}
 use Rattle.lash.specs.Called.{Called}
 
 -- both fit the one number
@@ -25,5 +27,16 @@ case-joined is r e = subst (Joined r) (sym is) e
 pub checked-fits : {margin : ℕ} {s before after : List ℕ} {o : Outcome} → Checked margin s before after o → Fitting o
 checked-fits c = (omega (arith, numbers c .first), omega (arith, numbers c .next))
 
+pub forecast-fits :
+    {margin : ℕ} {s : List ℕ} {h b hours : ℕ} {before after : List ℕ} {o : Outcome} →
+    Forecast margin s h b hours before after o →
+    Fitting o
+forecast-fits f = (omega (arith, forecast-numbers f .first), omega (arith, forecast-numbers f .next))
+
 pub called : {Said : Outcome → Type 0} (o : Outcome) → Said o → Fitting o → (r : ℕ) → Joined r o → Called Said r
 called o said fits r e = record { outcome = o; low = omega (arith, fits .0); above = omega (arith, fits .0); said = said }
+
+-- two things said of one outcome: what it must be, and what it is by name
+pub called-both :
+    {A B : Outcome → Type 0} (o : Outcome) → A o × B o → Fitting o → (r : ℕ) → Joined r o → Called A r × Called B r
+called-both o (a, b) fits r e = (called o a fits r e, called o b fits r e)

@@ -5,6 +5,8 @@ ghost use Prim.Native.Nat.{_+_, _*_, _<_, _^_};
 ghost use lib.ListN.{length};
 ghost use Rattle.answer.specs.Checked.{Checked, number, second, kept};
 ghost use Rattle.answer.specs.inner.Named.{returned, written};
+ghost use Rattle.forecast.specs.Forecasts.{Forecast};
+ghost use Rattle.forecast.specs.inner.Named.{forecastReturned, forecastWritten};
 ghost use Rattle.lash.specs.Called.{Called};
 ghost use Rattle.preview.specs.Previews.{Previewed};
 ghost use Rattle.preview.specs.inner.Moved.{AsChecked};
@@ -31,6 +33,25 @@ pub extern "C" fn lash_preview(sheet: &[u8], tier: u32, mass: u16, answer: &mut 
     ensures named { λ r. ⌜ Called (AsChecked (now (sheet .entry)) tier mass (now (answer .entry)) (now (answer .exit))) r ⌝ }
 {
     let outcome = preview::preview(sheet, tier, mass, answer);
+    packed_outcome(outcome)
+}
+
+// Checks a sheet by a forecast as forecast::forecast does: wave height and breadth in cm, the voyage in hours. What is returned is told as
+// lash_check tells it.
+#[no_mangle]
+pub extern "C" fn lash_forecast(
+    sheet: &[u8],
+    wave: u16,
+    breadth: u16,
+    hours: u32,
+    answer: &mut [u8],
+) -> u64
+    ensures answered { λ r. ⌜ Called (Forecast kept (now (sheet .entry)) wave breadth hours (now (answer .entry))
+        (now (answer .exit))) r ⌝ }
+    ensures named { λ r. ⌜ Called (λ o. (o ≡ forecastReturned (now (sheet .entry)) wave breadth hours (length (now (answer .entry))))
+        × (now (answer .exit) ≡ forecastWritten (now (sheet .entry)) wave breadth hours (now (answer .entry)))) r ⌝ }
+{
+    let outcome = forecast::forecast(sheet, wave, breadth, hours, answer);
     packed_outcome(outcome)
 }
 

@@ -20,7 +20,7 @@ use Rattle.lashcheck.specs.Replies.{ReplyAs, Reply}
 -- what the check returned, in a buffer of 834 bytes
 module _ {margin : ℕ} {s before after : List ℕ} {o : Outcome} (room : length before ≡ 834) (c : Checked margin s before after o) where
   pub answer-fits : {n : ℕ} → o ≡ Taken n → n ≤ 834
-  answer-fits is = subst Numbers is (numbers c) .next
+  answer-fits is = subst (Numbers 13) is (numbers c) .next
 
   by-refusal :
       {bytes : List ℕ} →

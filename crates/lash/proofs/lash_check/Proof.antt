@@ -1,6 +1,6 @@
 -- `lash::lash_check` says what `stack_check::check` says, with its two numbers in one.
 use borrow.Author.Needs.{needs}
-use Rattle.lash.proofs.OneNumber.{checked-fits, called}
+use Rattle.lash.proofs.OneNumber.{checked-fits, called-both}
 use Rattle.lash.proofs.lash_check.Statement.{statement}
 use Rattle.lash.proofs.lash_check.Tie as tie
 
@@ -16,10 +16,8 @@ same-length c = search needs
 returns : tie.Need-returns
 returns c =
     let k = c .before .before .before .check in
-    let e = k .ensures in
-    let fits = checked-fits (e .0) in
     let p = c .packed-outcome in
-    (called (k .result) (e .0) fits (p .result) (p .ensures), called (k .result) (e .1) fits (p .result) (p .ensures))
+    called-both (k .result) (k .ensures) (checked-fits (k .ensures .0)) (p .result) (p .ensures)
 
 pub lash-check-spec : {M : Type 1} → statement M
 lash-check-spec = tie.close (tie.spec check-requires packed-outcome-requires same-length returns)

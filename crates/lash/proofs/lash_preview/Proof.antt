@@ -2,7 +2,7 @@
 use native.Mathlib.Omega.{arith}
 use borrow.Author.Needs.{needs}
 use Rattle.preview.proofs.TwoNumbers.{fitting}
-use Rattle.lash.proofs.OneNumber.{called}
+use Rattle.lash.proofs.OneNumber.{called-both}
 use Rattle.lash.proofs.lash_preview.Statement.{statement}
 use Rattle.lash.proofs.lash_preview.Tie as tie
 
@@ -25,7 +25,7 @@ returns c =
     let e = k .preview .ensures in
     let fits = fitting (omega (arith, entered k .fits .tier .fits)) (e .0) in
     let p = c .packed-outcome in
-    (called (k .preview .result) (e .0) fits (p .result) (p .ensures), called (k .preview .result) (e .1) fits (p .result) (p .ensures))
+    called-both (k .preview .result) e fits (p .result) (p .ensures)
 
 pub lash-preview-spec : {M : Type 1} → statement M
 lash-preview-spec = tie.close (tie.spec preview-requires packed-outcome-requires same-length returns)

@@ -1,0 +1,50 @@
+// Short voyages by forecast (document 02, P9): the check of a sheet with the factor of a forecast in place of the route factor.
+
+ghost use mathlib.Core.Path.{_≡_};
+ghost use lib.ListN.{length};
+ghost use Rattle.sheet.specs.Fits.{Fits};
+ghost use Rattle.answer.specs.Checked.{kept};
+ghost use Rattle.answer.specs.inner.Named.{returnedAs, writtenAs};
+ghost use Rattle.forecast.specs.Forecasts.{Forecast};
+ghost use Rattle.forecast.specs.inner.Named.{ownReading, forecastBytes, forecastReturned, forecastWritten};
+use answer::Outcome;
+use sheet::Reading;
+use sheet::Sheet;
+use statics::LoadRule;
+
+// The answer to a sheet within the limits, unless its route, the voyage or the breadth turns it back.
+fn answer_sheet(t: Sheet, wave: u16, breadth: u16, hours: u32, answer: &mut [u8]) -> Outcome
+    requires { ⌜ Fits t ⌝ }
+    ensures { λ r. ⌜ (r ≡ returnedAs (ownReading t breadth hours (length (now (answer .entry)))) (forecastBytes wave breadth t))
+        × (now (answer .exit) ≡ writtenAs (ownReading t breadth hours (length (now (answer .entry)))) (forecastBytes wave breadth t)
+        (now (answer .entry))) ⌝ }
+{
+    let head = t.head;
+    if head.route != 0 {
+        return Outcome::Refused(20, 0);
+    }
+    if (72 <= hours) | (breadth == 0) {
+        return Outcome::Refused(21, 0);
+    }
+    let found = forecast_factor::factor_of(wave, breadth);
+    let by_route = figures_tiers::rules::rule_of(t);
+    let rule = LoadRule {
+        share: by_route.share,
+        factor: found.factor,
+    };
+    stack_check::answer_to(t, rule, answer)
+}
+
+// The check of a stack sheet by a forecast: wave height and breadth in cm, the voyage in hours. A refusal leaves the buffer as it was.
+pub fn forecast(sheet: &[u8], wave: u16, breadth: u16, hours: u32, answer: &mut [u8]) -> Outcome
+    ensures answered { λ r. ⌜ Forecast kept (now (sheet .entry)) wave breadth hours (now (answer .entry)) (now (answer .exit)) r ⌝ }
+    ensures named { λ r. ⌜ (r ≡ forecastReturned (now (sheet .entry)) wave breadth hours (length (now (answer .entry))))
+        × (now (answer .exit) ≡ forecastWritten (now (sheet .entry)) wave breadth hours (now (answer .entry))) ⌝ }
+{
+    let decoded = sheet_decode::decode(sheet);
+    let reading = decoded.reading;
+    match reading {
+        Reading::Refused(number, second) => Outcome::Refused(number, second),
+        Reading::Taken => answer_sheet(decoded.sheet, wave, breadth, hours, answer),
+    }
+}
