@@ -11,7 +11,9 @@ from lashtool.description import shown
 from lashtool.fields import ENDS, TIER_FIELDS, field
 from lashtool.figures import LASH_KINDS, Result, result
 from lashtool.report import Cell, aligned, bulleted, used, verdict_state
-from lashtool.words import KIND_WORDS, NOT_CHECKED, force_words, place_words, verdict_words, way_words, where, worst_words
+from lashtool.words import (
+    KIND_WORDS, NOT_CHECKED, PAD_WORDS, force_words, place_words, route_words, rule_notes, verdict_words, way_words, where, worst_words,
+)
 from sheets.limits import COMPRESSION, CORNER, LOCK, RACKING
 from sheets.sheet import Refused, pack
 
@@ -19,8 +21,9 @@ FORM = "tier.N.mass=KG, as tier.4.mass=28000"
 MASS = field(TIER_FIELDS, "mass")
 NO_TIER, BAD_TIER = 17, 7
 NOTES = (
-    "A preview: what was read is not changed. now, then: forces as the stack stands and with the move, of a racking to windward with a "
-    "minus; used: share of the limit, rounded up to a tenth of a percent, ! over it. Figures that do not change are left out."
+    "A preview: what was read is not changed. Level 0 is the deck, level i the top of tier i. now, then: forces as the stack stands "
+    "and with the move, of a racking to windward with a minus; used: share of the limit, rounded up to a tenth of a percent, ! over "
+    "it. Figures that do not change are left out."
 )
 GREATEST_TIER, GREATEST_MASS = 2**32 - 1, 2**16 - 1  # that the call can be given
 
@@ -77,7 +80,7 @@ def read_move(texts):
         raise BadMove(f"--set is {shown(texts[0])}; it has to be {FORM}")
     if meant[2] != MASS.name:
         raise BadMove(f"--set {shown(name)}: only a tier's mass can be previewed; it has to be {FORM}")
-    if not re.fullmatch(r"[0-9]{1,9}(_[0-9]{3})*", value):
+    if not re.fullmatch(r"[0-9]{1,9}(_[0-9]{3}){0,3}", value):
         raise BadMove(f"--set {name} is {shown(value)}; it has to be a whole number, {MASS.allowed()}")
     return Move(int(meant[1]), int(value.replace("_", "")))
 
@@ -119,16 +122,22 @@ def with_move(move, before, reply):
 def table(preview, colour=False):
     before, after = preview.before, preview.after
     sections = [
-        [*([before.title] if before.title else []), moved_words(preview)],
+        [*([before.title] if before.title else []), moved_words(preview), route_words(before.sheet.head)],
         sides(preview, colour),
         exceeded_lines("NEWLY EXCEEDED", preview, preview.newly),
         exceeded_lines("NO LONGER EXCEEDED", preview, preview.no_longer),
         exceeded_lines("EXCEEDED BEFORE AND AFTER", preview, preview.still),
         *(end_lines(preview, end, colour) for end in range(len(ENDS))),
-        bulleted("NOTES", (NOTES, NOT_CHECKED)),
+        bulleted("NOTES", notes(preview)),
         [painted(f"WITH THE MOVE: {verdict_words(after)}", verdict_state(after), colour)],
     ]
     return "\n\n".join("\n".join(lines) for lines in sections if lines)
+
+
+def notes(preview):
+    figures = (*preview.before.figures.values(), *preview.after.figures.values())
+    small = any(figure.force_text.startswith("<") for figure in figures)
+    return [*rule_notes(preview.before.sheet.head), NOTES, *([PAD_WORDS] if small else []), NOT_CHECKED]
 
 
 def moved_words(preview):
@@ -193,6 +202,7 @@ def as_data(preview):
         },
         "newly_exceeded": [placed_data(preview.after, figure) for figure in preview.newly],
         "no_longer_exceeded": [placed_data(preview.before, figure) for figure in preview.no_longer],
+        "exceeded_before_and_after": [placed_data(preview.after, figure) for figure in preview.still],
         "before": stack_data(preview.before),
         "after": stack_data(preview.after),
     }

@@ -3,10 +3,11 @@
 from dataclasses import dataclass, replace
 from random import Random
 
+from reference.cases import HEAD, ROD_S, box
 from reference.faults import edit_tier
 from reference.making import KINDS as MADE
 from reference.samples import extreme, realistic
-from sheets.sheet import ANSWER_ROOM, TIER_LIMITS, Head, Lash, Sheet, Tier, pack
+from sheets.sheet import ANSWER_ROOM, TIER_LIMITS, Sheet, pack
 
 GREATEST = 2**32 - 1  # that the call for C can be given
 TIERS = (*range(12), 255, GREATEST)
@@ -51,19 +52,13 @@ def moves(seed):
 # The request's own figures, for the program cases_preview: (name, sheet's bytes, move).
 
 
-def box(mass=20_000, a_t=500):
-    """Document 01's box B: 20 feet, 2,591 mm, sheltered, A_T 0.500, A_Vmax 1.008, A_Vmin 1.000."""
-    return Tier(20, 0, 2_591, mass, a_t, 1_008, 1_000)
-
-
-ROD = Lash(1, 0, 0, 1, 0, 2_200, 2_200, 490, 97_100, 490_000)
-HEAD = Head(1, 0, 1, 0, 500_000)
-STACK = Sheet(HEAD, (box(), box(), box()), (ROD,), (ROD,))
-ROUGH = Sheet(HEAD, (box(a_t=1_000), box(a_t=1_000), box(a_t=1_000)), (), ())
+STACK = Sheet(HEAD, (box(),) * 3, (ROD_S,), (ROD_S,))
+ROUGH = Sheet(HEAD, (box(a_t=1_000),) * 3, (), ())
 
 
 def figures():
-    """A stack of three boxes, its masses moved; then the refusals, alone and where two could be told."""
+    """A stack of three boxes B with rod S, its masses moved, and one without in a rough sea; then the refusals, alone and where two
+    could be told."""
     data = pack(STACK)
     for tier in (1, 2, 3):
         for mass in (LEAST, 10_000, 20_000, MOST):

@@ -35,6 +35,14 @@ class Reports(unittest.TestCase):
         self.assertRegex(text, r"with the move: NOT ACCEPTED: 2 findings\n.* 103\.6% at the door end, tier 1")
         self.assertTrue(text.endswith("\n\nWITH THE MOVE: NOT ACCEPTED: 2 findings\n"))
 
+    def test_the_rule_is_named(self):
+        """And what the fleet standard takes otherwise."""
+        class_rule, fleet = (f"rule = {rule}\n" + LAST_BOX.read_text().replace("rule = 1\n", "") for rule in (1, 2))
+        for text, name, noted in ((class_rule, "rule 1 (class rule); route 0", 0), (fleet, "rule 2 (fleet standard); route 0", 1)):
+            _, told, _ = lash("-", "--set", "tier.3.mass=20000", stdin=text.encode(), output=ACCEPTED, preview=DOOR_OVER)
+            self.assertIn(f"in place of 6,000 kg\n{name}, Unrestricted: A_T x 1.00\n\n", told)
+            self.assertEqual(" ".join(told.split()).count("Rule 2 is the fleet standard, one operator's own book"), noted)
+
     def test_limits_newly_exceeded(self):
         _, text, _ = tried("tier.3.mass=20000")
         newly = text.split("NEWLY EXCEEDED\n")[1].split("\n\n")[0].splitlines()
@@ -101,6 +109,7 @@ class BadMoves(unittest.TestCase):
             ("tier.3.mass=-5", '--set tier.3.mass is "-5"; it has to be a whole number'),
             ("tier.3.mass=1.5", "it has to be a whole number"),
             ("tier.3.mass=1_00", "it has to be a whole number"),
+            ("tier.3.mass=1" + "_000" * 1_500, "it has to be a whole number"),
         ):
             with self.subTest(move):
                 self.assertIn(words, self.refused(move))

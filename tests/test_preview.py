@@ -31,7 +31,7 @@ class Figures(unittest.TestCase):
         self.assertEqual([tier.mass for tier in parse(copy).tiers], [20_000, 0x1234, 20_000])
 
     def test_forces_are_those_of_the_copy(self):
-        """Two boxes B above one of half the mass: by document 01's table, racking of tier 3 is 22,072.5 N; half of it at half the mass."""
+        """Racking of the top box B is 22,072.5 N, as in (a) of document 01's table; half of it at half the mass."""
         for mass, due in ((20_000, 22_072.5), (10_000, 11_036.25)):
             self.assertEqual(expected(STACK_BYTES, 3, mass).ends[0].racking[2], due)
 
