@@ -1,6 +1,7 @@
 /* The lashing check of a container stack: bytes of a stack sheet in, bytes of an answer sheet out; docs/SHEET.md has the layout
    of both, byte by byte. lash_preview answers for the sheet with another mass in one tier, lash_forecast for a short voyage by its
-   forecast. And lash_twenties, for 20-ft boxes in 40-ft cell guides: numbers in, one number out.
+   forecast. And lash_twenties, for 20-ft boxes in 40-ft cell guides, and lash_roll, for a box's accelerations from the ship's roll:
+   numbers in, one number out.
 
    rt staticlib lash                                                      proves the check and writes target/staticlib/liblash.a
    cc -Iinclude yours.c target/staticlib/liblash.a -o yours               a program over it, on x86-64 Linux
@@ -15,9 +16,9 @@
 extern "C" {
 #endif
 
-/* The version of the header and of the library built beside it; the text is LASH_VERSION, as "0.10.0". */
+/* The version of the header and of the library built beside it; the text is LASH_VERSION, as "0.11.0". */
 #define LASH_VERSION_MAJOR 0
-#define LASH_VERSION_MINOR 10
+#define LASH_VERSION_MINOR 11
 #define LASH_VERSION_PATCH 0
 #define LASH_TEXT_(number) #number
 #define LASH_TEXT(number) LASH_TEXT_(number)
@@ -241,6 +242,32 @@ enum lash_forecast_number {
     LASH_WITH_ROUTE = 20,  /* 0: a route other than 0 */
     LASH_NO_FORECAST = 21  /* 0: a voyage of 72 hours or more, or a breadth of 0 */
 };
+
+/* Accelerations from roll (CR 5.2.4(a), Condition A): what a tier's A_T, A_Vmax and A_Vmin are for one box. Sine and cosine of the roll
+   angle and the heave factor a0 are in ten-thousandths, the angle in hundredths of a degree, the period in hundredths of a second;
+   lengths in mm: the ship's, the height of the roll centre, and the box's centre of gravity: x forward of the aft perpendicular, y from
+   the centreline, z above the baseline. The first number is in the low 8 bits of what is returned: 0, or one of those below, with the
+   second number above it. With 0, in thousandths of g, bits 8 to 23 are A_T and bits 24 to 39 A_Vmax, each rounded up, bits 40 to 55
+   A_Vmin, rounded down and then cut at 1,000, and bits 56 to 63 are 0; a tier is refused for none of them. In range are a period up to
+   100 s and not 0, an angle up to 90 degrees, a0 up to 1, lengths up to 500 m either way, the ship's not 0, and a sum of the squares of
+   sine and cosine within 15,000 of 100,000,000. The caller tests nothing first. */
+uint64_t lash_roll(uint32_t sine, uint32_t cosine, uint32_t heave, uint32_t angle, uint32_t period, uint32_t length, int32_t centre,
+                   int32_t x, int32_t y, int32_t z);
+
+enum lash_roll_number {
+    LASH_CONDITION = 18,   /* 0: a number out of its range, x off the ship, or sine and cosine of no angle */
+    LASH_ACCELERATION = 19 /* 1, 2 or 3: the first of A_T, A_Vmax and A_Vmin that is outside a sheet's limits */
+};
+
+/* Readers of what lash_roll returned. After a refusal: LASH_NONE. */
+static inline int64_t lash_roll_part(uint64_t result, unsigned bit)
+{
+    return lash_number_of(result) == LASH_TAKEN ? (int64_t)(result >> bit & 0xffff) : LASH_NONE;
+}
+
+static inline int64_t lash_roll_a_t(uint64_t result) { return lash_roll_part(result, 8); }
+static inline int64_t lash_roll_a_vmax(uint64_t result) { return lash_roll_part(result, 24); }
+static inline int64_t lash_roll_a_vmin(uint64_t result) { return lash_roll_part(result, 40); }
 
 #ifdef __cplusplus
 }

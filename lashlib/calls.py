@@ -14,6 +14,7 @@ CALLS = {
     "lash_preview": (READ, ctypes.c_uint32, ctypes.c_uint16, WRITTEN),
     "lash_twenties": (ctypes.c_uint32, ctypes.c_uint32, NUMBERS),
     "lash_forecast": (READ, ctypes.c_uint16, ctypes.c_uint16, ctypes.c_uint32, WRITTEN),
+    "lash_roll": (*(ctypes.c_uint32,) * 6, *(ctypes.c_int32,) * 4),
 }
 POINTER_AND_LENGTH = {
     READ: (ctypes.c_char_p, ctypes.c_size_t),
@@ -78,6 +79,10 @@ class Library:
 
     def forecast(self, sheet, wave_height, breadth, hours, room=ANSWER_ROOM):
         return self.call("lash_forecast", sheet, wave_height, breadth, hours, room=room)
+
+    def roll(self, *condition):
+        """Sine, cosine, heave, angle, period, length, centre, x, y, z."""
+        return self.call("lash_roll", *condition, room=0)
 
 
 def lent(kind, value):

@@ -1,5 +1,7 @@
 """The library, and a sheet checked by it: the answer is held to the sheet before anything is said of it."""
 
+from functools import cache
+
 from lashlib.build import BuildFailed
 from lashlib.calls import loaded
 from sheets.answer import BadAnswer, counts, counts_due, read_answer
@@ -25,6 +27,12 @@ def library_check(path=None, forecast=None):
     """The library's check, from a sheet's bytes to its reply; the one by a forecast, if there is one."""
     calls = library(path)
     return (lambda data: calls.forecast(data, *forecast.numbers)) if forecast else calls.check
+
+
+def library_roll(path=None):
+    """The library's accelerations from roll, from a condition to the reply; loaded when it is first asked, and once."""
+    loaded_once = cache(library)
+    return lambda *condition: loaded_once(path).roll(*condition)
 
 
 def outcome(data, reply):

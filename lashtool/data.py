@@ -1,6 +1,6 @@
 """The report as plain data for JSON."""
 
-from lashtool.fields import ENDS, LASH_FIELDS, LOCK_FIELDS, ROUTES, RULES, TIER_FIELDS, lash_place, word
+from lashtool.fields import ENDS, LASH_FIELDS, LOCK_FIELDS, ROUTES, RULES, SHIP_FIELDS, TIER_FIELDS, lash_place, word
 from lashtool.figures import KEPT
 from lashtool.geometry import RACKING_STIFFNESS, foot_height, foot_out, lash_length, level_height
 from lashtool.words import (
@@ -22,9 +22,19 @@ def as_data(outcome):
         ],
         "warnings": warnings(outcome),
         "assumed": outcome.assumed,
+        **({"worked_out": motion_data(outcome.motion)} if outcome.motion else {}),
         "stack": stack_data(outcome),
         "figures_less_than_N_above_exact": KEPT,
         "ends": [end_data(outcome, end) for end in range(len(ENDS))],
+    }
+
+
+def motion_data(motion):
+    """The accelerations that were worked out from the ship's roll, and from what."""
+    return {
+        "ship": fields_data(SHIP_FIELDS, motion.ship),
+        "position": dict(motion.position),
+        "tiers": [{"tier": each.tier, "z": each.z, "accelerations": list(each.names)} for each in motion.worked],
     }
 
 

@@ -5,10 +5,12 @@ from codecs import BOM_UTF8, BOM_UTF16_BE, BOM_UTF16_LE
 from dataclasses import dataclass
 from difflib import get_close_matches
 
+from lashtool.checking import library_roll
 from lashtool.fields import (
-    BOTH_ENDS, END_FIELD, ENDS, GEAR_FIELDS, HEAD_FIELDS, LASH_FIELDS, LOCK_FIELDS, MEANT, TIER_FIELDS,
-    lash_place,
+    ACCELERATION_FIELDS, BOTH_ENDS, CLASS_RULE, END_FIELD, ENDS, FARTHEST, GEAR_FIELDS, HEAD_FIELDS, HEIGHT_FIELD, LASH_FIELDS,
+    LOCK_FIELDS, MEANT, POSITION_FIELDS, SHIP_FIELDS, TIER_FIELDS, field, lash_place,
 )
+from lashtool.ship import Outside, Ship, accelerations
 from sheets.sheet import (
     HEIGHTS, MOST_LASHES, MOST_TIERS, Head, Lash, Sheet, Tier, sheet_order, wind_code,
 )
@@ -24,14 +26,29 @@ class Description:
     sheet: Sheet
     assumed: list  # what was not given and what it was taken as, in words
     numbers: tuple  # of each end's lashes in the sheet's order: their place in the description, from 1
+    motion: object = None  # of a ship whose roll accelerations were worked out from
 
 
-TABLES = {"lock": dict, "box": dict, "gear": dict, "tier": list, "lash": list}
+TABLES = {"lock": dict, "box": dict, "gear": dict, "ship": dict, "position": dict, "tier": list, "lash": list}
 TOP_NAMES = ("title", *(field.name for field in HEAD_FIELDS), *TABLES)
 
 
-def describe(data):
-    """The stack that the bytes of a description tell of."""
+def describe(data, roll=None):
+    """The stack that the bytes of a description tell of. `roll` works accelerations out in place of the library."""
+    table, sections = parts_of(data)
+    reader = FieldReader()
+    head = read_head(reader, table, sections["lock"])
+    motion = read_motion(sections, head.rule, roll or library_roll())
+    tiers = read_tiers(reader, sections["tier"], sections["box"], motion)
+    ends = read_lashes(reader, sections["lash"], sections["gear"], len(tiers))
+    door, closed = (tuple(lash for _, lash in end) for end in ends)
+    numbers = tuple(tuple(number for number, _ in end) for end in ends)
+    worked = motion if motion and motion.worked else None
+    return Description(read_title(table), Sheet(head, tiers, door, closed), reader.assumed(), numbers, worked)
+
+
+def parts_of(data):
+    """A description as one table, and its sections by name."""
     text = text_of(data)
     try:
         table = tomllib.loads(text)
@@ -40,14 +57,16 @@ def describe(data):
     except RecursionError:
         raise BadDescription("this is no TOML: it is nested too deeply") from None
     check_names("the stack", table, TOP_NAMES)
-    sections = {name: section(table, name) for name in TABLES}
-    reader = FieldReader()
-    head = read_head(reader, table, sections["lock"])
-    tiers = read_tiers(reader, sections["tier"], sections["box"])
-    ends = read_lashes(reader, sections["lash"], sections["gear"], len(tiers))
-    door, closed = (tuple(lash for _, lash in end) for end in ends)
-    numbers = tuple(tuple(number for number, _ in end) for end in ends)
-    return Description(read_title(table), Sheet(head, tiers, door, closed), reader.assumed(), numbers)
+    return table, {name: section(table, name) for name in TABLES}
+
+
+def read_ship(data):
+    """The ship of a description, and the place that it gives for the stack."""
+    _, sections = parts_of(data)
+    if not sections["ship"]:
+        raise BadDescription("there is no [ship]")
+    motion = read_motion(sections, CLASS_RULE, None)
+    return motion.ship, motion.position
 
 
 def text_of(data):
@@ -172,15 +191,86 @@ def read_head(reader, table, lock):
     return Head(zero=0, **values)
 
 
-def read_tiers(reader, tables, box):
+@dataclass(frozen=True)
+class Worked:
+    """Accelerations of a tier that were worked out, by their names, for a box whose centre is at this height."""
+
+    tier: int
+    names: tuple
+    z: int
+
+
+class Motion:
+    """A ship's roll, the stack's place on it, and what was worked out from both."""
+
+    def __init__(self, ship, position, rule, roll):
+        self.ship, self.position = ship, position
+        self.percent = 45 if rule == CLASS_RULE else 50  # of a box's height, where its centre is
+        self.roll = roll
+        self.worked = []
+
+    def missing(self, places):
+        """The accelerations that no place gives."""
+        return [each for each in ACCELERATION_FIELDS if not any(each.name in table for _, table in places)]
+
+    def height(self, where, table, below, height):
+        """Of a box's centre above the baseline, to the whole millimetre away from the roll centre."""
+        if HEIGHT_FIELD.name in table:
+            return checked(where, HEIGHT_FIELD, table[HEIGHT_FIELD.name])
+        foot = self.place("foot") + below
+        up = 100 * foot + self.percent * height >= 100 * self.ship.centre
+        z = foot + (-(-self.percent * height // 100) if up else self.percent * height // 100)
+        if abs(z) > FARTHEST:
+            raise BadDescription(f"{where}: its centre at {z:,} mm lies beyond {FARTHEST:,} mm")
+        return z
+
+    def place(self, name):
+        due = field(POSITION_FIELDS, name)
+        return FieldReader().value("", due, [("[position]", self.position)])
+
+    def fill(self, number, fields, z):
+        """The values of these fields for a box, worked out."""
+        try:
+            found = accelerations(self.roll, self.ship.condition(self.place("x"), self.place("y"), z))
+        except Outside as fault:
+            raise BadDescription(f"tier {number}: {fault}") from None
+        self.worked.append(Worked(number, names(fields), z))
+        return {each.attribute: found[each.attribute] for each in fields}
+
+
+def read_motion(sections, rule, roll):
+    """None where there is no [ship]."""
+    ship, position = sections["ship"], sections["position"]
+    check_names("[ship]", ship, names(SHIP_FIELDS))
+    check_names("[position]", position, names(POSITION_FIELDS))
+    if not ship:
+        if position:
+            raise BadDescription("[position]: there is no [ship] whose roll it is for")
+        return None
+    read = Ship(**FieldReader().values("", SHIP_FIELDS, [("[ship]", ship)]))
+    for each in POSITION_FIELDS:
+        if each.name in position:
+            checked("[position]", each, position[each.name])
+    if position.get("x", 0) > read.length:
+        raise BadDescription(f"[position]: x {position['x']:,} lies beyond the ship's length, {read.length:,} mm")
+    return Motion(read, position, rule, roll)
+
+
+def read_tiers(reader, tables, box, motion):
     check_names("[box]", box, names(TIER_FIELDS))
     if not 1 <= len(tables) <= MOST_TIERS:
         raise BadDescription(f"tier: a stack has 1 to {MOST_TIERS} of [[tier]], not {len(tables)}")
     tiers = []
     for number, table in enumerate(tables, 1):
-        where = f"tier {number}"
-        check_names(where, table, names(TIER_FIELDS))
-        values = reader.values("box", TIER_FIELDS, [(where, table), ("[box]", box)])
+        where, places = f"tier {number}", [(f"tier {number}", table), ("[box]", box)]
+        check_names(where, table, names((*TIER_FIELDS, HEIGHT_FIELD) if motion else TIER_FIELDS))
+        if HEIGHT_FIELD.name in table:
+            checked(where, HEIGHT_FIELD, table[HEIGHT_FIELD.name])
+        missing = motion.missing(places) if motion else []
+        values = reader.values("box", [each for each in TIER_FIELDS if each not in missing], places)
+        if missing:
+            below = sum(tier.height for tier in tiers)
+            values |= motion.fill(number, missing, motion.height(where, table, below, values["height"]))
         tier = Tier(wind=wind_code(values.pop("exposed"), values.pop("turned")), **values)
         check_box(where, tier)
         if tiers and tier.size != tiers[0].size:

@@ -91,6 +91,24 @@ LASH_FIELDS = (
 )
 GEAR_FIELDS = (END_FIELD, *LASH_FIELDS)
 
+# What accelerations are worked out from where tiers do not give them (CR 5.2.4(a)).
+ACCELERATION_FIELDS = tuple(each for each in TIER_FIELDS if each.attribute in ("a_t", "a_vmax", "a_vmin"))
+FARTHEST = 500_000
+SHIP_FIELDS = (
+    Field("length", "length", "of the ship, between perpendiculars", None, (1, FARTHEST), unit="mm"),
+    Field("roll_angle", "angle", "of roll, to one side", None, (0, 9_000), unit="hundredths of a degree"),
+    Field("roll_period", "period", "of roll, there and back", None, (1, 10_000), unit="hundredths of a second"),
+    Field("a0", "heave", "common acceleration parameter a_0 of CR 5.2.4", None, (0, 10_000), unit="ten-thousandths of g"),
+    Field("roll_centre", "centre", "height of the roll centre above the baseline", None, (-FARTHEST, FARTHEST), unit="mm"),
+)
+POSITION_FIELDS = (
+    Field("x", "x", "of the boxes' centres, forward of the aft perpendicular; at most the ship's length", None, (0, FARTHEST), unit="mm"),
+    Field("y", "y", "of the boxes' centres, from the centreline, to either side", None, (-FARTHEST, FARTHEST), unit="mm"),
+    Field("foot", "foot", "height of tier 1's underside above the baseline; not needed where each tier has z", None,
+          (-FARTHEST, FARTHEST), unit="mm"),
+)
+HEIGHT_FIELD = Field("z", "z", "height of the box's centre of gravity above the baseline", None, (-FARTHEST, FARTHEST), unit="mm")
+
 # As CR 5.2.4(c) and its Appendix 1 print them.
 ROUTES = (
     "Unrestricted",

@@ -85,6 +85,7 @@ class Result:
     numbers: tuple  # of the lashes of each end, as a person counts them
     figures: dict  # Figure by (end, kind, index)
     forecast: object = None  # whose factor stands in place of the route's
+    motion: object = None  # the ship's, where accelerations were worked out from its roll
 
     @property
     def accepted(self):
@@ -134,10 +135,10 @@ class Result:
         return greatest(self.figure(end, kind, index) for kind in LASH_KINDS)
 
 
-def result(title, sheet, answer, assumed, numbers=None, forecast=None):
+def result(title, sheet, answer, assumed, numbers=None, motion=None, forecast=None):
     """Without numbers from a description, lashes count from 1 at each end in the sheet's order."""
     numbers = numbers or tuple(tuple(range(1, len(sheet.lashes(end)) + 1)) for end in range(2))
-    return Result(title, sheet, answer, assumed, numbers, figures(sheet, answer), forecast)
+    return Result(title, sheet, answer, assumed, numbers, figures(sheet, answer), motion=motion, forecast=forecast)
 
 
 def figures(sheet, answer):

@@ -8,8 +8,8 @@ from dataclasses import dataclass
 from pathlib import Path
 
 from lashlib.version import version
-from lashtool import preview, report, svg, twenties
-from lashtool.checking import CheckFailed, library, library_check, outcome
+from lashtool import preview, report, rolled, svg, twenties
+from lashtool.checking import CheckFailed, library, library_check, library_roll, outcome
 from lashtool.colour import wanted
 from lashtool.data import as_data
 from lashtool.description import BadDescription, describe
@@ -28,7 +28,8 @@ from sheets.sheet import Refused, pack
 
 HELP = (
     "Checks the lashing of a container stack and prints its forces beside their limits; of several stacks, "
-    "or of a folder of *.toml, a line each with the worst use of a limit. `lash twenties --help` tells of 20-ft boxes in 40-ft guides."
+    "or of a folder of *.toml, a line each with the worst use of a limit. `lash twenties --help` tells of 20-ft boxes in 40-ft guides, "
+    "`lash roll --help` of a box's accelerations."
 )
 STATUS_HELP = (
     "Exit status: 0 accepted, 1 not accepted, 2 refused, or a bad description, move or forecast, "
@@ -66,23 +67,23 @@ def write(name, data):
         raise CheckFailed(f"{name}: cannot be written: {reason(error)}") from None
 
 
-def load(source):
-    """The sheet's bytes, and what a description says beside them: title, what was assumed, the lashes' numbers."""
+def load(source, roll):
+    """The sheet's bytes, and what a description says beside them: title, what was assumed, the lashes' numbers, the ship's motion."""
     if source.sheet:
-        return read(source), ("", [], None)
-    description = describe(read(source))
-    return pack(description.sheet), (description.title, description.assumed, description.numbers)
+        return read(source), ("", [], None, None)
+    told = describe(read(source), roll)
+    return pack(told.sheet), (told.title, told.assumed, told.numbers, told.motion)
 
 
-def checked(source, check, weather):
+def checked(source, check, roll, weather):
     """The report of a stack, by the forecast if there is one, and its sheet's bytes. Raises what stands against one."""
-    data, (title, assumed, numbers) = load(source)
+    data, (title, assumed, numbers, motion) = load(source, roll)
     try:
         sheet, answer = outcome(data, check(data))
     except Refused as refused:
         refused.meaning = explain(data, refused.number, refused.second)
         raise
-    return result(title, sheet, answer, assumed, numbers, weather), data
+    return result(title, sheet, answer, assumed, numbers, motion, weather), data
 
 
 @dataclass(frozen=True)
@@ -104,10 +105,10 @@ class Tried:
         return {**head, **({"refused": self.numbers} if self.numbers else {"error": self.message})}
 
 
-def tried(source, check, weather):
+def tried(source, check, roll, weather):
     """A stack checked, with what stands against a report in words."""
     try:
-        report, data = checked(source, check, weather)
+        report, data = checked(source, check, roll, weather)
     except Refused as refused:
         numbers = {"number": refused.number, "second": refused.second, "meaning": refused.meaning}
         return Tried(source, BAD_INPUT, message=f"refused with {refused}: {refused.meaning}", numbers=numbers)
@@ -129,9 +130,9 @@ def warn(stack):
         complain(f"{stack.source}: warning: {warning}")
 
 
-def one(options, check):
+def one(options, check, roll):
     """A stack in full."""
-    stack = tried(options.sources[0], check, options.forecast)
+    stack = tried(options.sources[0], check, roll, options.forecast)
     if not stack.report:
         return untold(stack, options)
     warn(stack)
@@ -144,9 +145,9 @@ def one(options, check):
     return say(printed, stack.status)
 
 
-def moved(options, check, call):
+def moved(options, check, roll, call):
     """A stack as it stands and with a move, side by side; the status is that of the verdict with the move."""
-    stack = tried(options.sources[0], check, options.forecast)
+    stack = tried(options.sources[0], check, roll, None)
     if not stack.report:
         return untold(stack, options)
     try:
@@ -177,12 +178,12 @@ def line(stack, width):
     return f"{words} {worst.used_text:>9}  {KIND_WORDS[worst.kind]}, {where(stack.report, worst)}{rule}"
 
 
-def many(options, check):
+def many(options, check, roll):
     """A line for each stack; the status is the greatest."""
     counts, status = Counter(), ACCEPTED
     width = max(len(str(source)) for source in options.sources)
     for source in options.sources:
-        stack = tried(source, check, options.forecast)
+        stack = tried(source, check, roll, options.forecast)
         warn(stack)
         counts[stack.status] += 1
         status = max(status, say(json.dumps(stack.as_data()) if options.json else line(stack, width), stack.status))
@@ -193,20 +194,24 @@ def many(options, check):
     return status
 
 
-def main(words=None, check=None, judge=None, call=None):
-    """The exit status. `check` gives a sheet's reply in place of the library, `judge` that of twenties, `call` that of a preview."""
+def main(words=None, check=None, judge=None, call=None, roll=None):
+    """The exit status. In place of the library's calls: `check` gives a sheet's reply, `judge` that of twenties, `call` that of a preview,
+    `roll` that of a box's accelerations."""
     words = sys.argv[1:] if words is None else words
     if words[:1] == [twenties.WORD]:
         return twenties.main(words[1:], judge)
+    if words[:1] == [rolled.WORD]:
+        return rolled.main(words[1:], roll)
     options = arguments(words)
     if options.template:
         return say(template().rstrip(), ACCEPTED)
     try:
         options.forecast = forecast(options.forecast)
         check = check or library_check(options.library, options.forecast)
+        roll = roll or library_roll(options.library)
         if options.set:
-            return moved(options, check, call or library(options.library).preview)
-        return many(options, check) if several(options) else one(options, check)
+            return moved(options, check, roll, call or library(options.library).preview)
+        return many(options, check, roll) if several(options) else one(options, check, roll)
     except BadValue as fault:
         return failed(options, str(fault), BAD_INPUT)
     except CheckFailed as failure:

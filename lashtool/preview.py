@@ -12,7 +12,7 @@ from lashtool.fields import ENDS, TIER_FIELDS, field
 from lashtool.figures import LASH_KINDS, Result, result
 from lashtool.report import Cell, aligned, bulleted, used, verdict_state
 from lashtool.words import (
-    KIND_WORDS, NOT_CHECKED, PAD_WORDS, force_words, place_words, route_words, rule_notes, verdict_words, way_words, where, worst_words,
+    KIND_WORDS, PAD_WORDS, force_words, not_checked, place_words, route_words, rule_notes, verdict_words, way_words, where, worst_words,
 )
 from sheets.limits import COMPRESSION, CORNER, LOCK, RACKING
 from sheets.sheet import Refused, pack
@@ -113,7 +113,7 @@ def with_move(move, before, reply):
         sheet, answer = outcome(pack(replace(before.sheet, tiers=tuple(tiers))), reply)
     except Refused as refused:
         raise CheckFailed(f"the preview was refused with {refused}") from None
-    return result(before.title, sheet, answer, before.assumed, before.numbers)
+    return result(before.title, sheet, answer, before.assumed, before.numbers, before.motion)
 
 
 # The printout
@@ -137,7 +137,7 @@ def table(preview, colour=False):
 def notes(preview):
     figures = (*preview.before.figures.values(), *preview.after.figures.values())
     small = any(figure.force_text.startswith("<") for figure in figures)
-    return [*rule_notes(preview.before.sheet.head), NOTES, *([PAD_WORDS] if small else []), NOT_CHECKED]
+    return [*rule_notes(preview.before.sheet.head), NOTES, *([PAD_WORDS] if small else []), not_checked(preview.before)]
 
 
 def moved_words(preview):

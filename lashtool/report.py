@@ -8,8 +8,8 @@ from lashtool.fields import ENDS, LASH_FIELDS, TIER_FIELDS, lash_place, word
 from lashtool.figures import CALM, LASH_KINDS, OVER, greatest
 from lashtool.geometry import foot_height, lash_length
 from lashtool.words import (
-    FORECAST_WORDS, KIND_WORDS, NOT_CHECKED, ONE_PULL_WORDS, PAD_WORDS, assumed_words, ends_words, force_words, lock_words, route_words,
-    rule_notes, stack_words, stiffness_words, verdict_words, warnings, way_words, where, worst_words,
+    FORECAST_WORDS, KIND_WORDS, ONE_PULL_WORDS, PAD_WORDS, assumed_words, ends_words, force_words, lock_words, motion_words,
+    not_checked, route_words, rule_notes, stack_words, stiffness_words, verdict_words, warnings, way_words, where, worst_words,
 )
 from sheets.limits import (
     COMPRESSION, COMPRESSION_LIMIT, CORNER, CORNER_LIMIT, LASH_ATHWART_LIMIT, LASH_VERTICAL_LIMIT, LOCK, RACKING,
@@ -82,7 +82,7 @@ def checked(outcome):
     sheet = outcome.sheet
     words = (
         stack_words(sheet), route_words(sheet.head, outcome.forecast), lock_words(sheet.head), stiffness_words(sheet),
-        assumed_words(outcome),
+        motion_words(outcome), assumed_words(outcome),
     )
     return [
         *bulleted("CHECKED", [line for line in words if line]),
@@ -212,4 +212,4 @@ def notes(outcome):
         texts.append(ONE_PULL_WORDS)
     if any(figure.force_text.startswith("<") for figure in outcome.figures.values()):
         texts.append(PAD_WORDS)
-    return bulleted("NOTES", [*texts, NOT_CHECKED])
+    return bulleted("NOTES", [*texts, not_checked(outcome)])

@@ -5,7 +5,7 @@ from textwrap import wrap
 from lashtool.drawing import INK
 from lashtool.report import lash_rows, tier_rows
 from lashtool.svg_style import BOLD, FAINT
-from lashtool.words import NOT_CHECKED, PAD_WORDS, assumed_words, rule_notes, warnings
+from lashtool.words import PAD_WORDS, assumed_words, motion_words, not_checked, rule_notes, warnings
 
 ROW = 16
 LETTER = 6.2  # the width of a letter on average, which text is folded by
@@ -46,6 +46,8 @@ def page_notes(outcome):
     """(text, how it is written)."""
     for warning in warnings(outcome):
         yield f"Warning: {warning}", BOLD
+    if outcome.motion:
+        yield f"{motion_words(outcome)}.".replace("worked", "Worked", 1), {}
     if outcome.assumed:
         yield f"{assumed_words(outcome)}.".replace("not given", "Not given", 1), {}
     for note in rule_notes(outcome.sheet.head):
@@ -58,4 +60,4 @@ def page_notes(outcome):
     )
     if any(figure.force_text.startswith("<") for figure in outcome.figures.values()):
         yield PAD_WORDS, {}
-    yield NOT_CHECKED, {}
+    yield not_checked(outcome), {}

@@ -1,12 +1,23 @@
 """A commented description to start from, and the table of all fields."""
 
-from lashtool.fields import GEAR_FIELDS, HEAD_FIELDS, LASH_FIELDS, LOCK_FIELDS, ROUTES, TIER_FIELDS, field
+from lashtool.fields import (
+    ACCELERATION_FIELDS, GEAR_FIELDS, HEAD_FIELDS, HEIGHT_FIELD, LASH_FIELDS, LOCK_FIELDS, POSITION_FIELDS, ROUTES, SHIP_FIELDS,
+    TIER_FIELDS, field,
+)
 from sheets.sheet import ROUTE_PERCENT
 
 # A stack that is accepted: what stands in the template where there is no default, and where there is.
 BOX = {"A_T": 400, "A_Vmax": 1_200, "A_Vmin": 800}
 ROD = {"LY": 2_200, "LZ": 2_500, "area": 490, "modulus": 97_000}
 MASSES = (24_000, 16_000, 8_000)
+# What need not be given, though it has no default.
+NOT_ALWAYS = {
+    **dict.fromkeys(ACCELERATION_FIELDS, "worked out if there is a ship, else must be given"),
+    **dict.fromkeys((*SHIP_FIELDS, *POSITION_FIELDS), "needed where accelerations are worked out"),
+    HEIGHT_FIELD: "from `position.foot` and the heights",
+}
+SHIP = {"length": 300_000, "roll_angle": 2_500, "roll_period": 2_000, "a0": 2_012, "roll_centre": 15_000}
+PLACE = {"x": 150_000, "y": 12_000, "foot": 20_000}
 
 
 def template():
@@ -28,6 +39,8 @@ title = "Three tiers"
 [box]
 {settings(shared(TIER_FIELDS, "mass"), BOX)}
 
+{from_roll()}
+
 # The tiers, bottom first, 1 to 10.
 # mass: {remark(field(TIER_FIELDS, "mass"))}
 {tiers}
@@ -47,6 +60,22 @@ hook = "top"
 tier = 2
 hook = "bottom"
 """
+
+
+def from_roll():
+    """The lines on a ship's roll, all of them comments."""
+    return f"""\
+# In place of A_T, A_Vmax and A_Vmin: the ship's roll and the stack's place, from which those that are not given are worked out
+# (CR 5.2.4(a)). A box's centre is taken at 45% of its height by rule 1, at half by rule 2, unless the tier has z,
+# {remark(HEIGHT_FIELD)}.
+# [ship]
+{commented(settings(SHIP_FIELDS, SHIP))}
+# [position]
+{commented(settings(POSITION_FIELDS, PLACE))}"""
+
+
+def commented(text):
+    return "\n".join(f"# {line}" for line in text.splitlines())
 
 
 def shared(fields, own):
@@ -77,7 +106,8 @@ def field_table():
     yield "|---|---|---|---|---|"
     yield "| `title` | | text | none | heads the report |"
     for table, fields in (
-        ("", HEAD_FIELDS), ("lock.", LOCK_FIELDS), ("tier.", TIER_FIELDS), ("lash.", GEAR_FIELDS),
+        ("", HEAD_FIELDS), ("lock.", LOCK_FIELDS), ("tier.", TIER_FIELDS), ("lash.", GEAR_FIELDS), ("ship.", SHIP_FIELDS),
+        ("position.", POSITION_FIELDS), ("tier.", (HEIGHT_FIELD,)),
     ):
         for each in fields:
             values = "`true` or `false`" if each.flag else each.range().replace('"', "`")
@@ -86,7 +116,7 @@ def field_table():
 
 def default_words(field):
     if field.default is None:
-        return "must be given"
+        return NOT_ALWAYS.get(field, "must be given")
     if field.words or field.flag:
         return f"`{field.shown(field.default)}`"
     return f"{field.default:,}"

@@ -22,10 +22,6 @@ PLACE_WORDS = {
     **dict.fromkeys((COMPRESSION, CORNER, LOCK), "level"),
     **dict.fromkeys((LASH_TENSION, LASH_VERTICAL, LASH_ATHWART), "lash"),
 }
-NOT_CHECKED = (
-    "Not covered: the ship's motion (accelerations are given), longitudinal forces and side walls, cell guides, "
-    "buttresses, blocks of joined stacks, vertical lashings, mixed lengths. No class society has certified this program."
-)
 PAD_WORDS = (
     f"< {KEPT}: every figure is proved to be at least the exact force in size and less than {KEPT} N above it; "
     "so small a figure may stand for no force at all."
@@ -98,6 +94,30 @@ def stiffness_words(sheet):
 
 def assumed_words(outcome):
     return f"not given and taken as: {'; '.join(outcome.assumed)}" if outcome.assumed else ""
+
+
+def not_checked(outcome):
+    """What no report covers. Accelerations that were worked out from roll are not given, and the roll is."""
+    motion = "the ship's motion but for the roll described" if outcome.motion else "the ship's motion (accelerations are given)"
+    return (
+        f"Not covered: {motion}, longitudinal forces and side walls, cell guides, buttresses, blocks of joined stacks, vertical "
+        "lashings, mixed lengths. No class society has certified this program."
+    )
+
+
+def motion_words(outcome):
+    """What was worked out from the ship's roll, and from what."""
+    if not outcome.motion:
+        return ""
+    motion, by_names = outcome.motion, {}
+    for each in motion.worked:
+        by_names.setdefault(each.names, []).append(str(each.tier))
+    tiers = "; ".join(
+        f"{', '.join(names)} of {'tiers' if numbers[1:] else 'tier'} {', '.join(numbers)}" for names, numbers in by_names.items()
+    )
+    heights = ", ".join(f"{each.z:,}" for each in motion.worked)
+    place = f"x {motion.position['x']:,} mm, y {motion.position['y']:,} mm, centres at z {heights} mm"
+    return f"worked out from roll by CR 5.2.4(a): {tiers}; {motion.ship.words()}; {place}"
 
 
 # What the check says

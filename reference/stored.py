@@ -1,12 +1,14 @@
 #!/usr/bin/env python3
-"""Writes what the programs cases, cases_preview, cases_twenties, cases_forecast and lashcheck are run on, and what they must write.
+"""Writes what the programs cases, cases_preview, cases_twenties, cases_forecast, cases_roll and lashcheck are run on, and what they must
+write.
 
-The src/main.rt of each says how a case, a move and a question are laid out. A field is the size of a number of the answer and the
-least and the most that it may be; a racking to windward lies in two's complement.
+The src/main.rt of each says how a case, a move, a question and a condition are laid out. A field is the size of a number of the answer
+and the least and the most that it may be; a racking to windward lies in two's complement.
 """
 
 import struct
 import sys
+from dataclasses import astuple
 from pathlib import Path
 
 ROOT = Path(__file__).resolve().parent.parent
@@ -17,6 +19,8 @@ from reference.cases import CASES, may_be_named, reported_range, stands
 from reference.judge import figures
 from reference.preview import previewed, with_mass
 from reference.preview_asked import FIGURES as MOVES
+from reference.roll import Accelerations, accelerations
+from reference.roll_asked import FIGURES as CONDITIONS
 from reference.script import finish
 from reference.stack import exact
 from reference.twenties import Verdict, judge
@@ -29,6 +33,7 @@ FIELD = struct.Struct("<BII")
 QUESTION = struct.Struct("<16I")  # table, acceleration, count, and thirteen masses of which so many count
 MOVE = struct.Struct("<IHHHH250s250s")  # tier, mass, room, lengths of the sheet and of the copy, and these
 FORECAST = struct.Struct("<HHIHIIH")  # wave height, breadth, hours, room, least and most of a racking, length of the sheet
+CONDITION = struct.Struct("<6I4i")
 ROOM_LIMIT = 1_024
 INPUT_LIMIT = 65_536
 
@@ -178,6 +183,12 @@ def forecast_line(asked):
     return f"{asked.wave_height} {asked.breadth} {asked.hours}{factor} {words}\n"
 
 
+def condition_line(given):
+    """What the program cases_roll must write of a condition."""
+    said = accelerations(given)
+    return f"{'given' if isinstance(said, Accelerations) else 'refused'} {' '.join(map(str, astuple(said)))}\n"
+
+
 def stored():
     """The bytes of each file, by its path from the top."""
     data = b"".join(map(packed, CASES))
@@ -194,6 +205,8 @@ def stored():
         "crates/cases_twenties/stdout": "".join(question_line(*asked) for asked in FIGURES).encode(),
         "crates/cases_forecast/stdin": b"".join(map(forecast_question, forecast_asked.FIGURES)),
         "crates/cases_forecast/stdout": "".join(map(forecast_line, forecast_asked.FIGURES)).encode(),
+        "crates/cases_roll/stdin": b"".join(CONDITION.pack(*astuple(given)) for given in CONDITIONS),
+        "crates/cases_roll/stdout": "".join(map(condition_line, CONDITIONS)).encode(),
         "crates/lashcheck/stdin": sample.data,
         "crates/lashcheck/stdout": b"%d %d\n" % (number, second),
     }

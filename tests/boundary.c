@@ -4,6 +4,7 @@
    from a byte left alone. Each sheet is previewed the same way with a tier and a mass, and held to the check of a copy. Then forecasts,
    a fifth as many, on sheets of their own in the same way; beside each the greatest factor, by which the call must do what the check
    does. Then twenties: their masses lie as the sheets do, and where no mass is to be read, on an unreadable page.
+   Then accelerations from roll: no memory is lent, so only the numbers are tried.
 
    usage: boundary [--count N] [--seed N] [--dump FILE]
    Exit status 0: no fault; 1: a fault, shown with its sheet; 2: bad use, or no memory to run in. */
@@ -337,13 +338,20 @@ struct forecast {
     uint32_t hours;
 };
 
+struct condition {
+    uint32_t sine, cosine, heave, angle, period, length;
+    int32_t centre, x, y, z;
+};
+
 static struct sheet sheet;
 static const struct forecast *weather; /* none: the plain check */
 static struct question question;
+static struct condition condition;
 static int asking; /* about twenties, no longer about sheets */
 static int previewing;
 static uint32_t moved_tier;
 static uint16_t moved_mass;
+static int rolling; /* about accelerations, no longer about twenties */
 static unsigned long sheet_number;
 static size_t room;
 static sigjmp_buf stopped;
@@ -365,11 +373,20 @@ static void print_question(FILE *out)
         fprintf(out, " %u", question.masses[i]);
 }
 
+static void print_condition(FILE *out)
+{
+    const struct condition *c = &condition;
+    fprintf(out, "%u %u %u %u %u %u ", c->sine, c->cosine, c->heave, c->angle, c->period, c->length);
+    fprintf(out, "%d %d %d %d", c->centre, c->x, c->y, c->z);
+}
+
 __attribute__((format(printf, 1, 2), noreturn)) static void fail(const char *format, ...)
 {
     va_list rest;
     va_start(rest, format);
-    if (asking)
+    if (rolling)
+        printf("FAULT: roll: ");
+    else if (asking)
         printf("FAULT: twenties: ");
     else
         printf("FAULT: sheet %lu (%s, %zu bytes, answer buffer of %zu): ", sheet_number, sheet.kind, sheet.length, room);
@@ -378,8 +395,10 @@ __attribute__((format(printf, 1, 2), noreturn)) static void fail(const char *for
     if (!asking && weather)
         printf("by forecast %u %u %u: ", weather->wave_height, weather->breadth, weather->hours);
     vprintf(format, rest);
-    printf(asking ? "\n  table, acceleration, count, masses " : "\n  sheet ");
-    if (asking)
+    printf(rolling ? "\n  sine to z " : asking ? "\n  table, acceleration, count, masses " : "\n  sheet ");
+    if (rolling)
+        print_condition(stdout);
+    else if (asking)
         print_question(stdout);
     else
         print_hex(stdout, sheet.bytes, sheet.length);
@@ -781,6 +800,92 @@ static void run_twenties(unsigned long count, FILE *out)
     }
 }
 
+/* Accelerations from roll. */
+
+/* Mostly within a range, else at its ends, past them, or as great as 32 bits allow. */
+static uint32_t about(uint32_t least, uint32_t most)
+{
+    uint32_t edges[] = {least, least + 1, most - 1, most, most + 1, least - 1, 0, 1, INT32_MAX, 1u + INT32_MAX, UINT32_MAX};
+    return below(12) ? between(least, most) : edges[below(COUNT(edges))];
+}
+
+static int32_t place(int32_t farthest)
+{
+    uint32_t size = about(0, (uint32_t)farthest);
+    return below(2) ? (int32_t)size : (int32_t)(0 - size);
+}
+
+/* Sine and cosine of some angles, as tables print them. */
+static void make_condition(void)
+{
+    static const uint32_t units[][2] = {{0, 10000}, {1736, 9848}, {2588, 9659}, {3420, 9397},
+                                        {4226, 9063}, {5000, 8660}, {7071, 7071}, {10000, 0}};
+    const uint32_t *unit = units[below(COUNT(units))];
+    condition.sine = below(16) ? unit[0] : about(0, 10000);
+    condition.cosine = below(16) ? unit[1] : about(0, 10000);
+    condition.heave = about(0, below(2) ? 3000 : 10000);
+    condition.angle = about(0, below(2) ? 3000 : 9000);
+    condition.period = below(2) ? about(600, 4000) : about(1, 10000);
+    condition.length = about(1, 500000);
+    condition.centre = place(below(2) ? 20000 : 500000);
+    condition.x = below(8) ? (int32_t)below(condition.length < 500000 ? condition.length + 1 : 500000) : place(500000);
+    condition.y = place(below(2) ? 30000 : 500000);
+    condition.z = place(below(2) ? 60000 : 500000);
+}
+
+/* Twice the same; a refusal that there is; or accelerations within the limits of a tier, with no bit outside them. */
+static uint64_t check_condition(void)
+{
+    const struct condition *c = &condition;
+    uint64_t both[2];
+    for (int i = 0; i < 2; i++)
+        both[i] = lash_roll(c->sine, c->cosine, c->heave, c->angle, c->period, c->length, c->centre, c->x, c->y, c->z);
+    uint64_t result = both[0], second = lash_second_of(result);
+    int64_t a_t = lash_roll_a_t(result), a_vmax = lash_roll_a_vmax(result), a_vmin = lash_roll_a_vmin(result);
+    if (result != both[1])
+        fail("two calls with the same numbers differ: %llx and %llx", (unsigned long long)result, (unsigned long long)both[1]);
+    switch (lash_number_of(result)) {
+    case LASH_TAKEN:
+        if (result >> 56 || a_t > 1500 || a_vmax > 3000 || a_vmin > 1000 || a_vmin > a_vmax)
+            fail("gives %llx, which no tier can have", (unsigned long long)result);
+        return result;
+    case LASH_CONDITION:
+    case LASH_ACCELERATION:
+        if (lash_number_of(result) == LASH_CONDITION ? second != 0 : second < 1 || second > 3)
+            fail("is refused with a second number of %llu", (unsigned long long)second);
+        if (a_t != LASH_NONE || a_vmax != LASH_NONE || a_vmin != LASH_NONE)
+            fail("is refused, and the readers give accelerations");
+        return result;
+    default:
+        fail("gives %llx", (unsigned long long)result);
+    }
+}
+
+/* In the dump a line: roll, the ten numbers, the result. */
+static void run_roll(unsigned long count, FILE *out)
+{
+    unsigned long given = 0, refused = 0, outside[4] = {0};
+    rolling = 1;
+    for (unsigned long i = 0; i < count; i++) {
+        make_condition();
+        uint64_t result = check_condition();
+        given += lash_number_of(result) == LASH_TAKEN;
+        refused += lash_number_of(result) == LASH_CONDITION;
+        outside[lash_number_of(result) == LASH_ACCELERATION ? lash_second_of(result) : 0]++;
+        if (out && i < DUMPED) {
+            fprintf(out, "roll ");
+            print_condition(out);
+            fprintf(out, " %llu\n", (unsigned long long)result);
+        }
+    }
+    printf("%lu conditions of roll, each asked twice: %lu given; refused by number 18: %lu, 19 with 1: %lu, 2: %lu, 3: %lu\n", count,
+           given, refused, outside[1], outside[2], outside[3]);
+    if (count >= ENOUGH / SHEETS_A_QUESTION && !(given && refused && outside[1] && outside[2] && outside[3])) {
+        printf("FAULT: no condition gave one of these\n");
+        exit(1);
+    }
+}
+
 int main(int argc, char **argv)
 {
     static unsigned long count = 50000;
@@ -815,6 +920,7 @@ int main(int argc, char **argv)
     run_previews(count, out);
     run_forecasts(count / SHEETS_A_FORECAST, out);
     run_twenties(count / SHEETS_A_QUESTION, out);
+    run_roll(count / SHEETS_A_QUESTION, out);
     if (out && fclose(out) != 0) {
         perror(path);
         return 2;

@@ -60,9 +60,10 @@ def reply(output):
     return Reply(number + 256 * second, output)
 
 
-def lash(*words, output=b"", stdin=b"", binary=False, twenties=None, preview=None):
+def lash(*words, output=b"", stdin=b"", binary=False, twenties=None, preview=None, roll=None):
     """Status, output and messages of ./lash with these words, given what the program would write for the sheet, or for each, or what
-    the call for twenties would return, or what the program would write for the sheet with a move."""
+    the calls for twenties and for roll would return, that for roll perhaps by the condition, or what the program would write for the
+    sheet with a move."""
     out, err = io.TextIOWrapper(io.BytesIO(), "utf-8"), io.StringIO()
     given = mock.patch("sys.stdin", io.TextIOWrapper(io.BytesIO(stdin)))
     with contextlib.redirect_stdout(out), contextlib.redirect_stderr(err), given:
@@ -70,7 +71,9 @@ def lash(*words, output=b"", stdin=b"", binary=False, twenties=None, preview=Non
             check = output if callable(output) else lambda data: output
             judge = None if twenties is None else lambda *asked: Reply(twenties)
             call = None if preview is None else lambda *asked: reply(preview)
-            status = main([str(word) for word in words], check=lambda data: reply(check(data)), judge=judge, call=call)
+            works_out = None if roll is None else lambda *condition: Reply(roll(*condition) if callable(roll) else roll)
+            calls = {"check": lambda data: reply(check(data)), "judge": judge, "call": call, "roll": works_out}
+            status = main([str(word) for word in words], **calls)
         except SystemExit as end:
             status = end.code
     out.flush()
@@ -105,12 +108,20 @@ uint64_t lash_twenties(uint32_t table, uint32_t acceleration, const uint32_t *ma
     (void)table, (void)acceleration, (void)masses, (void)count;
     return %s;
 }
+uint64_t lash_roll(uint32_t sine, uint32_t cosine, uint32_t heave, uint32_t angle, uint32_t period, uint32_t length, int32_t centre,
+                   int32_t x, int32_t y, int32_t z)
+{
+    (void)sine, (void)cosine, (void)heave, (void)angle, (void)period, (void)length, (void)centre, (void)x, (void)y, (void)z;
+    return %s;
+}
 """
 
 
-def library_of(folder, answer, name="lash_check", twenties=0):
-    """A shared library whose call gives this answer for every sheet, preview and forecast, and this number for all twenties."""
+def library_of(folder, answer, name="lash_check", twenties=0, roll=0):
+    """A shared library whose call gives this answer for every sheet, preview and forecast, and these numbers for all twenties and all
+    conditions of roll."""
     source, made = folder / f"{name}.c", folder / f"{name}.so"
-    source.write_text(LIBRARY % (name, ", ".join(map(str, answer)), name, name, f"UINT64_C({twenties})"))
+    numbers = (f"UINT64_C({number})" for number in (twenties, roll))
+    source.write_text(LIBRARY % (name, ", ".join(map(str, answer)), name, name, *numbers))
     subprocess.run(["cc", "-shared", "-fPIC", source, "-o", made], check=True)
     return made

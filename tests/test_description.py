@@ -140,7 +140,7 @@ class Defaults(unittest.TestCase):
 WRONG = (
     ("A_T = 500", "A_T = 500\nA_VMax = 2", '[box]: unknown field "A_VMax"; did you mean "A_Vmax"?'),
     ("[box]", "colour = 1\n[box]", "the stack: unknown field \"colour\"; known are title, rule, route, "
-     "lock, box, gear, tier, lash"),
+     "lock, box, gear, ship, position, tier, lash"),
     ("[[lash]]", "[[lash]]\nlenght = 3", 'lash 1: unknown field "lenght"; known are end, tier, hook, kind, '
      "material, LX, LY, LZ, area, modulus, breaking_load"),
     ("[gear]", "masss = 3\n[gear]", 'tier 2: unknown field "masss"; did you mean "mass"?'),
@@ -199,7 +199,7 @@ WRONG = (
     ("mass = 20000", "mass = 20000\nWeight = 3", '[box]: unknown field "Weight"; did you mean "mass"?'),
     ("area", "MBL", '[gear]: unknown field "MBL"; did you mean "breaking_load"?'),
     ("[box]", "weight = 1\n[box]", "the stack: unknown field \"weight\"; known are title, rule, route, "
-     "lock, box, gear, tier, lash"),
+     "lock, box, gear, ship, position, tier, lash"),
     ("tier = 1", "tier = 1\nLX = 5001", "lash 1: LX 5001 is outside 0 to 5,000 mm"),
     ("LZ = 2600", "LZ = 499", "[gear]: LZ 499 is outside 500 to 20,000 mm"),
     ("area = 500", "area = 49", "[gear]: area 49 is outside 50 to 1,000 mm2"),

@@ -6,9 +6,10 @@ import sys
 import unittest
 from struct import calcsize
 
-from reference import preview, twenties
+from reference import preview, roll, twenties
 from reference.forecast import factor
 from reference.judge import KEPT, expected, judge
+from reference.roll_asked import USUAL
 from sheets.answer import read_answer
 from sheets.limits import (
     COMPRESSION_LIMIT, CORNER_LIMIT, LASH_ATHWART_LIMIT, LASH_VERTICAL_LIMIT, RACKING_LIMIT,
@@ -68,6 +69,7 @@ class SheetDocument(unittest.TestCase):
             ("Refused by a preview alone", "lash_preview_number", [17]),
             ("Refused by a forecast alone", "lash_forecast_number", [20, 21]),
             ("Numbers of its refusals", "lash_twenties_number", [22, 23]),
+            ("Numbers of the refusals of roll", "lash_roll_number", [18, 19]),
         ):
             enum = header.split(f"enum {name}")[1].split("};")[0]
             listed = re.findall(r"LASH_\w+ = (\d+),? +/\* ([^:*]+): (.*?) \*/", enum)
@@ -86,6 +88,10 @@ class SheetDocument(unittest.TestCase):
     def test_twenties(self):
         said = twenties.packed(twenties.judge(0, 412, (24_000, 22_000, 20_000, 18_000)))
         self.assertIn(f"`{said:#018x}`, which is yes, 60,000 kg of 74,700 kg", TEXT)
+
+    def test_roll(self):
+        said = roll.packed(roll.accelerations(USUAL))
+        self.assertIn(f"`{said:#018x}`, which is A_T 574, A_Vmax 1,177 and A_Vmin 1,000", TEXT)
 
     def test_limits(self):
         kinds = re.findall(r"^\| (\d) \| [^|]* \| [^|]* \| ([^|]*) \|$", TEXT.split("## Answer sheet")[1], re.M)

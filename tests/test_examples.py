@@ -26,6 +26,7 @@ SHOWN = {
     "turned": ("accepted", []),
     "bottom-hook": ("accepted", []),
     "long-rods": ("accepted", []),
+    "from-roll": ("accepted, its accelerations worked out from the ship's roll", []),
     "last-box": ("accepted, and not with a heavier box on top", []),
     "racking": ("unacceptable racking", [(end, RACKING, 1) for end in BOTH]),
     "pulled-back": ("unacceptable racking, to windward", [(0, RACKING, 6)]),

@@ -12,6 +12,7 @@ OWN = {
     "twenties": (("crates/twenties/specs/", "crates/lash/specs/Told.antt"), 130),
     "preview": (("crates/preview/specs/",), 20),
     "forecast": (("crates/forecast/specs/", "crates/forecast_factor/specs/"), 35),
+    "roll": (("crates/roll/specs/", "crates/arith/specs/Wholes.antt", "crates/lash/specs/RolledIn.antt"), 110),
 }
 LISTS = {"Lib.antt", "inner.antt"}  # lists of modules
 FOLLOWS = {  # proved of the rest

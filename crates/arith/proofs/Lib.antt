@@ -22,3 +22,4 @@ pub mod Quotients
 pub mod Ceilings
 pub mod RationalRounding
 pub mod RoundingLaws
+pub mod WholeLaws

@@ -2,7 +2,8 @@
 use Prim.Native.Nat.{ℕ, _+_, _*_, _-_, _/_, _%_, _<_, _≤_}
 use mathlib.Core.Path.{_≡_, sym, ap, _∙_}
 use native.Mathlib.Nat.{mul-comm, mul-assoc, add-mul, div-add-mod', mul-add-div-right, mul-add-mod-self-right, mod-lt, le-of-lt}
-use native.Mathlib.Nat.{mul-le-mul-left, mul-le-mul-right, div-le-of-le-mul, div-div-eq-div-mul, div-eq-of-lt, div-eq-of-lt-le, add-zero}
+use native.Mathlib.Nat.{mul-le-mul-left, mul-le-mul-right, div-le-of-le-mul, div-div-eq-div-mul, div-eq-of-lt, div-eq-of-lt-le}
+use native.Mathlib.Nat.{add-zero, add-comm, div-lt-iff-lt-mul}
 use native.Mathlib.Omega.{arith}
 
 -- x = x / c * c + x % c, times m
@@ -73,3 +74,29 @@ module _ (x d : ℕ) (h : 0 < d) where
 
   pub step-le : 0 < x % d → x / d + 1 ≤ x
   step-le r = omega (arith, div-add-mod' x d, mul-le-mul-left (x / d) h)
+
+-- a product rounded up, by the parts of y over m, then over n
+module _ (x y m : ℕ) (h : 0 < m) where
+  pub up-part-le : (x * (y % m) + (m - 1)) / m ≤ x
+  up-part-le =
+      let l : x * (y % m) + (m - 1) < (x + 1) * m = omega (arith, part-le x y m h) in
+      omega (arith, div-lt-iff-lt-mul h .1 l)
+
+  split-up : x * (y / m) + (x * (y % m) + (m - 1)) / m ≡ (x * y + (m - 1)) / m
+  split-up =
+      let e : x * (y / m) * m + (x * (y % m) + (m - 1)) ≡ x * y + (m - 1) = omega (arith, parts) in
+      sym (mul-add-div-right h (x * (y / m)) (x * (y % m) + (m - 1))) ∙ ap (λ (k : ℕ). k / m) e
+    where
+      parts : x * (y / m) * m + x * (y % m) ≡ x * y
+      parts = rw (mul-comm x (y / m), mul-comm x (y % m), mul-comm x y) (by-parts y x m)
+
+  pub split-up-twice :
+      (n : ℕ) → 0 < n → (x * (y / m) + (x * (y % m) + (m - 1)) / m + (n - 1)) / n ≡ (x * y + (m * n - 1)) / (m * n)
+  split-up-twice n l =
+      let one : n - 1 + 1 ≡ n = omega arith in
+      let whole : (n - 1) * m + 1 * m ≡ m * n = sym (add-mul (n - 1) 1 m) ∙ ap (λ (k : ℕ). k * m) one ∙ mul-comm n m in
+      let e : (n - 1) * m + (x * y + (m - 1)) ≡ x * y + (m * n - 1) = omega (arith, whole) in
+      let over : (x * y + (m - 1)) / m + (n - 1) ≡ (x * y + (m * n - 1)) / m =
+      add-comm ((x * y + (m - 1)) / m) (n - 1) ∙ sym (mul-add-div-right h (n - 1) (x * y + (m - 1))) ∙ ap (λ (k : ℕ). k / m) e
+      in
+      rw split-up (ap (λ (k : ℕ). k / n) over ∙ div-div-eq-div-mul (x * y + (m * n - 1)) m n)

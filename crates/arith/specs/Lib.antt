@@ -1,4 +1,6 @@
 pub mod Fractions
+pub mod Wholes
 pub mod Lists
 pub mod Bytes
+pub mod Theorems
 pub mod inner

@@ -31,6 +31,14 @@ pub fn split_product(x: u64, y: u64, m: u64, n: u64) -> u64
     (x * (y / m) + (x * (y % m)) / m) / n
 }
 
+// The same rounded up.
+pub fn split_product_up(x: u64, y: u64, m: u64, n: u64) -> u64
+    requires { ⌜ (0 < m) × (0 < n) × (x * m < 2 ^ 64) × (x * (y / m + 1) < 2 ^ 64) ⌝ }
+    ensures { λ r. ⌜ r ≡ roundedUp (x * y) (m * n) ⌝ }
+{
+    ceil_div(x * (y / m) + ceil_div(x * (y % m), m), n)
+}
+
 // x / d, rounded up.
 pub fn ceil_div(x: u64, d: u64) -> u64
     requires { ⌜ 0 < d ⌝ }

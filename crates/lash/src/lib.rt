@@ -5,13 +5,18 @@ ghost use Prim.Native.Nat.{_+_, _*_, _<_, _^_};
 ghost use lib.ListN.{length};
 ghost use Rattle.answer.specs.Checked.{Checked, number, second, kept};
 ghost use Rattle.answer.specs.inner.Named.{returned, written};
-ghost use Rattle.forecast.specs.Forecasts.{Forecast};
-ghost use Rattle.forecast.specs.inner.Named.{forecastReturned, forecastWritten};
-ghost use Rattle.lash.specs.Called.{Called};
 ghost use Rattle.preview.specs.Previews.{Previewed};
 ghost use Rattle.preview.specs.inner.Moved.{AsChecked};
+ghost use Rattle.forecast.specs.Forecasts.{Forecast};
+ghost use Rattle.forecast.specs.inner.Named.{forecastReturned, forecastWritten};
+ghost use Rattle.roll.specs.Rounded.{conditionA};
+ghost use Rattle.lash.specs.Called.{Called};
+ghost use Rattle.lash.specs.RolledIn.{AccelerationsIn, RolledIn};
 ghost use Rattle.lash.specs.Told.{Told, VerdictIn};
 use answer::Outcome;
+use roll::Accelerations;
+use roll::Condition;
+use roll::Rolled;
 use twenties::Judgement;
 use twenties::Verdict;
 
@@ -102,4 +107,58 @@ fn bit(set: bool) -> u64
         return 1;
     }
     0
+}
+
+// Works out a box's accelerations as roll::condition_a does. A refusal's numbers are told as lash_check tells them; of accelerations,
+// A_T is in bits 8 to 23, A_Vmax in bits 24 to 39, A_Vmin in bits 40 to 55.
+#[no_mangle]
+pub extern "C" fn lash_roll(
+    sine: u32,
+    cosine: u32,
+    heave: u32,
+    angle: u32,
+    period: u32,
+    length: u32,
+    centre: i32,
+    x: i32,
+    y: i32,
+    z: i32,
+) -> u64
+    ensures { λ r. ⌜ RolledIn (conditionA (record {
+      sine = sine;
+      cosine = cosine;
+      heave = heave;
+      angle = angle;
+      period = period;
+      length = length;
+      centre = centre;
+      x = x;
+      y = y;
+      z = z;
+    })) r ⌝ }
+{
+    let rolled = roll::condition_a(Condition {
+        sine,
+        cosine,
+        heave,
+        angle,
+        period,
+        length,
+        centre,
+        x,
+        y,
+        z,
+    });
+    match rolled {
+        Rolled::Given(accelerations) => packed_accelerations(accelerations),
+        Rolled::Refused(number, second) => joined(number, second),
+    }
+}
+
+// Accelerations that fit 16 bits each.
+fn packed_accelerations(a: Accelerations) -> u64
+    requires { ⌜ (a .aT < 2 ^ 16) × (a .aVmax < 2 ^ 16) × (a .aVmin < 2 ^ 16) ⌝ }
+    ensures { λ r. ⌜ AccelerationsIn a r ⌝ }
+{
+    256 * a.aT + 16777216 * a.aVmax + 1099511627776 * a.aVmin
 }

@@ -1,0 +1,4 @@
+pub mod ConditionA
+pub mod Rounded
+pub mod Theorems
+pub mod inner
