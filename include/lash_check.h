@@ -203,6 +203,19 @@ enum lash_preview_number {
     LASH_NO_TIER = 17 /* the tier: 0, or above the tier count */
 };
 
+/* Short voyages by forecast (CR 5.2.4(d)): the check of a sheet of route 0 with a factor by the weather in place of the route factor.
+   Wave height H and breadth B are in centimetres, the voyage in hours. The factor in thousandths is the least whole t with t - 400 at
+   least 1,000 x H / (20 x the root of B), kept within 600 and 1,000; at 1,000 the call returns and writes what lash_check does. What
+   is returned and written, and what holds of the buffers, is as with lash_check, and the readers above read it; the sheet's own
+   refusals come first, then the two below, then LASH_ROOM. The caller tests nothing first. */
+uint64_t lash_forecast(const uint8_t *sheet, size_t sheet_len, uint16_t wave_height, uint16_t breadth, uint32_t hours, uint8_t *answer,
+                       size_t answer_len);
+
+enum lash_forecast_number {
+    LASH_WITH_ROUTE = 20,  /* 0: a route other than 0 */
+    LASH_NO_FORECAST = 21  /* 0: a voyage of 72 hours or more, or a breadth of 0 */
+};
+
 /* Twenties in forty-foot guides (CR 5.4.6(b)(ii)): whether all tiers but the lowest together weigh no more than CR Table 5-2 (table 0,
    without a 40-ft box on top) or 5-3 (table 1, with one) permits. The acceleration is in thousandths of g, the masses those of the
    20-ft boxes alone in kg, lowest first; `count` is how many there are. The first number is in the low 8 bits of what is returned:
@@ -229,19 +242,6 @@ static inline int64_t lash_twenties_permitted(uint64_t result)
 {
     return lash_number_of(result) == LASH_TAKEN ? (int64_t)(result >> 40) : 0;
 }
-
-/* Short voyages by forecast (CR 5.2.4(d)): the check of a sheet of route 0 with a factor by the weather in place of the route factor.
-   Wave height H and breadth B are in centimetres, the voyage in hours. The factor in thousandths is the least whole t with t - 400 at
-   least 1,000 x H / (20 x the root of B), kept within 600 and 1,000; at 1,000 the call returns and writes what lash_check does. What
-   is returned and written, and what holds of the buffers, is as with lash_check, and the readers above read it; the sheet's own
-   refusals come first, then the two below, then LASH_ROOM. The caller tests nothing first. */
-uint64_t lash_forecast(const uint8_t *sheet, size_t sheet_len, uint16_t wave_height, uint16_t breadth, uint32_t hours, uint8_t *answer,
-                       size_t answer_len);
-
-enum lash_forecast_number {
-    LASH_WITH_ROUTE = 20,  /* 0: a route other than 0 */
-    LASH_NO_FORECAST = 21  /* 0: a voyage of 72 hours or more, or a breadth of 0 */
-};
 
 /* Accelerations from roll (CR 5.2.4(a), Condition A): what a tier's A_T, A_Vmax and A_Vmin are for one box. Sine and cosine of the roll
    angle and the heave factor a0 are in ten-thousandths, the angle in hundredths of a degree, the period in hundredths of a second;

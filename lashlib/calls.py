@@ -12,8 +12,8 @@ READ, NUMBERS, WRITTEN = "read", "numbers", "written"
 CALLS = {
     "lash_check": (READ, WRITTEN),
     "lash_preview": (READ, ctypes.c_uint32, ctypes.c_uint16, WRITTEN),
-    "lash_twenties": (ctypes.c_uint32, ctypes.c_uint32, NUMBERS),
     "lash_forecast": (READ, ctypes.c_uint16, ctypes.c_uint16, ctypes.c_uint32, WRITTEN),
+    "lash_twenties": (ctypes.c_uint32, ctypes.c_uint32, NUMBERS),
     "lash_roll": (*(ctypes.c_uint32,) * 6, *(ctypes.c_int32,) * 4),
 }
 POINTER_AND_LENGTH = {
@@ -74,11 +74,11 @@ class Library:
     def preview(self, sheet, tier, mass, room=ANSWER_ROOM):
         return self.call("lash_preview", sheet, tier, mass, room=room)
 
-    def twenties(self, table, acceleration, masses):
-        return self.call("lash_twenties", table, acceleration, masses, room=0)
-
     def forecast(self, sheet, wave_height, breadth, hours, room=ANSWER_ROOM):
         return self.call("lash_forecast", sheet, wave_height, breadth, hours, room=room)
+
+    def twenties(self, table, acceleration, masses):
+        return self.call("lash_twenties", table, acceleration, masses, room=0)
 
     def roll(self, *condition):
         """Sine, cosine, heave, angle, period, length, centre, x, y, z."""
