@@ -34,7 +34,13 @@ module _ (x y : Frac) where
       go false e = refl
 
 -- a tenth of n above zero, times a length above zero
-above : (t l n k : ℚ) → int (pos 10) *ℚ t ≡ n → int (pos 1000) *ℚ l ≡ k → int (pos 1) ≤ℚ n → int (pos 1) ≤ℚ k → int (pos 0) <ℚ t *ℚ l
+above :
+    (t l n k : ℚ) →
+    int (pos 10) *ℚ t ≡ n →
+    int (pos 1000) *ℚ l ≡ k →
+    int (pos 1) ≤ℚ n →
+    int (pos 1) ≤ℚ k →
+    int (pos 0) <ℚ t *ℚ l
 above t l n k e f h j = lt-of (int (pos 0)) (t *ℚ l) (go t l n k e f h j)
   where
     go :
