@@ -22,8 +22,9 @@ use Rattle.answer.specs.Findings.{endFindings, findingsBy, findings}
 use Rattle.answer.specs.Answers.{findingBytes}
 use Rattle.arith.specs.Lists.{from, padded}
 use Rattle.answer_findings.specs.declared.Found.{Found}
-use Rattle.answer_findings.specs.declared.limits.PullLimit.{PullLimit}
-use Rattle.answer_findings.specs.inner.Findings.{Put, Sized, lashLimit, lowerOf, findingWhere, findingsOver}
+use Rattle.limits.specs.declared.PullLimit.{PullLimit}
+use Rattle.limits.specs.inner.LowerOf.{lowerOf}
+use Rattle.answer_findings.specs.inner.Findings.{Put, Sized, lashLimit, findingWhere, findingsOver}
 use Rattle.answer_findings.specs.inner.Findings.{tierFindings, lashFindings, found}
 use Rattle.answer.proofs.ReadBack.{bytes-length}
 use Rattle.answer.proofs.TwoLimits.{corner-passed, lock-kept, lock-passed, corner-kept}

@@ -1,7 +1,5 @@
 // Document 01, "The answer sheet": a finding, of 3 bytes, wherever a reported size exceeds its limit; one for a tension (02, P11).
 
-mod limits; // limits.rt: permissible loads
-
 ghost use mathlib.Core.Path.{_≡_};
 ghost use mathlib.Core.Bool.{cond};
 ghost use mathlib.Core.List.{[], _∷_, _++_};
@@ -12,10 +10,10 @@ ghost use lib.Seq.{sets};
 ghost use Rattle.answer.specs.Limits.{rackingLimit};
 ghost use Rattle.answer.specs.Findings.{accepted};
 ghost use Rattle.answer_findings.specs.inner.Findings.{Put, Sized, lashLimit, findingsOver, tierFindings, lashFindings, found};
-use crate::limits::Limits;
-use crate::limits::PullLimit;
-use crate::limits::lower_of;
-use crate::limits::safe_load;
+use limits::Limits;
+use limits::PullLimit;
+use limits::lower_of;
+use limits::safe_load;
 use sheet::Lash;
 use sheet::Sheet;
 use statics::EndFigures;

@@ -7,16 +7,16 @@ ghost use Rattle.sheet.specs.Fits.{Fits};
 ghost use Rattle.springs.specs.inner.Elimination.{solved};
 ghost use Rattle.statics.specs.inner.Computed.{stiffnessesOf, figuresAt, figuresBy};
 ghost use Rattle.figures.specs.inner.Ends.{Workable};
-use figures_tiers::loads::loads_of;
-use figures_tiers::tier_springs::CLOSED_SPRING;
-use figures_tiers::tier_springs::DOOR_SPRING;
-use figures_tiers::tier_springs::springs_of;
+use figures_tiers::loads_of;
 use sheet::Lash;
 use sheet::Sheet;
 use sheet::Tier;
 use statics::EndFigures;
 use statics::Figures;
 use statics::LoadRule;
+use tier_springs::CLOSED_SPRING;
+use tier_springs::DOOR_SPRING;
+use tier_springs::springs_of;
 
 // The figures of one end: n tiers with a spring for each, m lashes, and the loads and weights that both ends share.
 fn end_figures(

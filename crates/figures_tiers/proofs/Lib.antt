@@ -1,3 +1,2 @@
--- Loads and weights from the top tier down, and the springs of the tiers.
+-- Loads and weights from the top tier down.
 pub mod LoadLaws
-pub mod SpringLaws

@@ -27,7 +27,7 @@ fn answer_sheet(t: Sheet, wave: u16, breadth: u16, hours: u32, answer: &mut [u8]
         return Outcome::Refused(21, 0);
     }
     let found = forecast_factor::factor_of(wave, breadth);
-    let by_route = figures_tiers::rules::rule_of(t);
+    let by_route = load_rules::rule_of(t);
     let rule = LoadRule {
         share: by_route.share,
         factor: found.factor,

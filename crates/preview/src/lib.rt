@@ -39,7 +39,7 @@ fn answer_moved(t: Sheet, tier: u32, mass: u16, answer: &mut [u8]) -> Outcome
         return Outcome::Refused(7, 9 + 12 * k);
     }
     let copy = with_mass(t, k, mass);
-    stack_check::answer_to(copy, figures_tiers::rules::rule_of(copy), answer)
+    stack_check::answer_to(copy, load_rules::rule_of(copy), answer)
 }
 
 // The sheet with another mass in its k-th tier, from 0.

@@ -3,61 +3,15 @@
 ghost use mathlib.Core.Path.{_≡_};
 ghost use mathlib.Core.List.{flatMap};
 ghost use Prim.Native.Nat.{_+_, _*_, _<_, _≤_};
-ghost use Rattle.sheet.specs.Layout.{tierFits, lashFits, breakingFits};
 ghost use Rattle.arith.specs.Lists.{below};
-ghost use Rattle.sheet.specs.Refusals.{offTiers, later, first, headRows, tierRows, tiersRows, lashRows, endRows, doorRows};
+ghost use Rattle.sheet.specs.Refusals.{first, headRows, tierRows, tiersRows, lashRows, endRows, doorRows};
 ghost use Rattle.sheet.specs.Refusals.{closedRows, endsRows, sheetRows};
-use sheet::Lash;
 use sheet::Reading;
-use sheet::Tier;
-
-fn breaking_fits(load: u32) -> bool
-    ensures { λ r. ⌜ r ≡ breakingFits load ⌝ }
-{
-    (1 <= load) & (load <= 2000000)
-}
-
-fn tier_fits(t: Tier) -> bool
-    ensures { λ r. ⌜ r ≡ tierFits t ⌝ }
-{
-    (((t.size == 20) & ((t.height == 2438) | (t.height == 2591)))
-        | ((t.size == 40) & ((t.height == 2591) | (t.height == 2896))))
-        & (t.wind <= 3)
-        & ((1 <= t.mass) & (t.mass <= 30480))
-        & (t.aT <= 1500)
-        & (t.aVmax <= 3000)
-        & (t.aVmin <= 1000)
-        & (t.aVmin <= t.aVmax)
-}
-
-fn lash_fits(l: Lash) -> bool
-    ensures { λ r. ⌜ r ≡ lashFits l ⌝ }
-{
-    (l.hook <= 1)
-        & (l.kind <= 1)
-        & (l.material <= 3)
-        & (l.lx <= 5000)
-        & ((500 <= l.ly) & (l.ly <= 10000))
-        & ((500 <= l.lz) & (l.lz <= 20000))
-        & ((50 <= l.area) & (l.area <= 1000))
-        & ((10000 <= l.modulus) & (l.modulus <= 200000))
-        & breaking_fits(l.breakingLoad)
-}
-
-// On no tier of n, or on the bottom corner of tier 1.
-fn off_tiers(n: u64, l: Lash) -> bool
-    ensures { λ r. ⌜ r ≡ offTiers n l ⌝ }
-{
-    (l.tier == 0) | (n < l.tier as u64) | ((l.tier == 1) & (l.hook == 1))
-}
-
-// Whether b comes later than a, by tier, then hook, then kind.
-fn later(a: Lash, b: Lash) -> bool
-    ensures { λ r. ⌜ r ≡ later a b ⌝ }
-{
-    (a.tier < b.tier)
-        | ((b.tier == a.tier) & ((a.hook < b.hook) | ((b.hook == a.hook) & (a.kind < b.kind))))
-}
+use sheet_limits::breaking_fits;
+use sheet_limits::lash_fits;
+use sheet_limits::later;
+use sheet_limits::off_tiers;
+use sheet_limits::tier_fits;
 
 fn test_head(s: &[u8]) -> Reading
     ensures { λ r. ⌜ r ≡ first (headRows (now (s .entry))) ⌝ }

@@ -42,7 +42,7 @@ pub fn check(sheet: &[u8], answer: &mut [u8]) -> Outcome
         Reading::Refused(number, second) => Outcome::Refused(number, second),
         Reading::Taken => {
             let t = decoded.sheet;
-            answer_to(t, figures_tiers::rules::rule_of(t), answer)
+            answer_to(t, load_rules::rule_of(t), answer)
         }
     }
 }

@@ -2,7 +2,7 @@
 use mathlib.Core.Path.{refl, ap, _∙_}
 use Prim.Native.Nat.{_≤_}
 use native.Mathlib.Omega.{arith}
-use Rattle.answer_findings.specs.inner.Findings.{lowerOf}
+use Rattle.limits.specs.inner.LowerOf.{lowerOf}
 use Rattle.answer_findings.proofs.Puts.{then}
 use Rattle.answer_findings.proofs.FindingLaws.{found-is}
 use borrow.Author.Needs.{needs}

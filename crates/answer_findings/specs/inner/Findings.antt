@@ -12,12 +12,12 @@ use Rattle.sheet.specs.declared.Sheet.{Sheet}
 use Rattle.statics.specs.declared.EndFigures.{EndFigures}
 use Rattle.statics.specs.declared.Figures.{Figures}
 use Rattle.sheet.specs.Ends.{door, closed, lashesOf}
-use Rattle.answer.specs.Limits.{rackingLimit, compressionLimit, cornerTensionLimit, lashVerticalLimit, lashAthwartLimit, safeLoad}
+use Rattle.answer.specs.Limits.{rackingLimit, compressionLimit, lashVerticalLimit, lashAthwartLimit, safeLoad}
 use Rattle.answer.specs.Findings.{findings}
 use Rattle.answer.specs.Answers.{findingBytes}
 use Rattle.arith.specs.Lists.{below, padded}
 use Rattle.answer_findings.specs.declared.Found.{Found}
-use Rattle.answer_findings.specs.declared.limits.PullLimit.{PullLimit}
+use Rattle.limits.specs.declared.PullLimit.{PullLimit}
 
 -- `bytes` put into a buffer from `at` on, and the place behind them; up to three bytes behind that place may have changed
 pub record Put (before : List ℕ) (at : ℕ) (bytes after : List ℕ) (next : ℕ) : Type 0 where
@@ -45,10 +45,6 @@ findingWhere end kind index size limit = cond (ltb limit size) (end ∷ kind ∷
 -- the bytes of the findings of one kind, at n indexes from `first` on, with the size and the limit at an index
 unfoldable pub findingsOver : ℕ → ℕ → ℕ → (ℕ → ℕ) → (ℕ → ℕ) → ℕ → List ℕ
 findingsOver end kind first size limit n = flatMap (λ k. findingWhere end kind (first + k) (size (first + k)) (limit (first + k))) (below n)
-
--- what a tension is checked against: the lower of the corner's limit and the lock's, under the kind of that one
-abbrev pub lowerOf : ℕ → PullLimit
-lowerOf lock = cond (ltb lock cornerTensionLimit) (record { kind = 4; limit = lock }) (record { kind = 3; limit = cornerTensionLimit })
 
 -- the bytes of an end's findings: kinds 1 to 4, of its tiers and levels, and kinds 5 to 7, of its lashes
 unfoldable pub tierFindings : ℕ → ℕ → PullLimit → EndFigures → List ℕ

@@ -1,0 +1,52 @@
+// Document 01, "Permissible loads", in N.
+
+ghost use mathlib.Core.Path.{_≡_};
+ghost use Rattle.answer.specs.Limits.{safeLoad};
+ghost use Rattle.limits.specs.inner.LowerOf.{lowerOf};
+
+// The limits of CR Table 2-3.
+pub struct Limits {}
+
+impl Limits {
+    pub const RACKING: u64 = 150_000;
+
+    pub const COMPRESSION: u64 = 848_000;
+
+    pub const CORNER_TENSION: u64 = 250_000;
+
+    pub const LASH_VERTICAL: u64 = 300_000;
+
+    pub const LASH_ATHWART: u64 = 150_000;
+}
+
+// The safe working load in whole kilonewtons: breaking load / 1.67 for higher strength steel, / 2 for all else (CR Table 3-3).
+pub fn safe_load(material: u8, breaking: u32) -> u64
+    ensures { λ r. ⌜ r ≡ safeLoad material breaking ⌝ }
+{
+    if material == 1 {
+        return (breaking as u64) / 1670 * 1000;
+    }
+    (breaking as u64) / 2000 * 1000
+}
+
+// The limit that a level's tension is checked against, and the kind that names it.
+pub struct PullLimit {
+    pub kind: u8,
+    pub limit: u64,
+}
+
+// Corner and lock tension are one pull: the lower of their two limits is named, the corner's if they are equal.
+pub fn lower_of(lock: u64) -> PullLimit
+    ensures { λ r. ⌜ r ≡ lowerOf lock ⌝ }
+{
+    if lock < Limits::CORNER_TENSION {
+        return PullLimit {
+            kind: 4,
+            limit: lock,
+        };
+    }
+    PullLimit {
+        kind: 3,
+        limit: Limits::CORNER_TENSION,
+    }
+}
