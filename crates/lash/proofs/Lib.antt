@@ -1,1 +1,1 @@
-mod OneNumber
+mod Fits

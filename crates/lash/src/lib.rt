@@ -1,24 +1,23 @@
 // The calls for programs in C: what each returns, in one number.
-ghost use mathlib.Core.Bool.{cond};
 ghost use mathlib.Core.Path.{_≡_};
-ghost use Prim.Native.Nat.{_+_, _*_, _<_, _^_};
 ghost use lib.ListN.{length};
-ghost use Rattle.answer.specs.Checked.{Checked, number, second, kept};
+ghost use Rattle.answer.specs.Checked.{Checked, kept};
 ghost use Rattle.answer.specs.inner.Named.{returned, written};
 ghost use Rattle.preview.specs.Previews.{Previewed};
 ghost use Rattle.preview.specs.inner.Moved.{AsChecked};
 ghost use Rattle.forecast.specs.Forecasts.{Forecast};
 ghost use Rattle.forecast.specs.inner.Named.{forecastReturned, forecastWritten};
 ghost use Rattle.roll.specs.Rounded.{conditionA};
-ghost use Rattle.lash.specs.Called.{Called};
-ghost use Rattle.lash.specs.RolledIn.{AccelerationsIn, RolledIn};
-ghost use Rattle.lash.specs.Told.{Told, VerdictIn};
-use answer::Outcome;
-use roll::Accelerations;
+ghost use Rattle.packing.specs.Called.{Called};
+ghost use Rattle.lash.specs.RolledIn.{RolledIn};
+ghost use Rattle.lash.specs.Told.{Told};
+use packing::joined;
+use packing::packed_accelerations;
+use packing::packed_outcome;
+use packing::packed_verdict;
 use roll::Condition;
 use roll::Rolled;
 use twenties::Judgement;
-use twenties::Verdict;
 
 // Checks a sheet as stack_check::check does. The number is in the low 8 bits of what is returned, the second number above them.
 #[no_mangle]
@@ -60,25 +59,6 @@ pub extern "C" fn lash_forecast(
     packed_outcome(outcome)
 }
 
-// The two numbers of an outcome in one.
-fn packed_outcome(o: Outcome) -> u64
-    requires { ⌜ (number o < 256) × (second o < 2 ^ 56) ⌝ }
-    ensures { λ r. ⌜ r ≡ number o + 256 * second o ⌝ }
-{
-    match o {
-        Outcome::Taken(n) => joined(0, n),
-        Outcome::Refused(number, second) => joined(number, second),
-    }
-}
-
-// A number that fits 8 bits and a second one that fits the 56 above them, in one.
-fn joined(number: u64, second: usize) -> u64
-    requires { ⌜ (number < 256) × (second < 2 ^ 56) ⌝ }
-    ensures { λ r. ⌜ r ≡ number + 256 * second ⌝ }
-{
-    number + 256 * second as u64
-}
-
 // Judges twenties in forty-foot guides as twenties::judge does. A refusal's numbers are told as lash_check tells them; of a verdict,
 // bit 8 is set for yes, the total is in bits 16 to 39, the permitted mass in bits 40 to 63.
 #[no_mangle]
@@ -87,26 +67,9 @@ pub extern "C" fn lash_twenties(table: u32, acceleration: u32, masses: &[u32]) -
 {
     let judgement = twenties::judge(table, acceleration, masses);
     match judgement {
-        Judgement::Given(verdict) => packed(verdict),
+        Judgement::Given(verdict) => packed_verdict(verdict),
         Judgement::Refused(number, second) => joined(number, second),
     }
-}
-
-// A verdict whose masses fit 24 bits.
-fn packed(v: Verdict) -> u64
-    requires { ⌜ (v .total < 2 ^ 24) × (v .permitted < 2 ^ 24) ⌝ }
-    ensures { λ r. ⌜ VerdictIn v r ⌝ }
-{
-    256 * bit(v.yes) + 65536 * v.total + 1099511627776 * v.permitted
-}
-
-fn bit(set: bool) -> u64
-    ensures { λ r. ⌜ (r ≡ cond set 1 0) × (r < 2) ⌝ }
-{
-    if set {
-        return 1;
-    }
-    0
 }
 
 // Works out a box's accelerations as roll::condition_a does. A refusal's numbers are told as lash_check tells them; of accelerations,
@@ -153,12 +116,4 @@ pub extern "C" fn lash_roll(
         Rolled::Given(accelerations) => packed_accelerations(accelerations),
         Rolled::Refused(number, second) => joined(number, second),
     }
-}
-
-// Accelerations that fit 16 bits each.
-fn packed_accelerations(a: Accelerations) -> u64
-    requires { ⌜ (a .aT < 2 ^ 16) × (a .aVmax < 2 ^ 16) × (a .aVmin < 2 ^ 16) ⌝ }
-    ensures { λ r. ⌜ AccelerationsIn a r ⌝ }
-{
-    256 * a.aT + 16777216 * a.aVmax + 1099511627776 * a.aVmin
 }

@@ -1,6 +1,7 @@
 -- `lash::lash_check` says what `stack_check::check` says, with its two numbers in one.
 use borrow.Author.Needs.{needs}
-use Rattle.lash.proofs.OneNumber.{checked-fits, called-both}
+use Rattle.packing.proofs.OneNumber.{called-both}
+use Rattle.lash.proofs.Fits.{checked-fits}
 use Rattle.lash.proofs.lash_check.Statement.{statement}
 use Rattle.lash.proofs.lash_check.Tie as tie
 

@@ -1,6 +1,7 @@
 -- `lash::lash_forecast` says what `forecast::forecast` says, with its two numbers in one.
 use borrow.Author.Needs.{needs}
-use Rattle.lash.proofs.OneNumber.{forecast-fits, called-both}
+use Rattle.packing.proofs.OneNumber.{called-both}
+use Rattle.lash.proofs.Fits.{forecast-fits}
 use Rattle.lash.proofs.lash_forecast.Statement.{statement}
 use Rattle.lash.proofs.lash_forecast.Tie as tie
 

@@ -2,7 +2,7 @@
 use native.Mathlib.Omega.{arith}
 use borrow.Author.Needs.{needs}
 use Rattle.preview.proofs.TwoNumbers.{fitting}
-use Rattle.lash.proofs.OneNumber.{called-both}
+use Rattle.packing.proofs.OneNumber.{called-both}
 use Rattle.lash.proofs.lash_preview.Statement.{statement}
 use Rattle.lash.proofs.lash_preview.Tie as tie
 

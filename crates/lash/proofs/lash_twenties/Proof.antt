@@ -20,8 +20,8 @@ judge-requires c κs = search needs
 enum-known-judgement : tie.Need-enum-known-judgement
 enum-known-judgement c = search needs
 
-packed-requires : tie.Need-packed-requires
-packed-requires c κs = small (c .before .before .before) (c .before .judgement .given .1)
+packed-verdict-requires : tie.Need-packed-verdict-requires
+packed-verdict-requires c κs = small (c .before .before .before) (c .before .judgement .given .1)
 
 enum-known-judgement-2 : tie.Need-enum-known-judgement-2
 enum-known-judgement-2 c = search needs
@@ -33,7 +33,7 @@ returns : tie.Need-returns
 returns c =
     let j = c .before .before .before .before in
     let is = c .before .before .judgement .given .1 in
-    subst (λ q. In q (c .packed .result)) (sym is ∙ j .judge .ensures) (c .packed .ensures)
+    subst (λ q. In q (c .packed-verdict .result)) (sym is ∙ j .judge .ensures) (c .packed-verdict .ensures)
 
 returns-2 : tie.Need-returns-2
 returns-2 c =
@@ -48,7 +48,7 @@ lash-twenties-spec =
     (tie.spec
     judge-requires
     enum-known-judgement
-    packed-requires
+    packed-verdict-requires
     enum-known-judgement-2
     joined-requires
     returns

@@ -1,8 +1,8 @@
--- `lash::packed_outcome`: the two numbers of each case, joined.
+-- `packing::packed_outcome`: the two numbers of each case, joined.
 use borrow.Author.Needs.{needs}
-use Rattle.lash.proofs.OneNumber.{case-fits, case-joined}
-use Rattle.lash.proofs.packed_outcome.Statement.{statement}
-use Rattle.lash.proofs.packed_outcome.Tie as tie
+use Rattle.packing.proofs.OneNumber.{case-fits, case-joined}
+use Rattle.packing.proofs.packed_outcome.Statement.{statement}
+use Rattle.packing.proofs.packed_outcome.Tie as tie
 
 enum-known-o : tie.Need-enum-known-o
 enum-known-o c = search needs

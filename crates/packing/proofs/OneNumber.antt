@@ -1,14 +1,10 @@
 -- The two numbers of an outcome, told apart again from the one that they make.
 use Prim.Native.Nat.{ℕ, _+_, _*_, _<_, _^_}
-use mathlib.Core.List.{List}
 use mathlib.Core.Path.{_≡_, subst, sym}
 use native.Mathlib.Omega.{arith}
 use Rattle.answer.specs.declared.Outcome.{Outcome}
-use Rattle.answer.specs.Checked.{Checked, number, second}
-use Rattle.answer.proofs.Numbers.{numbers}
-use Rattle.forecast.specs.Forecasts.{Forecast}
-use Rattle.forecast.proofs.Numbers.{forecast-numbers}
-use Rattle.lash.specs.Called.{Called}
+use Rattle.answer.specs.Checked.{number, second}
+use Rattle.packing.specs.Called.{Called}
 
 -- both fit the one number
 abbrev pub Fitting : Outcome → Type 0
@@ -23,15 +19,6 @@ case-fits is f = subst Fitting is f
 
 pub case-joined : {o q : Outcome} → o ≡ q → (r : ℕ) → Joined r q → Joined r o
 case-joined is r e = subst (Joined r) (sym is) e
-
-pub checked-fits : {margin : ℕ} {s before after : List ℕ} {o : Outcome} → Checked margin s before after o → Fitting o
-checked-fits c = (omega (arith, numbers c .first), omega (arith, numbers c .next))
-
-pub forecast-fits :
-    {margin : ℕ} {s : List ℕ} {h b hours : ℕ} {before after : List ℕ} {o : Outcome} →
-    Forecast margin s h b hours before after o →
-    Fitting o
-forecast-fits f = (omega (arith, forecast-numbers f .first), omega (arith, forecast-numbers f .next))
 
 pub called : {Said : Outcome → Type 0} (o : Outcome) → Said o → Fitting o → (r : ℕ) → Joined r o → Called Said r
 called o said fits r e = record { outcome = o; low = omega (arith, fits .0); above = omega (arith, fits .0); said = said }

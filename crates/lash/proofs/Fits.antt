@@ -1,0 +1,19 @@
+-- The two numbers of what the check and the check by a forecast return fit one.
+use Prim.Native.Nat.{ℕ}
+use mathlib.Core.List.{List}
+use native.Mathlib.Omega.{arith}
+use Rattle.answer.specs.declared.Outcome.{Outcome}
+use Rattle.answer.specs.Checked.{Checked}
+use Rattle.answer.proofs.Numbers.{numbers}
+use Rattle.forecast.specs.Forecasts.{Forecast}
+use Rattle.forecast.proofs.Numbers.{forecast-numbers}
+use Rattle.packing.proofs.OneNumber.{Fitting}
+
+pub checked-fits : {margin : ℕ} {s before after : List ℕ} {o : Outcome} → Checked margin s before after o → Fitting o
+checked-fits c = (omega (arith, numbers c .first), omega (arith, numbers c .next))
+
+pub forecast-fits :
+    {margin : ℕ} {s : List ℕ} {h b hours : ℕ} {before after : List ℕ} {o : Outcome} →
+    Forecast margin s h b hours before after o →
+    Fitting o
+forecast-fits f = (omega (arith, forecast-numbers f .first), omega (arith, forecast-numbers f .next))

@@ -1,0 +1,4 @@
+pub mod AccelerationsIn
+pub mod Called
+pub mod RefusalIn
+pub mod VerdictIn
