@@ -16,9 +16,9 @@
 extern "C" {
 #endif
 
-/* The version of the header and of the library built beside it; the text is LASH_VERSION, as "0.11.0". */
+/* The version of the header and of the library built beside it; the text is LASH_VERSION, as "0.12.0". */
 #define LASH_VERSION_MAJOR 0
-#define LASH_VERSION_MINOR 11
+#define LASH_VERSION_MINOR 12
 #define LASH_VERSION_PATCH 0
 #define LASH_TEXT_(number) #number
 #define LASH_TEXT(number) LASH_TEXT_(number)

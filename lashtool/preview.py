@@ -9,7 +9,7 @@ from lashtool.data import as_data as stack_data
 from lashtool.data import placed_data
 from lashtool.description import shown
 from lashtool.fields import ENDS, TIER_FIELDS, field
-from lashtool.figures import LASH_KINDS, Result, result
+from lashtool.figures import KEPT, LASH_KINDS, Result, result
 from lashtool.report import Cell, aligned, bulleted, used, verdict_state
 from lashtool.words import (
     KIND_WORDS, PAD_WORDS, force_words, not_checked, place_words, route_words, rule_notes, verdict_words, way_words, where, worst_words,
@@ -24,6 +24,10 @@ NOTES = (
     "A preview: what was read is not changed. Level 0 is the deck, level i the top of tier i. now, then: forces as the stack stands "
     "and with the move, of a racking to windward with a minus; used: share of the limit, rounded up to a tenth of a percent, ! over "
     "it. Figures that do not change are left out."
+)
+HEAVIER = (
+    f"The box is heavier, so no lash force is lower, though a figure may read up to {KEPT - 1} N lower; racking, compression and tension "
+    "may be lower."
 )
 GREATEST_TIER, GREATEST_MASS = 2**32 - 1, 2**16 - 1  # that the call can be given
 
@@ -137,12 +141,20 @@ def table(preview, colour=False):
 def notes(preview):
     figures = (*preview.before.figures.values(), *preview.after.figures.values())
     small = any(figure.force_text.startswith("<") for figure in figures)
-    return [*rule_notes(preview.before.sheet.head), NOTES, *([PAD_WORDS] if small else []), not_checked(preview.before)]
+    grown = [HEAVIER] if lashed(preview.before.sheet) and preview.move.mass > old_mass(preview) else []
+    return [*rule_notes(preview.before.sheet.head), NOTES, *grown, *([PAD_WORDS] if small else []), not_checked(preview.before)]
+
+
+def lashed(sheet):
+    return bool(sheet.door or sheet.closed)
+
+
+def old_mass(preview):
+    return preview.before.sheet.tiers[preview.move.tier - 1].mass
 
 
 def moved_words(preview):
-    old = preview.before.sheet.tiers[preview.move.tier - 1].mass
-    return f"PREVIEW of tier {preview.move.tier} with {preview.move.mass:,} kg in place of {old:,} kg"
+    return f"PREVIEW of tier {preview.move.tier} with {preview.move.mass:,} kg in place of {old_mass(preview):,} kg"
 
 
 def sides(preview, colour):
@@ -197,7 +209,7 @@ def as_data(preview):
     return {
         "preview": {
             "tier": preview.move.tier,
-            "mass_before": preview.before.sheet.tiers[preview.move.tier - 1].mass,
+            "mass_before": old_mass(preview),
             "mass_after": preview.move.mass,
         },
         "newly_exceeded": [placed_data(preview.after, figure) for figure in preview.newly],

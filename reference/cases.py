@@ -1,6 +1,6 @@
 #!/usr/bin/env python3
 """Prints named sheets and what must come out of each: document 01's list and its plausible slips, and 02's turned boxes (P1),
-lash lengths (P2), safe loads (P3), bottom hooks (P4), fleet standard (P10) and one finding for one pull (P11).
+lash lengths (P2), safe loads (P3), bottom hooks (P4), fleet standard (P10), one finding for one pull (P11) and a heavier box (P14).
 
 A case is a block of lines, ended by an empty one:
 
@@ -289,7 +289,14 @@ PULLS = [
     Case("pull-neither", "over neither", on_locks(LIFTED_LESS, 500_000)),
 ]
 
-CASES = RUN_BY_A_PROGRAM + FIGURES + SLIPS + ORDER + KILONEWTONS + TURNED + LENGTHS + HOOKED + FLEET + PULLS
+# B over a light box and over a heavier one, with S at level 2 of the closed end alone.
+OVER_LIGHT, OVER_HEAVY = (stack([box(mass=mass), B], closed=[rod(2)]) for mass in (2_000, 10_000))
+HEAVIER = [
+    Case("heavier-before", "B over 2,000 kg, held by S at the closed end", OVER_LIGHT),
+    Case("heavier-after", "over 10,000 kg: racking of tier 2 there and tension at the door end are lower", OVER_HEAVY),
+]
+
+CASES = RUN_BY_A_PROGRAM + FIGURES + SLIPS + ORDER + KILONEWTONS + TURNED + LENGTHS + HOOKED + FLEET + PULLS + HEAVIER
 
 
 def reported_range(kind, force):

@@ -5,8 +5,9 @@ from dataclasses import replace
 
 from lashtool.description import describe
 from lashtool.template import template
-from reference.cases import HOOKED
+from reference.cases import HOOKED, OVER_HEAVY, OVER_LIGHT
 from reference.forecast import factor
+from reference.heavier import exact_faults
 from reference.stack import exact, lash_length
 from sheets.limits import (
     COMPRESSION, CORNER, LASH_TENSION, LOCK, RACKING, checks, findings,
@@ -28,6 +29,7 @@ SHOWN = {
     "long-rods": ("accepted", []),
     "from-roll": ("accepted, its accelerations worked out from the ship's roll", []),
     "last-box": ("accepted, and not with a heavier box on top", []),
+    "light-below": ("accepted, and a heavier box below lowers a racking and a tension, but no lash force", []),
     "racking": ("unacceptable racking", [(end, RACKING, 1) for end in BOTH]),
     "pulled-back": ("unacceptable racking, to windward", [(0, RACKING, 6)]),
     "stack-weight": ("unacceptable stack weight", [(end, COMPRESSION, 1) for end in BOTH]),
@@ -81,6 +83,16 @@ class Examples(unittest.TestCase):
         ends = exact(sheet, factor(300, 2_500))
         self.assertEqual(findings(sheet, ends), [])
         self.assertFalse([c for c in checks(sheet, ends) if c.limit - 100 < c.size])
+
+    def test_a_heavier_box_below(self):
+        """The pair of the named cases: racking of tier 2 at the closed end and tension at the deck of the door end are lower."""
+        light = sheet_of("light-below")
+        heavy = replace(light, tiers=(replace(light.tiers[0], mass=10_000), light.tiers[1]))
+        self.assertEqual([pack(light), pack(heavy)], [OVER_LIGHT, OVER_HEAVY])
+        (door, closed), (door_heavy, closed_heavy) = exact(light), exact(heavy)
+        self.assertTrue(0 < closed_heavy.racking[1] < closed.racking[1])
+        self.assertTrue(0 < door_heavy.tension[0] < door.tension[0])
+        self.assertEqual(list(exact_faults(light, heavy)), [])
 
     def test_the_turn_decides(self):
         """With no box turned it is the stack of lash-force; with all of them the wire at the other end is overloaded."""

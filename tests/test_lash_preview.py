@@ -22,6 +22,15 @@ ACCEPTED = answer_bytes(LIGHT, LIGHT)
 DOOR_OVER = answer_bytes(HEAVY, LIGHT, ((0, 1, 1), (0, 2, 1)))
 
 
+def sheet_of(stack):
+    return pack(describe((EXAMPLES / f"{stack}.toml").read_bytes()).sheet)
+
+
+def answer_of(stack):
+    """The library's answer to an example."""
+    return loaded().check(sheet_of(stack)).output
+
+
 def tried(move, before=ACCEPTED, after=DOOR_OVER, words=()):
     return lash(LAST_BOX, "--set", move, *words, output=before, preview=after)
 
@@ -89,6 +98,23 @@ class Reports(unittest.TestCase):
         status, text, _ = lash("--sheet", "-", "--set", "tier.1.mass=1", stdin=SHEET, output=ACCEPTED, preview=ACCEPTED)
         self.assertEqual(status, 0)
         self.assertTrue(text.startswith("PREVIEW of tier 1 with 1 kg in place of 24,000 kg\n"))
+
+
+class Heavier(unittest.TestCase):
+    NOTE = "The box is heavier, so no lash force is lower, though a figure may read up to 8 N lower;"
+
+    def noted(self, stack, mass):
+        _, text, _ = lash(EXAMPLES / f"{stack}.toml", "--set", f"tier.1.mass={mass}", output=answer_of(stack), preview=answer_of(stack))
+        return " ".join(text.split()).count(self.NOTE)
+
+    def test_the_note_on_lash_forces(self):
+        """Of a stack with lashes, where the new mass is higher."""
+        for stack, mass, due in (
+            ("light-below", 2_001, 1), ("light-below", 30_480, 1), ("light-below", 2_000, 0), ("light-below", 1_999, 0),
+            ("rod-s", 20_001, 1), ("last-box", 30_480, 0), ("box-b", 20_001, 0),
+        ):
+            with self.subTest(stack=stack, mass=mass):
+                self.assertEqual(self.noted(stack, mass), due)
 
 
 class BadMoves(unittest.TestCase):

@@ -33,7 +33,7 @@ OWN = {
 LISTS = {"Lib.antt", "inner.antt"}  # lists of modules
 FOLLOWS = {  # proved of the rest
     "Theorems.antt", "Table.antt", "SafeLoads.antt", "Turned.antt", "Trials.antt", "Relief.antt", "FleetStandard.antt",
-    "OnePull.antt", "Consequences.antt", "Written.antt", "Places.antt",
+    "OnePull.antt", "Consequences.antt", "Written.antt", "Places.antt", "Heavier.antt", "NotIncluded.antt",
 }
 USE = re.compile(r"(pub )?use ")
 CITED = re.compile(r"Rattle·(\w+?)(?:·specs)?\.specs\.((?:inner\.)?\w+)")
