@@ -1,7 +1,7 @@
 /* The lashing check of a container stack: bytes of a stack sheet in, bytes of an answer sheet out; docs/SHEET.md has the layout
    of both, byte by byte. lash_preview answers for the sheet with another mass in one tier, lash_forecast for a short voyage by its
-   forecast. And lash_twenties, for 20-ft boxes in 40-ft cell guides, and lash_roll, for a box's accelerations from the ship's roll:
-   numbers in, one number out.
+   forecast. lash_side answers for the side walls under pitching, with a side answer of its own. And lash_twenties, for 20-ft boxes in
+   40-ft cell guides, and lash_roll, for a box's accelerations from the ship's roll: numbers in, one number out.
 
    rt staticlib lash                                                      proves the check and writes target/staticlib/liblash.a
    cc -Iinclude yours.c target/staticlib/liblash.a -o yours               a program over it, on x86-64 Linux
@@ -16,9 +16,9 @@
 extern "C" {
 #endif
 
-/* The version of the header and of the library built beside it; the text is LASH_VERSION, as "0.12.0". */
+/* The version of the header and of the library built beside it; the text is LASH_VERSION, as "0.13.0". */
 #define LASH_VERSION_MAJOR 0
-#define LASH_VERSION_MINOR 12
+#define LASH_VERSION_MINOR 13
 #define LASH_VERSION_PATCH 0
 #define LASH_TEXT_(number) #number
 #define LASH_TEXT(number) LASH_TEXT_(number)
@@ -215,6 +215,52 @@ enum lash_forecast_number {
     LASH_WITH_ROUTE = 20,  /* 0: a route other than 0 */
     LASH_NO_FORECAST = 21  /* 0: a voyage of 72 hours or more, or a breadth of 0 */
 };
+
+/* Side walls under pitching (CR 5.2.7(b)): racking of each tier's side wall, per wall, and how far each level shifts lengthwise. `pitch`
+   is a second short sheet: the tier count, then for each tier, lowest first, its A_L in thousandths of g, 2 bytes, the least first. No
+   lashing, wind or route enters; the share that a tier's own top bears is the rule number's. Racking is the least whole newton not
+   below the exact one, the shift the least whole thousandth of a millimetre: there is no margin. The first number is in the low 8 bits
+   of what is returned, the second above them. With 0 the second is the side answer's length, and the side buffer begins with it: a byte
+   of verdict, 0 where no racking exceeds LASH_SIDE_LIMIT and else 1; the tier count; then racking and shift of each tier, 4 bytes each.
+   The stack sheet's own refusals come first, then the two below, then LASH_ROOM with 82 for a side buffer under that; a refusal leaves
+   the buffer as it was, bytes behind the side answer stay, and the caller tests nothing first. The three buffers do not overlap; what
+   is proved holds for pointers that are not null. */
+uint64_t lash_side(const uint8_t *sheet, size_t sheet_len, const uint8_t *pitch, size_t pitch_len, uint8_t *side, size_t side_len);
+
+enum lash_side_number {
+    LASH_PITCH = 14,        /* 0: a short sheet of another length or count than the stack has tiers */
+    LASH_LONGITUDINAL = 15  /* the tier: from 1, the first whose A_L is above 1,500 */
+};
+
+/* The side buffer must hold this many bytes, whatever the sheets; no side answer is longer. */
+#define LASH_SIDE_SIZE 82
+
+/* N a side wall may bear (CR Table 2-3). */
+#define LASH_SIDE_LIMIT 125000
+
+/* Readers of a side answer. `result` is what lash_side returned for it; lash_accepted and lash_tiers read it too. Of a tier, from 1:
+   racking in N, and the shift of the level over it in thousandths of a millimetre; LASH_NONE after a refusal or where there is no such
+   tier. They read no byte behind the side answer. */
+static inline int64_t lash_side_figure(uint64_t result, const uint8_t *side, unsigned tier, unsigned part)
+{
+    size_t at = 2 + 8 * ((size_t)tier - 1) + 4 * (size_t)part;
+    uint32_t figure = 0;
+    if (tier == 0 || tier > lash_tiers(result, side) || at + 4 > lash_second_of(result))
+        return LASH_NONE;
+    for (unsigned i = 4; i > 0; i--)
+        figure = figure << 8 | lash_byte(result, side, at + i - 1);
+    return (int64_t)figure;
+}
+
+static inline int64_t lash_side_racking(uint64_t result, const uint8_t *side, unsigned tier)
+{
+    return lash_side_figure(result, side, tier, 0);
+}
+
+static inline int64_t lash_side_shift(uint64_t result, const uint8_t *side, unsigned tier)
+{
+    return lash_side_figure(result, side, tier, 1);
+}
 
 /* Twenties in forty-foot guides (CR 5.4.6(b)(ii)): whether all tiers but the lowest together weigh no more than CR Table 5-2 (table 0,
    without a 40-ft box on top) or 5-3 (table 1, with one) permits. The acceleration is in thousandths of g, the masses those of the

@@ -6,6 +6,7 @@ from functools import lru_cache
 
 from lashlib.build import shared_library
 from sheets.sheet import ANSWER_ROOM
+from sheets.side import SIDE_ROOM
 
 # What a call takes, in its order: bytes or 4-byte numbers that are lent for reading, a buffer that is written, or a number of C's.
 READ, NUMBERS, WRITTEN = "read", "numbers", "written"
@@ -13,6 +14,7 @@ CALLS = {
     "lash_check": (READ, WRITTEN),
     "lash_preview": (READ, ctypes.c_uint32, ctypes.c_uint16, WRITTEN),
     "lash_forecast": (READ, ctypes.c_uint16, ctypes.c_uint16, ctypes.c_uint32, WRITTEN),
+    "lash_side": (READ, READ, WRITTEN),
     "lash_twenties": (ctypes.c_uint32, ctypes.c_uint32, NUMBERS),
     "lash_roll": (*(ctypes.c_uint32,) * 6, *(ctypes.c_int32,) * 4),
 }
@@ -76,6 +78,9 @@ class Library:
 
     def forecast(self, sheet, wave_height, breadth, hours, room=ANSWER_ROOM):
         return self.call("lash_forecast", sheet, wave_height, breadth, hours, room=room)
+
+    def side(self, sheet, pitch, room=SIDE_ROOM):
+        return self.call("lash_side", sheet, pitch, room=room)
 
     def twenties(self, table, acceleration, masses):
         return self.call("lash_twenties", table, acceleration, masses, room=0)

@@ -8,7 +8,7 @@ from difflib import get_close_matches
 from lashtool.checking import library_roll
 from lashtool.fields import (
     ACCELERATION_FIELDS, BOTH_ENDS, CLASS_RULE, END_FIELD, ENDS, FARTHEST, GEAR_FIELDS, HEAD_FIELDS, HEIGHT_FIELD, LASH_FIELDS,
-    LOCK_FIELDS, MEANT, POSITION_FIELDS, SHIP_FIELDS, TIER_FIELDS, field, lash_place,
+    LOCK_FIELDS, LONGITUDINAL_FIELD, MEANT, POSITION_FIELDS, SHIP_FIELDS, TIER_FIELDS, field, lash_place,
 )
 from lashtool.ship import Outside, Ship, accelerations
 from sheets.sheet import (
@@ -27,6 +27,7 @@ class Description:
     assumed: list  # what was not given and what it was taken as, in words
     numbers: tuple  # of each end's lashes in the sheet's order: their place in the description, from 1
     motion: object = None  # of a ship whose roll accelerations were worked out from
+    longitudinal: tuple = ()  # A_L of each tier; none where it is not given
 
 
 TABLES = {"lock": dict, "box": dict, "gear": dict, "ship": dict, "position": dict, "tier": list, "lash": list}
@@ -44,7 +45,8 @@ def describe(data, roll=None):
     door, closed = (tuple(lash for _, lash in end) for end in ends)
     numbers = tuple(tuple(number for number, _ in end) for end in ends)
     worked = motion if motion and motion.worked else None
-    return Description(read_title(table), Sheet(head, tiers, door, closed), reader.assumed(), numbers, worked)
+    longitudinal = read_longitudinal(sections["tier"], sections["box"])
+    return Description(read_title(table), Sheet(head, tiers, door, closed), reader.assumed(), numbers, worked, longitudinal)
 
 
 def parts_of(data):
@@ -257,13 +259,14 @@ def read_motion(sections, rule, roll):
 
 
 def read_tiers(reader, tables, box, motion):
-    check_names("[box]", box, names(TIER_FIELDS))
+    known = (*TIER_FIELDS, LONGITUDINAL_FIELD)
+    check_names("[box]", box, names(known))
     if not 1 <= len(tables) <= MOST_TIERS:
         raise BadDescription(f"tier: a stack has 1 to {MOST_TIERS} of [[tier]], not {len(tables)}")
     tiers = []
     for number, table in enumerate(tables, 1):
         where, places = f"tier {number}", [(f"tier {number}", table), ("[box]", box)]
-        check_names(where, table, names((*TIER_FIELDS, HEIGHT_FIELD) if motion else TIER_FIELDS))
+        check_names(where, table, names((*known, HEIGHT_FIELD) if motion else known))
         if HEIGHT_FIELD.name in table:
             checked(where, HEIGHT_FIELD, table[HEIGHT_FIELD.name])
         missing = motion.missing(places) if motion else []
@@ -277,6 +280,15 @@ def read_tiers(reader, tables, box, motion):
             raise BadDescription(f"{where}: size {tier.size} feet differs from tier 1, which has {tiers[0].size}")
         tiers.append(tier)
     return tuple(tiers)
+
+
+def read_longitudinal(tables, box):
+    """A_L of each tier, none where neither it nor [box] has one."""
+    found = []
+    for number, table in enumerate(tables, 1):
+        places = [(where, each) for where, each in ((f"tier {number}", table), ("[box]", box)) if LONGITUDINAL_FIELD.name in each]
+        found.append(checked(places[0][0], LONGITUDINAL_FIELD, places[0][1][LONGITUDINAL_FIELD.name]) if places else None)
+    return tuple(found)
 
 
 def check_box(where, tier):

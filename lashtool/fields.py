@@ -3,6 +3,7 @@
 from dataclasses import dataclass
 
 from sheets.sheet import HEAD_LIMITS, HEIGHTS, LASH_LIMITS, MOST_TIERS, TIER_LIMITS
+from sheets.side import MOST_LONGITUDINAL
 
 
 @dataclass(frozen=True)
@@ -71,6 +72,9 @@ TIER_FIELDS = (
     Field("A_Vmin", "a_vmin", "least vertical acceleration, for tension; not above A_Vmax", None,
           TIER_LIMITS["a_vmin"], unit=G),
 )
+# Beside a tier's own: no part of a stack sheet, and needed only where side walls are asked for.
+LONGITUDINAL_FIELD = Field("A_L", "a_l", "longitudinal acceleration, for the side walls under pitching alone", None,
+                           (0, MOST_LONGITUDINAL), unit=G)
 END_FIELD = Field("end", "end", "end of the stack that the lash is at", BOTH_ENDS, words=(*ENDS, "both"))
 LASH_FIELDS = (
     Field("tier", "tier", "tier that the lash is hooked to", None, (1, MOST_TIERS)),
@@ -142,6 +146,8 @@ MEANT = {
     "e": "modulus",
     "youngs_modulus": "modulus",
     "standard": "rule",
+    "a_l": "A_L",
+    "longitudinal": "A_L",
 }
 
 

@@ -8,7 +8,7 @@ from dataclasses import dataclass
 from pathlib import Path
 
 from lashlib.version import version
-from lashtool import preview, report, rolled, svg, twenties
+from lashtool import preview, report, rolled, side, svg, svg_side, twenties
 from lashtool.checking import CheckFailed, library, library_check, library_roll, outcome
 from lashtool.colour import wanted
 from lashtool.data import as_data
@@ -45,6 +45,7 @@ def arguments(words):
     parser.add_argument("--svg", metavar="FILE", help="draw the stack with its forces; - as above")
     parser.add_argument("--set", metavar="tier.N.mass=KG", action="append", help="preview another mass in a tier: before and after")
     parser.add_argument("--json", action="store_true", help="print the figures as JSON; of several stacks one line each")
+    parser.add_argument(side.OPTION, action="store_true", help=side.HELP)
     parser.add_argument(FORECAST, metavar="H,B,HOURS", help=FORECAST_HELP)
     parser.add_argument("--template", action="store_true", help="print a commented description to start from")
     parser.add_argument("--version", action="version", version=f"lash {version()}")
@@ -162,6 +163,25 @@ def moved(options, check, roll, call):
     return say(preview.table(found, wanted(sys.stdout)), status)
 
 
+def walls(options, roll, call):
+    """The side walls of a stack; the status is that of their verdict."""
+    source = options.sources[0]
+    try:
+        found = side.sides(describe(read(source), roll), call)
+    except BadDescription as fault:
+        return untold(Tried(source, BAD_INPUT, message=str(fault)), options)
+    except CheckFailed as failure:
+        return untold(Tried(source, FAILED, message=str(failure)), options)
+    status = ACCEPTED if found.accepted else NOT_ACCEPTED
+    head = {"version": version(), "source": str(source), "status": status}
+    printed = json.dumps({**head, **side.as_data(found)}, indent=2) if options.json else side.table(found, wanted(sys.stdout))
+    if options.svg == STREAM:
+        printed = svg_side.picture(found)
+    elif options.svg is not None:
+        write(options.svg, svg_side.picture(found))
+    return say(printed, status)
+
+
 # Several stacks
 
 
@@ -194,9 +214,9 @@ def many(options, check, roll):
     return status
 
 
-def main(words=None, check=None, judge=None, call=None, roll=None):
+def main(words=None, check=None, judge=None, call=None, roll=None, pitch=None):
     """The exit status. In place of the library's calls: `check` gives a sheet's reply, `judge` that of twenties, `call` that of a preview,
-    `roll` that of a box's accelerations."""
+    `roll` that of a box's accelerations, `pitch` that of side walls."""
     words = sys.argv[1:] if words is None else words
     if words[:1] == [twenties.WORD]:
         return twenties.main(words[1:], judge)
@@ -207,8 +227,10 @@ def main(words=None, check=None, judge=None, call=None, roll=None):
         return say(template().rstrip(), ACCEPTED)
     try:
         options.forecast = forecast(options.forecast)
-        check = check or library_check(options.library, options.forecast)
         roll = roll or library_roll(options.library)
+        if options.side:
+            return walls(options, roll, pitch or library(options.library).side)
+        check = check or library_check(options.library, options.forecast)
         if options.set:
             return moved(options, check, roll, call or library(options.library).preview)
         return many(options, check, roll) if several(options) else one(options, check, roll)

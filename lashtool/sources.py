@@ -50,7 +50,7 @@ def misuse(options):
     """What is wrong with the words given, if anything."""
     files = [name for name in (options.write, options.svg) if name is not None]
     if options.template:
-        others = options.sources or files or options.json or options.set or options.forecast is not None
+        others = options.sources or files or options.json or options.set or options.side or options.forecast is not None
         return "--template goes alone" if others else None
     if not options.stacks and options.sheet is None:
         return "a stack is needed: a description in TOML, or --sheet with a sheet's bytes"
@@ -67,6 +67,10 @@ def misuse(options):
         return "--set previews a move of one stack, and goes with neither --write nor --svg"
     if options.set and options.forecast is not None:
         return "--set previews a move by the route, and does not go with --forecast"
+    if options.side and options.sheet is not None:
+        return "--side needs a description: a stack sheet's bytes hold no A_L"
+    if options.side and (several(options) or options.set or options.write is not None or options.forecast is not None):
+        return "--side is for one stack, and goes with none of --set, --forecast and --write"
     if "" in files:
         return "--write and --svg need a file's name"
     if files.count(STREAM) + options.json > 1 and STREAM in files:

@@ -1,8 +1,8 @@
 """A commented description to start from, and the table of all fields."""
 
 from lashtool.fields import (
-    ACCELERATION_FIELDS, GEAR_FIELDS, HEAD_FIELDS, HEIGHT_FIELD, LASH_FIELDS, LOCK_FIELDS, POSITION_FIELDS, ROUTES, SHIP_FIELDS,
-    TIER_FIELDS, field,
+    ACCELERATION_FIELDS, GEAR_FIELDS, HEAD_FIELDS, HEIGHT_FIELD, LASH_FIELDS, LOCK_FIELDS, LONGITUDINAL_FIELD, POSITION_FIELDS, ROUTES,
+    SHIP_FIELDS, TIER_FIELDS, field,
 )
 from sheets.sheet import ROUTE_PERCENT
 
@@ -15,8 +15,10 @@ NOT_ALWAYS = {
     **dict.fromkeys(ACCELERATION_FIELDS, "worked out if there is a ship, else must be given"),
     **dict.fromkeys((*SHIP_FIELDS, *POSITION_FIELDS), "needed where accelerations are worked out"),
     HEIGHT_FIELD: "from `position.foot` and the heights",
+    LONGITUDINAL_FIELD: "needed by `--side`",
 }
 SHIP = {"length": 300_000, "roll_angle": 2_500, "roll_period": 2_000, "a0": 2_012, "roll_centre": 15_000}
+PITCH = {"A_L": 250}
 PLACE = {"x": 150_000, "y": 12_000, "foot": 20_000}
 
 
@@ -38,6 +40,8 @@ title = "Three tiers"
 # What is the same in most tiers; a tier's own fields go before these.
 [box]
 {settings(shared(TIER_FIELDS, "mass"), BOX)}
+# For the side walls, asked for by --side:
+{commented(settings((LONGITUDINAL_FIELD,), PITCH))}
 
 {from_roll()}
 
@@ -106,8 +110,8 @@ def field_table():
     yield "|---|---|---|---|---|"
     yield "| `title` | | text | none | heads the report |"
     for table, fields in (
-        ("", HEAD_FIELDS), ("lock.", LOCK_FIELDS), ("tier.", TIER_FIELDS), ("lash.", GEAR_FIELDS), ("ship.", SHIP_FIELDS),
-        ("position.", POSITION_FIELDS), ("tier.", (HEIGHT_FIELD,)),
+        ("", HEAD_FIELDS), ("lock.", LOCK_FIELDS), ("tier.", (*TIER_FIELDS, LONGITUDINAL_FIELD)), ("lash.", GEAR_FIELDS),
+        ("ship.", SHIP_FIELDS), ("position.", POSITION_FIELDS), ("tier.", (HEIGHT_FIELD,)),
     ):
         for each in fields:
             values = "`true` or `false`" if each.flag else each.range().replace('"', "`")

@@ -100,8 +100,8 @@ def not_checked(outcome):
     """What no report covers. Accelerations that were worked out from roll are not given, and the roll is."""
     motion = "the ship's motion but for the roll described" if outcome.motion else "the ship's motion (accelerations are given)"
     return (
-        f"Not covered: {motion}, longitudinal forces and side walls, cell guides, buttresses, blocks of joined stacks, vertical "
-        "lashings, mixed lengths. No class society has certified this program."
+        f"Not covered: {motion}, side walls under pitching (--side asks for them), cell guides, buttresses, blocks of joined "
+        "stacks, vertical lashings, mixed lengths. No class society has certified this program."
     )
 
 

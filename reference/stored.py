@@ -1,6 +1,6 @@
 #!/usr/bin/env python3
-"""Writes what the programs cases, cases_preview, cases_twenties, cases_forecast, cases_roll and lashcheck are run on, and what they must
-write.
+"""Writes what the programs cases, cases_preview, cases_twenties, cases_forecast, cases_side, cases_roll and lashcheck are run on, and
+what they must write.
 
 The src/main.rt of each says how a case, a move, a question and a condition are laid out. A field is the size of a number of the answer
 and the least and the most that it may be; a racking to windward lies in two's complement.
@@ -14,7 +14,7 @@ from pathlib import Path
 ROOT = Path(__file__).resolve().parent.parent
 sys.path.insert(0, str(ROOT))
 
-from reference import forecast, forecast_asked
+from reference import forecast, forecast_asked, side
 from reference.cases import CASES, may_be_named, reported_range, stands
 from reference.judge import figures
 from reference.preview import previewed, with_mass
@@ -22,17 +22,20 @@ from reference.preview_asked import FIGURES as MOVES
 from reference.roll import Accelerations, accelerations
 from reference.roll_asked import FIGURES as CONDITIONS
 from reference.script import finish
+from reference.side_asked import FIGURES as SIDES
 from reference.stack import exact
 from reference.twenties import Verdict, judge
 from reference.twenties_asked import FIGURES
 from sheets.answer import counts
 from sheets.sheet import Refused, parse
+from sheets.side import read_side
 
 HEAD = struct.Struct("<BHHH")
 FIELD = struct.Struct("<BII")
 QUESTION = struct.Struct("<16I")  # table, acceleration, count, and thirteen masses of which so many count
 MOVE = struct.Struct("<IHHHH250s250s")  # tier, mass, room, lengths of the sheet and of the copy, and these
 FORECAST = struct.Struct("<HHIHIIH")  # wave height, breadth, hours, room, least and most of a racking, length of the sheet
+SIDE = struct.Struct("<3H")  # room, lengths of the stack sheet and of the short sheet
 CONDITION = struct.Struct("<6I4i")
 ROOM_LIMIT = 1_024
 INPUT_LIMIT = 65_536
@@ -183,6 +186,21 @@ def forecast_line(asked):
     return f"{asked.wave_height} {asked.breadth} {asked.hours}{factor} {words}\n"
 
 
+def side_question(asked):
+    """The bytes of a question on side walls."""
+    return SIDE.pack(asked.room, len(asked.sheet), len(asked.pitch)) + asked.sheet + asked.pitch
+
+
+def side_line(asked):
+    """What the program cases_side must write of a question."""
+    due = side.expected(asked.sheet, asked.pitch, asked.room)
+    if due.number:
+        return f"refused {due.number} {due.second}\n"
+    answer = read_side(due.data)
+    figures = (f" {racking} {shift}" for racking, shift in zip(answer.racking, answer.shift))
+    return f"taken {due.second} {answer.verdict}{''.join(figures)}\n"
+
+
 def condition_line(given):
     """What the program cases_roll must write of a condition."""
     said = accelerations(given)
@@ -205,6 +223,8 @@ def stored():
         "crates/cases_twenties/stdout": "".join(question_line(*asked) for asked in FIGURES).encode(),
         "crates/cases_forecast/stdin": b"".join(map(forecast_question, forecast_asked.FIGURES)),
         "crates/cases_forecast/stdout": "".join(map(forecast_line, forecast_asked.FIGURES)).encode(),
+        "crates/cases_side/stdin": b"".join(map(side_question, SIDES)),
+        "crates/cases_side/stdout": "".join(map(side_line, SIDES)).encode(),
         "crates/cases_roll/stdin": b"".join(CONDITION.pack(*astuple(given)) for given in CONDITIONS),
         "crates/cases_roll/stdout": "".join(map(condition_line, CONDITIONS)).encode(),
         "crates/lashcheck/stdin": sample.data,

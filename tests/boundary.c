@@ -3,7 +3,8 @@
    behind, then against those before, over two patterns that differ in every byte: whatever the call wrote, a byte written is told
    from a byte left alone. Each sheet is previewed the same way with a tier and a mass, and held to the check of a copy. Then forecasts,
    a fifth as many, on sheets of their own in the same way; beside each the greatest factor, by which the call must do what the check
-   does. Then twenties: their masses lie as the sheets do, and where no mass is to be read, on an unreadable page.
+   does. Then side walls, on sheets of their own in the same way, each with a short sheet that lies as the stack sheet does. Then
+   twenties: their masses lie as the sheets do, and where no mass is to be read, on an unreadable page.
    Then accelerations from roll: no memory is lent, so only the numbers are tried.
 
    usage: boundary [--count N] [--seed N] [--dump FILE]
@@ -25,6 +26,7 @@ enum { RULE_AT = 0, ROUTE_AT = 1, ZERO_AT = 3, LEAST_RULE = 1, MOST_RULE = 2 };
 enum { EVERY_LENGTH = 501, STRIDE = 211 }; /* no common divisor: every length has its turn */
 enum { AREA = 8192, DUMPED = 600, ENOUGH = 10000, NUMBERS = LASH_ROOM + 1, SHEETS_A_FORECAST = 5, LEAST_HOURS_REFUSED = 72 };
 enum { MASS_AT = 4 }; /* in a tier's bytes */
+enum { SHEETS_A_SIDE = 5, MOST_LONGITUDINAL = 1500, MOST_PITCH = 1 + 2 * 255 };
 enum { LEAST_TIERS_IN_GUIDES = 3, MOST_TIERS_IN_GUIDES = 11, MOST_MASS = 30480, SHEETS_A_QUESTION = 5 };
 
 /* Numbers at random, the same for the same seed. */
@@ -293,6 +295,8 @@ static size_t choose_room(void)
 
 static uint8_t *guarded_sheet;  /* AREA bytes, only readable */
 static uint8_t *writable_sheet; /* the same bytes, for this program */
+static uint8_t *guarded_pitch;  /* the same for a short sheet */
+static uint8_t *writable_pitch;
 static uint8_t *guarded_answer; /* AREA bytes */
 static uint8_t patterns[2][AREA];
 
@@ -306,18 +310,25 @@ static uint8_t *mapped(void *at, size_t size, int rights, int flags, int file)
     return p;
 }
 
-static void prepare_memory(void)
+/* AREA bytes that can only be read, unreadable pages around them; the same bytes, for this program, at *writable. */
+static uint8_t *lent_memory(size_t page, uint8_t **writable)
 {
-    size_t page = (size_t)sysconf(_SC_PAGESIZE), whole = AREA + 2 * page;
     int file = memfd_create("sheet", 0);
     if (AREA % page || file < 0 || ftruncate(file, AREA) != 0) {
         fprintf(stderr, "boundary: no memory that fits pages of %zu bytes\n", page);
         exit(2);
     }
-    writable_sheet = mapped(NULL, AREA, PROT_READ | PROT_WRITE, MAP_SHARED, file);
-    uint8_t *sheet = mapped(NULL, whole, PROT_NONE, MAP_PRIVATE | MAP_ANONYMOUS, -1);
-    guarded_sheet = mapped(sheet + page, AREA, PROT_READ, MAP_SHARED | MAP_FIXED, file);
-    uint8_t *answer = mapped(NULL, whole, PROT_NONE, MAP_PRIVATE | MAP_ANONYMOUS, -1);
+    *writable = mapped(NULL, AREA, PROT_READ | PROT_WRITE, MAP_SHARED, file);
+    uint8_t *around = mapped(NULL, AREA + 2 * page, PROT_NONE, MAP_PRIVATE | MAP_ANONYMOUS, -1);
+    return mapped(around + page, AREA, PROT_READ, MAP_SHARED | MAP_FIXED, file);
+}
+
+static void prepare_memory(void)
+{
+    size_t page = (size_t)sysconf(_SC_PAGESIZE);
+    guarded_sheet = lent_memory(page, &writable_sheet);
+    guarded_pitch = lent_memory(page, &writable_pitch);
+    uint8_t *answer = mapped(NULL, AREA + 2 * page, PROT_NONE, MAP_PRIVATE | MAP_ANONYMOUS, -1);
     guarded_answer = mapped(answer + page, AREA, PROT_READ | PROT_WRITE, MAP_PRIVATE | MAP_ANONYMOUS | MAP_FIXED, -1);
     for (size_t i = 0; i < AREA; i++) {
         patterns[0][i] = (uint8_t)(37 * i + i / 256 + 11);
@@ -351,6 +362,9 @@ static int asking; /* about twenties, no longer about sheets */
 static int previewing;
 static uint32_t moved_tier;
 static uint16_t moved_mass;
+static uint8_t pitch[MOST_PITCH];
+static size_t pitch_length;
+static int siding; /* about side walls, with a short sheet */
 static int rolling; /* about accelerations, no longer about twenties */
 static unsigned long sheet_number;
 static size_t room;
@@ -390,11 +404,17 @@ __attribute__((format(printf, 1, 2), noreturn)) static void fail(const char *for
         printf("FAULT: twenties: ");
     else
         printf("FAULT: sheet %lu (%s, %zu bytes, answer buffer of %zu): ", sheet_number, sheet.kind, sheet.length, room);
+    if (siding)
+        printf("side walls: ");
     if (previewing)
         printf("preview of tier %u, mass %u: ", moved_tier, moved_mass);
     if (!asking && weather)
         printf("by forecast %u %u %u: ", weather->wave_height, weather->breadth, weather->hours);
     vprintf(format, rest);
+    if (siding) {
+        printf("\n  short sheet ");
+        print_hex(stdout, pitch, pitch_length);
+    }
     printf(rolling ? "\n  sine to z " : asking ? "\n  table, acceleration, count, masses " : "\n  sheet ");
     if (rolling)
         print_condition(stdout);
@@ -717,6 +737,116 @@ static void run_forecasts(unsigned long count, FILE *out)
     }
 }
 
+/* Side walls. */
+
+/* Mostly of the stack's count and length, with an A_L that is too great now and then. */
+static void make_pitch(void)
+{
+    static const uint32_t edges[] = {0, MOST_LONGITUDINAL, MOST_LONGITUDINAL + 1, UINT16_MAX};
+    uint32_t tiers = sheet.length > HEAD ? sheet.bytes[HEAD] : 1;
+    pitch[0] = (uint8_t)(below(16) ? tiers : below(12));
+    for (size_t i = 0; i < 255; i++)
+        put(pitch + 1 + 2 * i, 2, below(30) ? below(MOST_LONGITUDINAL + 1) : edges[below(COUNT(edges))]);
+    pitch_length = below(12) ? 1 + 2 * tiers : below(24);
+}
+
+static size_t choose_side_room(void)
+{
+    static const size_t rooms[] = {0, 1, LASH_SIDE_SIZE - 1, LASH_SIDE_SIZE, LASH_SIDE_SIZE + 1, AREA};
+    return below(4) ? LASH_SIDE_SIZE : rooms[below(COUNT(rooms))];
+}
+
+/* What is due: `checked`, the sheet's own result in a long buffer; then 14, then 15, then 13; then the side answer's length. */
+static uint64_t side_due(uint64_t checked)
+{
+    size_t tiers = sheet.bytes[HEAD];
+    if (lash_number_of(checked) != LASH_TAKEN)
+        return checked;
+    if (pitch_length != 1 + 2 * tiers || pitch[0] != tiers)
+        return LASH_PITCH;
+    for (size_t i = 0; i < tiers; i++)
+        if (get2(pitch + 1 + 2 * i) > MOST_LONGITUDINAL)
+            return LASH_LONGITUDINAL | (uint64_t)(i + 1) << 8;
+    return room < LASH_SIDE_SIZE ? LASH_ROOM | (uint64_t)LASH_SIDE_SIZE << 8 : (uint64_t)(2 + 8 * tiers) << 8;
+}
+
+/* Whether a side answer has the stack's tier count and the verdict of its own rackings, none of which rises from a tier to the next;
+   and shifts that rise from level to level. */
+static int side_possible(uint64_t result, const uint8_t *side)
+{
+    int over = 0;
+    unsigned tiers = lash_tiers(result, side);
+    for (unsigned tier = 1; tier <= tiers; tier++) {
+        over |= lash_side_racking(result, side, tier) > LASH_SIDE_LIMIT;
+        if (tier > 1 && (lash_side_racking(result, side, tier) > lash_side_racking(result, side, tier - 1) ||
+                         lash_side_shift(result, side, tier) < lash_side_shift(result, side, tier - 1)))
+            return 0;
+    }
+    return tiers == sheet.bytes[HEAD] && lash_accepted(result, side) == !over && side[0] <= 1 &&
+           lash_side_racking(result, side, 0) == LASH_NONE && lash_side_shift(result, side, tiers + 1) == LASH_NONE;
+}
+
+/* One call against the pages behind (0) or before (1), held to what is due. */
+static void side(int before, uint64_t due)
+{
+    size_t at, pitch_at = before ? 0 : AREA - pitch_length;
+    const uint8_t *pattern = patterns[before], *lent = laid(before, &at);
+    memcpy(writable_pitch + pitch_at, pitch, pitch_length);
+    uint64_t result = lash_side(lent, sheet.length, guarded_pitch + pitch_at, pitch_length, guarded_answer + at, room);
+    size_t length = lash_number_of(result) == LASH_TAKEN ? lash_second_of(result) : 0;
+    if (result != due)
+        fail("gives %llx, %llx is due", (unsigned long long)result, (unsigned long long)due);
+    if (length && !side_possible(result, guarded_answer + at))
+        fail("the side answer does not fit the stack or itself");
+    if (!length && (lash_accepted(result, guarded_answer + at) || lash_side_racking(result, guarded_answer + at, 1) != LASH_NONE))
+        fail("is refused, and the readers give figures");
+    if (!same(guarded_answer, pattern, 0, at) || !same(guarded_answer, pattern, at + length, AREA))
+        fail("a byte outside the side answer of %zu bytes was written", length);
+}
+
+/* In the dump a line: side, side room, result, sheet, short sheet, side answer. */
+static uint64_t check_side(FILE *out)
+{
+    static uint8_t unused[LASH_ANSWER_SIZE], first[LASH_SIDE_SIZE];
+    make_pitch();
+    uint64_t due = side_due(lash_check(sheet.bytes, sheet.length, unused, sizeof unused));
+    size_t length = lash_number_of(due) == LASH_TAKEN ? lash_second_of(due) : 0;
+    siding = 1;
+    side(0, due);
+    memcpy(first, guarded_answer + AREA - room, length);
+    side(1, due);
+    if (memcmp(first, guarded_answer, length) != 0)
+        fail("two calls on the same sheets differ");
+    siding = 0;
+    if (out) {
+        fprintf(out, "side %zu %llu ", room, (unsigned long long)due);
+        print_hex(out, sheet.bytes, sheet.length);
+        fputc(' ', out);
+        print_hex(out, pitch, pitch_length);
+        fputc(' ', out);
+        print_hex(out, guarded_answer, length);
+        fputc('\n', out);
+    }
+    return due;
+}
+
+static void run_sides(unsigned long count, FILE *out)
+{
+    unsigned long tally[LASH_LONGITUDINAL + 1] = {0};
+    for (sheet_number = 0; sheet_number < count; sheet_number++) {
+        make_sheet(&sheet, sheet_number);
+        room = choose_side_room();
+        tally[lash_number_of(check_side(sheet_number < DUMPED ? out : NULL))]++;
+    }
+    printf("%lu pairs of sheets for side walls, each asked twice: %lu answered; refused by number 13: %lu, 14: %lu, 15: %lu\n", count,
+           tally[LASH_TAKEN], tally[LASH_ROOM], tally[LASH_PITCH], tally[LASH_LONGITUDINAL]);
+    for (int i = 0; i <= LASH_LONGITUDINAL && count >= ENOUGH; i++)
+        if (!tally[i]) {
+            printf("FAULT: no pair of sheets gave number %d\n", i);
+            exit(1);
+        }
+}
+
 /* Twenties. */
 
 static void make_question(void)
@@ -919,6 +1049,7 @@ int main(int argc, char **argv)
     run(count, out);
     run_previews(count, out);
     run_forecasts(count / SHEETS_A_FORECAST, out);
+    run_sides(count / SHEETS_A_SIDE, out);
     run_twenties(count / SHEETS_A_QUESTION, out);
     run_roll(count / SHEETS_A_QUESTION, out);
     if (out && fclose(out) != 0) {

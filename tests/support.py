@@ -60,10 +60,10 @@ def reply(output):
     return Reply(number + 256 * second, output)
 
 
-def lash(*words, output=b"", stdin=b"", binary=False, twenties=None, preview=None, roll=None):
+def lash(*words, output=b"", stdin=b"", binary=False, twenties=None, preview=None, roll=None, side=None):
     """Status, output and messages of ./lash with these words, given what the program would write for the sheet, or for each, or what
     the calls for twenties and for roll would return, that for roll perhaps by the condition, or what the program would write for the
-    sheet with a move."""
+    sheet with a move, or for its side walls."""
     out, err = io.TextIOWrapper(io.BytesIO(), "utf-8"), io.StringIO()
     given = mock.patch("sys.stdin", io.TextIOWrapper(io.BytesIO(stdin)))
     with contextlib.redirect_stdout(out), contextlib.redirect_stderr(err), given:
@@ -72,7 +72,8 @@ def lash(*words, output=b"", stdin=b"", binary=False, twenties=None, preview=Non
             judge = None if twenties is None else lambda *asked: Reply(twenties)
             call = None if preview is None else lambda *asked: reply(preview)
             works_out = None if roll is None else lambda *condition: Reply(roll(*condition) if callable(roll) else roll)
-            calls = {"check": lambda data: reply(check(data)), "judge": judge, "call": call, "roll": works_out}
+            pitch = None if side is None else lambda *sheets: reply(side)
+            calls = {"check": lambda data: reply(check(data)), "judge": judge, "call": call, "roll": works_out, "pitch": pitch}
             status = main([str(word) for word in words], **calls)
         except SystemExit as end:
             status = end.code
@@ -103,6 +104,15 @@ uint64_t lash_forecast(const uint8_t *sheet, size_t sheet_len, uint16_t wave_hei
     (void)wave_height, (void)breadth, (void)hours;
     return answer_len < 834 ? 13 | 834 << 8 : %s(sheet, sheet_len, answer, answer_len);
 }
+uint64_t lash_side(const uint8_t *sheet, size_t sheet_len, const uint8_t *pitch, size_t pitch_len, uint8_t *side, size_t side_len)
+{
+    static const uint8_t fixed[] = {0%s}; /* behind a byte that stands for none */
+    (void)sheet, (void)sheet_len, (void)pitch, (void)pitch_len;
+    if (side_len < 82)
+        return 13 | 82 << 8;
+    memcpy(side, fixed + 1, sizeof fixed - 1);
+    return (uint64_t)(sizeof fixed - 1) << 8;
+}
 uint64_t lash_twenties(uint32_t table, uint32_t acceleration, const uint32_t *masses, size_t count)
 {
     (void)table, (void)acceleration, (void)masses, (void)count;
@@ -117,11 +127,12 @@ uint64_t lash_roll(uint32_t sine, uint32_t cosine, uint32_t heave, uint32_t angl
 """
 
 
-def library_of(folder, answer, name="lash_check", twenties=0, roll=0):
-    """A shared library whose call gives this answer for every sheet, preview and forecast, and these numbers for all twenties and all
-    conditions of roll."""
+def library_of(folder, answer, name="lash_check", twenties=0, roll=0, side=b""):
+    """A shared library whose call gives this answer for every sheet, preview and forecast, these numbers for all twenties and all
+    conditions of roll, and this side answer for all side walls."""
     source, made = folder / f"{name}.c", folder / f"{name}.so"
     numbers = (f"UINT64_C({number})" for number in (twenties, roll))
-    source.write_text(LIBRARY % (name, ", ".join(map(str, answer)), name, name, *numbers))
+    sides = "".join(f", {byte}" for byte in side)
+    source.write_text(LIBRARY % (name, ", ".join(map(str, answer)), name, name, sides, *numbers))
     subprocess.run(["cc", "-shared", "-fPIC", source, "-o", made], check=True)
     return made

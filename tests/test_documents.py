@@ -6,7 +6,7 @@ import sys
 import unittest
 from struct import calcsize
 
-from reference import preview, roll, twenties
+from reference import preview, roll, side, twenties
 from reference.forecast import factor
 from reference.judge import KEPT, expected, judge
 from reference.roll_asked import USUAL
@@ -17,6 +17,7 @@ from sheets.limits import (
 from sheets.sheet import (
     ANSWER_ROOM, HEAD, HEAD_LIMITS, LASH, LASH_LIMITS, MOST_LASHES, MOST_TIERS, TIER, TIER_LIMITS, Head, Lash, Tier,
 )
+from sheets.side import SIDE_LIMIT, SIDE_ROOM
 from tests.support import ROOT
 
 TEXT = (ROOT / "docs" / "SHEET.md").read_text()
@@ -68,6 +69,7 @@ class SheetDocument(unittest.TestCase):
             ("Refusals", "lash_number", list(range(1, 14))),
             ("Refused by a preview alone", "lash_preview_number", [17]),
             ("Refused by a forecast alone", "lash_forecast_number", [20, 21]),
+            ("Refused by the call for side walls alone", "lash_side_number", [14, 15]),
             ("Numbers of its refusals", "lash_twenties_number", [22, 23]),
             ("Numbers of the refusals of roll", "lash_roll_number", [18, 19]),
         ):
@@ -84,6 +86,15 @@ class SheetDocument(unittest.TestCase):
 
     def test_forecast(self):
         self.assertIn(f"Breadth 2,500 and wave height 300 give {factor(300, 2_500)}.", TEXT)
+
+    def test_side(self):
+        due = side.expected(hex_of("23 bytes:"), bytes.fromhex("01 f4 01"))
+        self.assertEqual(hex_of("gives ten bytes:"), due.data)
+        header = (ROOT / "include" / "lash_check.h").read_text()
+        self.assertIn(f"#define LASH_SIDE_SIZE {SIDE_ROOM}\n", header)
+        self.assertIn(f"#define LASH_SIDE_LIMIT {SIDE_LIMIT}\n", header)
+        self.assertIn(f"The side buffer must hold {SIDE_ROOM} bytes", TEXT)
+        self.assertIn(f"no racking exceeds {SIDE_LIMIT:,} N", TEXT)
 
     def test_twenties(self):
         said = twenties.packed(twenties.judge(0, 412, (24_000, 22_000, 20_000, 18_000)))

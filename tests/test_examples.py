@@ -8,6 +8,7 @@ from lashtool.template import template
 from reference.cases import HOOKED, OVER_HEAVY, OVER_LIGHT
 from reference.forecast import factor
 from reference.heavier import exact_faults
+from reference.side import reported
 from reference.stack import exact, lash_length
 from sheets.limits import (
     COMPRESSION, CORNER, LASH_TENSION, LOCK, RACKING, checks, findings,
@@ -28,6 +29,7 @@ SHOWN = {
     "bottom-hook": ("accepted", []),
     "long-rods": ("accepted", []),
     "from-roll": ("accepted, its accelerations worked out from the ship's roll", []),
+    "side-walls": ("accepted, and not its side walls", []),
     "last-box": ("accepted, and not with a heavier box on top", []),
     "light-below": ("accepted, and a heavier box below lowers a racking and a tension, but no lash force", []),
     "racking": ("unacceptable racking", [(end, RACKING, 1) for end in BOTH]),
@@ -77,6 +79,13 @@ class Examples(unittest.TestCase):
         sheet = sheet_of("route")
         unrestricted = replace(sheet, head=replace(sheet.head, route=0))
         self.assertEqual(findings(unrestricted, exact(unrestricted)), [(1, CORNER, 0)])
+
+    def test_the_side_walls_decide(self):
+        told = describe((EXAMPLES / "side-walls.toml").read_bytes())
+        lighter = (*told.sheet.tiers[:-1], replace(told.sheet.tiers[-1], mass=5_500))
+        for sheet, verdict, racking in ((told.sheet, 1, 131_687), (replace(told.sheet, tiers=lighter), 0, 124_526)):
+            answer = reported(sheet, told.longitudinal)
+            self.assertEqual((answer.verdict, answer.racking[0]), (verdict, racking))
 
     def test_the_forecast_decides(self):
         sheet = sheet_of("feeder")

@@ -12,6 +12,7 @@ from tests.support import EXAMPLES, ROOT
 
 README = (ROOT / "README.md").read_text()
 PICTURE = "docs/eight-high.svg"
+SIDE_PICTURE = "docs/side-walls.svg"
 
 
 def lash(words):
@@ -53,6 +54,8 @@ class Readme(unittest.TestCase):
     def test_the_picture_is_what_the_tool_draws(self):
         self.assertIn(f"]({PICTURE})", README)
         self.assertEqual((ROOT / PICTURE).read_text(), lash(["examples/eight-high.toml", "--svg", "-"]))
+        self.assertIn(f"]({SIDE_PICTURE})", README)
+        self.assertEqual((ROOT / SIDE_PICTURE).read_text(), lash(["examples/side-walls.toml", "--side", "--svg", "-"]))
 
     def test_tables_are_those_of_the_tool(self):
         for table in (field_table(), route_table()):

@@ -20,6 +20,7 @@ OWN = {
     ),
     "preview": (("crates/preview/specs/",), 20),
     "forecast": (("crates/forecast/specs/", "crates/forecast_factor/specs/"), 35),
+    "side": (("crates/side_walls/specs/", "crates/side/specs/"), 70),
     "roll": (
         (
             "crates/roll/specs/",

@@ -1,6 +1,7 @@
 -- The two numbers that a call returns which answers as a check does: its refusals', or 0 and at most 834. Those of a check: 0 to 13.
 use Prim.Native.Nat.{ℕ, _≤_}
-use mathlib.Core.List.{List}
+use mathlib.Core.Bool.{Bool, true, false, cond}
+use mathlib.Core.List.{List, [], _∷_, _++_}
 use mathlib.Core.Path.{_≡_, refl}
 use native.Mathlib.Omega.{arith}
 use lib.ListN.{length, take, length-take}
@@ -8,7 +9,7 @@ use Rattle.sheet.specs.declared.Lash.{Lash}
 use Rattle.sheet.specs.declared.Sheet.{Sheet}
 use Rattle.sheet.specs.declared.Reading.{Reading}
 use Rattle.sheet.specs.declared.Reading.the-variants.{Taken, Refused}
-use Rattle.sheet.specs.Refusals.{refusal}
+use Rattle.sheet.specs.Refusals.{Row, first, refusal}
 use Rattle.sheet.specs.Fits.{Fits}
 use Rattle.sheet.proofs.Numbers.{check-numbers}
 use Rattle.sheet.proofs.Refusal.{sheet-taken}
@@ -22,6 +23,28 @@ use Rattle.answer.proofs.Longest.{answer-most}
 pub record Numbers (most : ℕ) (r : Outcome) : Type 0 where
   pub first : number r ≤ most
   pub next : second r ≤ 834
+
+-- rows whose numbers are from 1 to `most` and whose second numbers are at most 834: so are those of the first that holds
+abbrev pub Small : ℕ → Reading → Type 0
+Small most Taken = Unit {0}
+Small most (Refused n p) = (1 ≤ n) × (n ≤ most) × (p ≤ 834)
+
+abbrev pub Each : ℕ → List Row → Type 0
+Each most [] = Unit {0}
+Each most (r ∷ rs) = Small most (Refused (r .number) (r .second)) × Each most rs
+
+pub first-small : (most : ℕ) (rs : List Row) → Each most rs → Small most (first rs)
+unfolding first
+first-small most [] each = tt
+first-small most (r ∷ rs) (here, rest) = go (r .holds) (first-small most rs rest)
+  where
+    go : (x : Bool) → Small most (first rs) → Small most (cond x (Refused (r .number) (r .second)) (first rs))
+    go true later = here
+    go false later = later
+
+pub each-join : (most : ℕ) (a b : List Row) → Each most a → Each most b → Each most (a ++ b)
+each-join most [] b h k = k
+each-join most (r ∷ rs) b (here, rest) k = (here, each-join most rs b rest k)
 
 at-most : (ls : List Lash) (n : ℕ) → n ≤ 8 → length (take n ls) ≤ 8
 at-most ls n h = rw (length-take n ls) (omega arith)

@@ -23,14 +23,14 @@ use Rattle.answer.specs.Places.{sectionSize, entryPlace, endSize, endPla
 use Rattle.answer.specs.Places.{noFinding, EndReadBack, ReadBack}
 
 -- xs stands in l from `at` on
-record Stands (l : List ℕ) (at : ℕ) (xs : List ℕ) : Type 0 where
-  front : List ℕ
-  back : List ℕ
-  split : l ≡ front ++ (xs ++ back)
-  place : length front ≡ at
+pub record Stands (l : List ℕ) (at : ℕ) (xs : List ℕ) : Type 0 where
+  pub front : List ℕ
+  pub back : List ℕ
+  pub split : l ≡ front ++ (xs ++ back)
+  pub place : length front ≡ at
 
 module _ {l : List ℕ} {at : ℕ} where
-  first-part : (xs ys : List ℕ) → Stands l at (xs ++ ys) → Stands l at xs
+  pub first-part : (xs ys : List ℕ) → Stands l at (xs ++ ys) → Stands l at xs
   first-part xs ys s =
       record {
         front = s .front;
@@ -39,7 +39,7 @@ module _ {l : List ℕ} {at : ℕ} where
         place = s .place;
       }
 
-  second-part : (xs ys : List ℕ) → Stands l at (xs ++ ys) → Stands l (at + length xs) ys
+  pub second-part : (xs ys : List ℕ) → Stands l at (xs ++ ys) → Stands l (at + length xs) ys
   second-part xs ys s =
       record {
         front = s .front ++ xs;
@@ -49,14 +49,14 @@ module _ {l : List ℕ} {at : ℕ} where
         place = length-append (s .front) xs ∙ ap (λ (n : ℕ). n + length xs) (s .place);
       }
 
-  first-byte : (x : ℕ) (xs : List ℕ) → Stands l at (x ∷ xs) → byteAt l at ≡ x
+  pub first-byte : (x : ℕ) (xs : List ℕ) → Stands l at (x ∷ xs) → byteAt l at ≡ x
   first-byte x xs s =
       rw (s .split) (rw (add-zero at) at (getD-behind (s .front) (x ∷ xs ++ s .back) at 0 (s .place)))
 
   behind : (x : ℕ) (xs : List ℕ) → Stands l at (x ∷ xs) → Stands l (at + 1) xs
   behind x xs s = second-part (x ∷ []) xs s
 
-  number : (v : ℕ) → v < 2 ^ 32 → Stands l at (bytes4 v) → le4 l at ≡ v
+  pub number : (v : ℕ) → v < 2 ^ 32 → Stands l at (bytes4 v) → le4 l at ≡ v
   number v h s = rw (s .split) (le4-back v (s .front) (s .back) at (s .place) h)
 
   signed : (z : ℤ) → SFits w32 z → Stands l at (bytes4 (twos z)) → signed4 l at ≡ z
@@ -86,15 +86,15 @@ module _ (entry : ℕ → List ℕ) (size : ℕ) (wide : (i : ℕ) → length (e
       let g : a + suc i ≡ suc a + i = omega arith in
       rw (e, g) (one-entry (at + size) (suc a) n i (omega arith) r)
 
-  section-length : (n : ℕ) → length (counted n entry) ≡ sectionSize size n
+  pub section-length : (n : ℕ) → length (counted n entry) ≡ sectionSize size n
   section-length n = ap suc (entries-length 0 n) ∙ omega arith
 
   -- the count and entry i of a section
   module _ {l : List ℕ} (at n : ℕ) (s : Stands l at (counted n entry)) where
-    the-count : byteAt l at ≡ n
+    pub the-count : byteAt l at ≡ n
     the-count = first-byte n (flatMap entry (below n)) s
 
-    the-entry : (i : ℕ) → i < n → Stands l (entryPlace at size i) (entry i)
+    pub the-entry : (i : ℕ) → i < n → Stands l (entryPlace at size i) (entry i)
     the-entry i h =
         let e : 0 + i ≡ i = omega arith in
         rw e at (one-entry (at + 1) 0 n i h (behind n (flatMap entry (below n)) s))

@@ -1,4 +1,4 @@
--- The two numbers of what the check and the check by a forecast return fit one.
+-- The two numbers of what the check, the check by a forecast and the call for side walls return fit one.
 use Prim.Native.Nat.{ℕ}
 use mathlib.Core.List.{List}
 use native.Mathlib.Omega.{arith}
@@ -7,6 +7,8 @@ use Rattle.answer.specs.Checked.{Checked}
 use Rattle.answer.proofs.Numbers.{numbers}
 use Rattle.forecast.specs.Forecasts.{Forecast}
 use Rattle.forecast.proofs.Numbers.{forecast-numbers}
+use Rattle.side.specs.Sides.{Sided}
+use Rattle.side.proofs.Numbers.{side-numbers}
 use Rattle.packing.proofs.OneNumber.{Fitting}
 
 pub checked-fits : {margin : ℕ} {s before after : List ℕ} {o : Outcome} → Checked margin s before after o → Fitting o
@@ -17,3 +19,6 @@ pub forecast-fits :
     Forecast margin s h b hours before after o →
     Fitting o
 forecast-fits f = (omega (arith, forecast-numbers f .first), omega (arith, forecast-numbers f .next))
+
+pub side-fits : {s p before after : List ℕ} {o : Outcome} → Sided s p before after o → Fitting o
+side-fits h = (omega (arith, side-numbers h .first), omega (arith, side-numbers h .next))

@@ -7,6 +7,7 @@ ghost use Rattle.preview.specs.Previews.{Previewed};
 ghost use Rattle.preview.specs.inner.Moved.{AsChecked};
 ghost use Rattle.forecast.specs.Forecasts.{Forecast};
 ghost use Rattle.forecast.specs.inner.Named.{forecastReturned, forecastWritten};
+ghost use Rattle.side.specs.Sides.{Sided};
 ghost use Rattle.roll.specs.Rounded.{conditionA};
 ghost use Rattle.packing.specs.Called.{Called};
 ghost use Rattle.lash.specs.RolledIn.{RolledIn};
@@ -56,6 +57,16 @@ pub extern "C" fn lash_forecast(
         × (now (answer .exit) ≡ forecastWritten (now (sheet .entry)) wave breadth hours (now (answer .entry)))) r ⌝ }
 {
     let outcome = forecast::forecast(sheet, wave, breadth, hours, answer);
+    packed_outcome(outcome)
+}
+
+// Answers for side walls under pitching as side::side does: `pitch` is the second short sheet. What is returned is told as lash_check
+// tells it.
+#[no_mangle]
+pub extern "C" fn lash_side(sheet: &[u8], pitch: &[u8], answer: &mut [u8]) -> u64
+    ensures { λ r. ⌜ Called (Sided (now (sheet .entry)) (now (pitch .entry)) (now (answer .entry)) (now (answer .exit))) r ⌝ }
+{
+    let outcome = side::side(sheet, pitch, answer);
     packed_outcome(outcome)
 }
 

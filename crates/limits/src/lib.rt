@@ -17,6 +17,8 @@ impl Limits {
     pub const LASH_VERTICAL: u64 = 300_000;
 
     pub const LASH_ATHWART: u64 = 150_000;
+
+    pub const SIDE_WALL: u64 = 125_000;
 }
 
 // The safe working load in whole kilonewtons: breaking load / 1.67 for higher strength steel, / 2 for all else (CR Table 3-3).

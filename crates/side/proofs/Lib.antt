@@ -1,0 +1,7 @@
+-- What the functions' proofs rest on, and the theorems.
+pub mod ShortSheets
+pub mod Tests
+pub mod Bytes
+pub mod Refusals
+pub mod ReadBack
+pub mod Numbers

@@ -1,0 +1,3 @@
+pub mod SideWalls
+pub mod Theorems
+pub mod inner
