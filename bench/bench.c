@@ -1,6 +1,6 @@
 /* Times the proved check and the same check in doubles, interleaved in one run. Reads a corpus (bench/corpus.py) and prints a line
    a group: its number, its sheets, then medians in ns a sheet: whole check proved, in doubles, decode proved, in doubles, a preview of
-   the sheet, and the check by a forecast. */
+   the sheet, and the check by a forecast. Groups from BAY_GROUP on hold bays in place of sheets; of these one median, in ns a bay. */
 #include "../include/lash_check.h"
 #include "doubles.h"
 #include "timing.h"
@@ -8,7 +8,7 @@
 #include <stdio.h>
 #include <stdlib.h>
 
-enum { ROUNDS = 61, GROUPS = 256, MEASURES = 6 };
+enum { ROUNDS = 61, GROUPS = 256, BAY_GROUP = 128, MEASURES = 6 };
 enum { COUNT_AT = 8, TIERS_AT = 9, TIER = 12, MASS_AT = 4 };
 
 typedef uint64_t check_call(const uint8_t *, size_t, uint8_t *, size_t);
@@ -40,6 +40,8 @@ static const struct measure {
     {by_forecast, LASH_ANSWER_SIZE},
 };
 
+static const struct measure of_bays[] = {{lash_bay, LASH_REPORT_SIZE}};
+
 struct item {
     const uint8_t *bytes;
     size_t length;
@@ -56,7 +58,7 @@ static volatile uint64_t sink;
 /* The mean of one pass over a group; the answer buffer is not cleared between sheets. */
 static double pass(const struct measure *m, const struct group *g)
 {
-    static uint8_t answer[LASH_ANSWER_SIZE];
+    static uint8_t answer[LASH_REPORT_SIZE];
     uint64_t sum = 0;
     double start = now();
     for (size_t i = 0; i < g->count; i++)
@@ -66,20 +68,22 @@ static double pass(const struct measure *m, const struct group *g)
     return spent / (double)g->count;
 }
 
+static int count_of(int group) { return group < BAY_GROUP ? MEASURES : 1; }
+
 /* Every measure in turn, in the other order every second round; the pass before each timed one warms the caches for it. */
-static void time_round(struct group *g, int round)
+static void time_round(const struct measure *those, int count, struct group *g, int round)
 {
-    for (int i = 0; i < MEASURES; i++) {
-        int m = round % 2 ? MEASURES - 1 - i : i;
-        pass(&measures[m], g);
-        g->times[m][round] = pass(&measures[m], g);
+    for (int i = 0; i < count; i++) {
+        int m = round % 2 ? count - 1 - i : i;
+        pass(&those[m], g);
+        g->times[m][round] = pass(&those[m], g);
     }
 }
 
 static void print_medians(int number, struct group *g)
 {
     printf("%d %zu", number, g->count);
-    for (int m = 0; m < MEASURES; m++)
+    for (int m = 0; m < count_of(number); m++)
         printf(" %.1f", median(g->times[m], ROUNDS));
     printf("\n");
 }
@@ -127,7 +131,7 @@ int main(int argc, char **argv)
     for (int round = 0; round < ROUNDS; round++)
         for (int i = 0; i < GROUPS; i++)
             if (groups[i].count)
-                time_round(&groups[i], round);
+                time_round(i < BAY_GROUP ? measures : of_bays, count_of(i), &groups[i], round);
     for (int i = 0; i < GROUPS; i++) {
         if (groups[i].count)
             print_medians(i, &groups[i]);

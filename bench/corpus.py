@@ -4,6 +4,7 @@ from dataclasses import dataclass, replace
 from random import Random
 
 from reference import samples
+from sheets.bay import MOST_ROWS, pack_bay
 from sheets.sheet import CLOSED, CROSS, DOOR, MOST_LASHES, MOST_TIERS, SIDE, TOP, Head, Sheet, pack, parse
 
 KIND_SHEETS = 400
@@ -13,6 +14,7 @@ FIXED_PLACES = [(1, TOP, CROSS), (1, TOP, SIDE)]
 # Sides of rods up to the longest and from the shortest that a sheet may have.
 LONG_RODS = {"lx": (4_500, 5_000), "ly": (9_000, 10_000), "lz": (18_000, 20_000)}
 SHORT_RODS = {"lx": (0, 50), "ly": (500, 550), "lz": (500, 550)}
+BAY_GROUP = 128  # the bays' number in the file, as bench.c has it
 
 
 @dataclass(frozen=True)
@@ -80,9 +82,15 @@ def groups():
     return found
 
 
-def write(path, found):
-    """For each sheet: its group's number in a byte, its length in two, least byte first, and its bytes."""
+def bays(entry):
+    """Full bays of a group's sheets, each sheet in one of them."""
+    sheets = entry.sheets
+    return [pack_bay(sheets[at : at + MOST_ROWS]) for at in range(0, len(sheets) - MOST_ROWS + 1, MOST_ROWS)]
+
+
+def write(path, found, full):
+    """For each sheet, and then each bay: its group's number in a byte, its length in two, least byte first, and its bytes."""
     with open(path, "wb") as file:
-        for number, entry in enumerate(found):
-            for data in entry.sheets:
+        for number, entry in [*enumerate(entry.sheets for entry in found), (BAY_GROUP, full)]:
+            for data in entry:
                 file.write(bytes([number]) + len(data).to_bytes(2, "little") + data)

@@ -1,7 +1,8 @@
 /* The lashing check of a container stack: bytes of a stack sheet in, bytes of an answer sheet out; docs/SHEET.md has the layout
    of both, byte by byte. lash_preview answers for the sheet with another mass in one tier, lash_forecast for a short voyage by its
-   forecast. lash_side answers for the side walls under pitching, with a side answer of its own. And lash_twenties, for 20-ft boxes in
-   40-ft cell guides, and lash_roll, for a box's accelerations from the ship's roll: numbers in, one number out.
+   forecast, lash_bay for the stacks of a bay side by side. lash_side answers for the side walls under pitching, with a side answer of its
+   own. And lash_twenties, for 20-ft boxes in 40-ft cell guides, and lash_roll, for a box's accelerations from the ship's roll: numbers
+   in, one number out.
 
    rt staticlib lash                                                      proves the check and writes target/staticlib/liblash.a
    cc -Iinclude yours.c target/staticlib/liblash.a -o yours               a program over it, on x86-64 Linux
@@ -16,9 +17,9 @@
 extern "C" {
 #endif
 
-/* The version of the header and of the library built beside it; the text is LASH_VERSION, as "0.13.0". */
+/* The version of the header and of the library built beside it; the text is LASH_VERSION, as "0.14.0". */
 #define LASH_VERSION_MAJOR 0
-#define LASH_VERSION_MINOR 13
+#define LASH_VERSION_MINOR 14
 #define LASH_VERSION_PATCH 0
 #define LASH_TEXT_(number) #number
 #define LASH_TEXT(number) LASH_TEXT_(number)
@@ -260,6 +261,85 @@ static inline int64_t lash_side_racking(uint64_t result, const uint8_t *side, un
 static inline int64_t lash_side_shift(uint64_t result, const uint8_t *side, unsigned tier)
 {
     return lash_side_figure(result, side, tier, 1);
+}
+
+/* The whole bay in one report: 1 to 24 rows of stacks from port to starboard, on decks or hatches of one height. The bay's bytes are a
+   count of rows, then each row's stack sheet after its length in 2 bytes, 0 for an empty row; docs/SHEET.md has the bytes of the report.
+   The wind part of each tier's byte, its bit 0, is worked out afresh and not read: a box is exposed exactly if on either side more than
+   one third of its height shows above the nearest loaded row, or three or more empty rows lie between, or no loaded row is beyond, or it
+   is a 40-ft box and that row one of 20-ft boxes (CR 1.3.1(40)). A row's answer is what lash_check writes for its sheet with these bits
+   put in.
+   The first number is in the low 8 bits of what is returned. With 0, bits 8 to 31 are the report's length, and all others 0; the bytes
+   behind the report are as they were. Refused: bits 8 to 31 are the second number and bits 32 to 39 the row, counted from 1, or 0 where
+   none is named; the report buffer is as it was. LASH_BAY comes first, then the first row with a refusal of its own, by the numbers of
+   lash_check and as its bytes stand, then LASH_ROOM with 20,073. All else is as with lash_check: what the caller need not test, buffers
+   that do not overlap, pointers that are not null. */
+uint64_t lash_bay(const uint8_t *bay, size_t bay_len, uint8_t *report, size_t report_len);
+
+enum lash_bay_number {
+    LASH_BAY = 16 /* 0: a count of rows outside 1 to 24, or lengths that do not end with the bay's bytes */
+};
+
+/* The report buffer must hold this many bytes, whatever the bay. No report is longer. */
+#define LASH_REPORT_SIZE 20073
+
+/* No bay has more rows, and none that is taken is longer. */
+#define LASH_MOST_ROWS 24
+#define LASH_BAY_SIZE 10873
+
+/* The second number of lash_bay's result, and the row of a refusal. */
+static inline uint64_t lash_bay_second_of(uint64_t result) { return result >> 8 & 0xffffff; }
+static inline unsigned lash_bay_row_of(uint64_t result) { return (unsigned)(result >> 32 & 255); }
+
+/* Readers of a report. `result` is what lash_bay returned for it. They read no byte behind the report, and none after a refusal. */
+
+/* For the readers below: a number of the report in so many bytes; LASH_NONE if it is not there. */
+static inline int64_t lash_bay_number_at(uint64_t result, const uint8_t *report, size_t at, unsigned size)
+{
+    int64_t number = 0;
+    if (lash_number_of(result) != LASH_TAKEN || at + size > lash_bay_second_of(result))
+        return LASH_NONE;
+    for (unsigned i = size; i > 0; i--)
+        number = number << 8 | report[at + i - 1];
+    return number;
+}
+
+/* How many loaded rows are accepted; 0 after a refusal. Of all loaded rows, accepted or not: the mass in kg, and the greatest racking in
+   size in N, 0 if there is none. */
+static inline unsigned lash_bay_accepted(uint64_t result, const uint8_t *report)
+{
+    int64_t rows = lash_bay_number_at(result, report, 0, 1);
+    return rows == LASH_NONE ? 0 : (unsigned)rows;
+}
+
+static inline int64_t lash_bay_mass(uint64_t result, const uint8_t *report) { return lash_bay_number_at(result, report, 1, 4); }
+static inline int64_t lash_bay_racking(uint64_t result, const uint8_t *report) { return lash_bay_number_at(result, report, 5, 4); }
+
+/* A row's answer, and the result to hand with it to the readers of lash_check's answers. */
+struct lash_row {
+    uint64_t result;
+    const uint8_t *answer;
+};
+
+/* The answer of a row, from 1. Of an empty row, a row that there is not and after a refusal the result is 0, an answer of no bytes, of
+   which those readers give nothing: such a row is not accepted and has no forces. */
+static inline struct lash_row lash_bay_row(uint64_t result, const uint8_t *report, unsigned row)
+{
+    struct lash_row found = {0, report};
+    size_t at = 9;
+    int64_t length = 0;
+    for (unsigned i = 0; i < row && i < LASH_MOST_ROWS; i++) {
+        at += (size_t)length;
+        length = lash_bay_number_at(result, report, at, 2);
+        at += 2;
+        if (length == LASH_NONE || at + (size_t)length > lash_bay_second_of(result))
+            return found;
+    }
+    if (row >= 1 && row <= LASH_MOST_ROWS && length > 0) {
+        found.result = (uint64_t)length << 8;
+        found.answer = report + at;
+    }
+    return found;
 }
 
 /* Twenties in forty-foot guides (CR 5.4.6(b)(ii)): whether all tiers but the lowest together weigh no more than CR Table 5-2 (table 0,

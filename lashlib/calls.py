@@ -5,6 +5,7 @@ from dataclasses import dataclass
 from functools import lru_cache
 
 from lashlib.build import shared_library
+from sheets.bay import REPORT_ROOM
 from sheets.sheet import ANSWER_ROOM
 from sheets.side import SIDE_ROOM
 
@@ -15,6 +16,7 @@ CALLS = {
     "lash_preview": (READ, ctypes.c_uint32, ctypes.c_uint16, WRITTEN),
     "lash_forecast": (READ, ctypes.c_uint16, ctypes.c_uint16, ctypes.c_uint32, WRITTEN),
     "lash_side": (READ, READ, WRITTEN),
+    "lash_bay": (READ, WRITTEN),
     "lash_twenties": (ctypes.c_uint32, ctypes.c_uint32, NUMBERS),
     "lash_roll": (*(ctypes.c_uint32,) * 6, *(ctypes.c_int32,) * 4),
 }
@@ -52,6 +54,19 @@ class Reply:
         return b"%d %d\n" % (self.number, self.second) if self.number else self.answer
 
 
+class BayReply(Reply):
+    """What the call for a bay returned, whose bits 32 to 39 are the row, and the report that it left."""
+
+    @property
+    def second(self):
+        return self.result >> 8 & 0xFFFFFF
+
+    @property
+    def row(self):
+        """Of a refusal, from 1; 0 where none is named."""
+        return self.result >> 32
+
+
 class Library:
     """The calls of a shared library."""
 
@@ -60,7 +75,7 @@ class Library:
         self.calls = {name: declared(loaded[name], kinds) for name, kinds in calls.items()}
         self.kinds = calls
 
-    def call(self, name, *given, room=ANSWER_ROOM):
+    def call(self, name, *given, room=ANSWER_ROOM, reply=Reply):
         """Calls with the bytes and numbers given, in order; the buffer is none of them, only its length is, as `room`."""
         buffer, words, rest = ctypes.create_string_buffer(room), [], iter(given)
         for kind in self.kinds[name]:
@@ -68,7 +83,7 @@ class Library:
                 words += (buffer, room)
             else:
                 words += lent(kind, next(rest))
-        return Reply(self.calls[name](*words), buffer.raw)
+        return reply(self.calls[name](*words), buffer.raw)
 
     def check(self, sheet, room=ANSWER_ROOM):
         return self.call("lash_check", sheet, room=room)
@@ -81,6 +96,9 @@ class Library:
 
     def side(self, sheet, pitch, room=SIDE_ROOM):
         return self.call("lash_side", sheet, pitch, room=room)
+
+    def bay(self, data, room=REPORT_ROOM):
+        return self.call("lash_bay", data, room=room, reply=BayReply)
 
     def twenties(self, table, acceleration, masses):
         return self.call("lash_twenties", table, acceleration, masses, room=0)

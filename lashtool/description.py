@@ -36,7 +36,12 @@ TOP_NAMES = ("title", *(field.name for field in HEAD_FIELDS), *TABLES)
 
 def describe(data, roll=None):
     """The stack that the bytes of a description tell of. `roll` works accelerations out in place of the library."""
-    table, sections = parts_of(data)
+    return described(table_of(data), roll)
+
+
+def described(table, roll=None):
+    """The stack that a table tells of."""
+    sections = sections_of(table)
     reader = FieldReader()
     head = read_head(reader, table, sections["lock"])
     motion = read_motion(sections, head.rule, roll or library_roll())
@@ -49,22 +54,26 @@ def describe(data, roll=None):
     return Description(read_title(table), Sheet(head, tiers, door, closed), reader.assumed(), numbers, worked, longitudinal)
 
 
-def parts_of(data):
-    """A description as one table, and its sections by name."""
+def table_of(data):
+    """A description as one table."""
     text = text_of(data)
     try:
-        table = tomllib.loads(text)
+        return tomllib.loads(text)
     except ValueError as error:
         raise BadDescription(f"this is no TOML: {error}") from None
     except RecursionError:
         raise BadDescription("this is no TOML: it is nested too deeply") from None
+
+
+def sections_of(table):
+    """The sections of a stack's table by name."""
     check_names("the stack", table, TOP_NAMES)
-    return table, {name: section(table, name) for name in TABLES}
+    return {name: section(table, name) for name in TABLES}
 
 
 def read_ship(data):
     """The ship of a description, and the place that it gives for the stack."""
-    _, sections = parts_of(data)
+    sections = sections_of(table_of(data))
     if not sections["ship"]:
         raise BadDescription("there is no [ship]")
     motion = read_motion(sections, CLASS_RULE, None)

@@ -8,12 +8,12 @@ from dataclasses import dataclass
 from pathlib import Path
 
 from lashlib.version import version
-from lashtool import preview, report, rolled, side, svg, svg_side, twenties
+from lashtool import bay, preview, report, rolled, side, svg, svg_side, twenties
 from lashtool.checking import CheckFailed, library, library_check, library_roll, outcome
 from lashtool.colour import wanted
 from lashtool.data import as_data
 from lashtool.description import BadDescription, describe
-from lashtool.ending import ACCEPTED, BAD_INPUT, FAILED, NOT_ACCEPTED, complain, reason, say
+from lashtool.ending import ACCEPTED, BAD_INPUT, FAILED, NOT_ACCEPTED, complain, say
 from lashtool.fields import CLASS_RULE
 from lashtool.figures import result
 from lashtool.forecast import HELP as FORECAST_HELP
@@ -21,6 +21,7 @@ from lashtool.forecast import OPTION as FORECAST
 from lashtool.forecast import forecast
 from lashtool.refusals import explain
 from lashtool.sources import STREAM, Source, misuse, read, several, sources
+from lashtool.storing import write
 from lashtool.template import template
 from lashtool.values import BadValue, failed
 from lashtool.words import KIND_WORDS, rule_words, warnings, where
@@ -28,8 +29,8 @@ from sheets.sheet import Refused, pack
 
 HELP = (
     "Checks the lashing of a container stack and prints its forces beside their limits; of several stacks, "
-    "or of a folder of *.toml, a line each with the worst use of a limit. `lash twenties --help` tells of 20-ft boxes in 40-ft guides, "
-    "`lash roll --help` of a box's accelerations."
+    "or of a folder of *.toml, a line each with the worst use of a limit. `lash bay --help` tells of a bay, `lash twenties --help` of "
+    "20-ft boxes in 40-ft guides, `lash roll --help` of a box's accelerations."
 )
 STATUS_HELP = (
     "Exit status: 0 accepted, 1 not accepted, 2 refused, or a bad description, move or forecast, "
@@ -59,13 +60,6 @@ def arguments(words):
 
 
 # One stack
-
-
-def write(name, data):
-    try:
-        Path(name).write_bytes(data)
-    except (OSError, ValueError) as error:
-        raise CheckFailed(f"{name}: cannot be written: {reason(error)}") from None
 
 
 def load(source, roll):
@@ -214,10 +208,12 @@ def many(options, check, roll):
     return status
 
 
-def main(words=None, check=None, judge=None, call=None, roll=None, pitch=None):
+def main(words=None, check=None, judge=None, call=None, roll=None, pitch=None, bay_call=None):
     """The exit status. In place of the library's calls: `check` gives a sheet's reply, `judge` that of twenties, `call` that of a preview,
-    `roll` that of a box's accelerations, `pitch` that of side walls."""
+    `roll` that of a box's accelerations, `pitch` that of side walls, `bay_call` that of a bay."""
     words = sys.argv[1:] if words is None else words
+    if words[:1] == [bay.WORD]:
+        return bay.main(words[1:], bay_call, check, roll)
     if words[:1] == [twenties.WORD]:
         return twenties.main(words[1:], judge)
     if words[:1] == [rolled.WORD]:

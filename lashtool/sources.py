@@ -94,18 +94,18 @@ def place(name):
     return None if os.path.exists(name) else os.path.realpath(name)
 
 
-def read(source):
-    """All bytes of a file, or a refusal if it is longer than any description."""
+def read(source, largest=LARGEST_FILE, what="stack"):
+    """All bytes of a file, or a refusal if it is longer than any description of a stack, or of what else it tells of."""
     try:
         if source.name == STREAM:
             if sys.stdin is None:
                 raise BadDescription("cannot be read: it is closed")
-            data = sys.stdin.buffer.read(LARGEST_FILE + 1)
+            data = sys.stdin.buffer.read(largest + 1)
         else:
             with open(source.name, "rb") as file:
-                data = file.read(LARGEST_FILE + 1)
+                data = file.read(largest + 1)
     except (OSError, ValueError) as error:
         raise BadDescription(f"cannot be read: {reason(error)}") from None
-    if len(data) > LARGEST_FILE:
-        raise BadDescription(f"has more than {LARGEST_FILE:,} bytes; no stack needs as many, and none is checked in part")
+    if len(data) > largest:
+        raise BadDescription(f"has more than {largest:,} bytes; no {what} needs as many, and none is checked in part")
     return data

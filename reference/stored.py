@@ -1,22 +1,23 @@
 #!/usr/bin/env python3
-"""Writes what the programs cases, cases_preview, cases_twenties, cases_forecast, cases_side, cases_roll and lashcheck are run on, and
-what they must write.
+"""Writes what the programs cases, cases_preview, cases_twenties, cases_forecast, cases_side, cases_roll, cases_bay and lashcheck are run
+on, and what they must write.
 
-The src/main.rt of each says how a case, a move, a question and a condition are laid out. A field is the size of a number of the answer
-and the least and the most that it may be; a racking to windward lies in two's complement.
+The src/main.rt of each says how a case, a move, a question, a condition and a bay are laid out. A field is the size of a number of the
+answer and the least and the most that it may be; a racking to windward lies in two's complement.
 """
 
 import struct
 import sys
 from dataclasses import astuple
+from math import ceil
 from pathlib import Path
 
 ROOT = Path(__file__).resolve().parent.parent
 sys.path.insert(0, str(ROOT))
 
-from reference import forecast, forecast_asked, side
+from reference import bay, bay_asked, forecast, forecast_asked, side
 from reference.cases import CASES, may_be_named, reported_range, stands
-from reference.judge import figures
+from reference.judge import MARGIN, figures
 from reference.preview import previewed, with_mass
 from reference.preview_asked import FIGURES as MOVES
 from reference.roll import Accelerations, accelerations
@@ -27,6 +28,7 @@ from reference.stack import exact
 from reference.twenties import Verdict, judge
 from reference.twenties_asked import FIGURES
 from sheets.answer import counts
+from sheets.bay import LENGTH, TOTALS
 from sheets.sheet import Refused, parse
 from sheets.side import read_side
 
@@ -37,6 +39,7 @@ MOVE = struct.Struct("<IHHHH250s250s")  # tier, mass, room, lengths of the sheet
 FORECAST = struct.Struct("<HHIHIIH")  # wave height, breadth, hours, room, least and most of a racking, length of the sheet
 SIDE = struct.Struct("<3H")  # room, lengths of the stack sheet and of the short sheet
 CONDITION = struct.Struct("<6I4i")
+BAY = struct.Struct("<HIIH")  # room, least and most of the greatest racking, length of the bay sheet
 ROOM_LIMIT = 1_024
 INPUT_LIMIT = 65_536
 
@@ -207,6 +210,26 @@ def condition_line(given):
     return f"{'given' if isinstance(said, Accelerations) else 'refused'} {' '.join(map(str, astuple(said)))}\n"
 
 
+def bay_question(asked):
+    """The bytes of a bay, with the bounds of the greatest racking in size."""
+    rows = bay.expected(asked.data, asked.room).rows
+    sizes = [ceil(abs(force)) for row in rows if row for end in row.ends for force in end.racking]
+    least, most = (max(sizes), max(sizes) + MARGIN - 1) if sizes else (0, 0)
+    return BAY.pack(asked.room, least, most, len(asked.data)) + asked.data
+
+
+def bay_line(asked):
+    """What the program cases_bay must write of a bay."""
+    due = bay.expected(asked.data, asked.room)
+    if due.refusal:
+        return f"refused {' '.join(map(str, due.refusal))}\n"
+    rows = [row and (answer_length(row.sheet), int(any(findings_due(row.sheet, row.ends)))) for row in due.rows]
+    length = TOTALS.size + sum(LENGTH.size + (row[0] if row else 0) for row in rows)
+    accepted = sum(1 for row in rows if row and row[1] == 0)
+    words = " ".join(f"{row[0]}:{row[1]}" if row else "0" for row in rows)
+    return f"taken {length} {accepted} {due.mass} inside {words}\n"
+
+
 def stored():
     """The bytes of each file, by its path from the top."""
     data = b"".join(map(packed, CASES))
@@ -227,6 +250,8 @@ def stored():
         "crates/cases_side/stdout": "".join(map(side_line, SIDES)).encode(),
         "crates/cases_roll/stdin": b"".join(CONDITION.pack(*astuple(given)) for given in CONDITIONS),
         "crates/cases_roll/stdout": "".join(map(condition_line, CONDITIONS)).encode(),
+        "crates/cases_bay/stdin": b"".join(bay_question(asked) for _, asked in bay_asked.FIGURES),
+        "crates/cases_bay/stdout": "".join(bay_line(asked) for _, asked in bay_asked.FIGURES).encode(),
         "crates/lashcheck/stdin": sample.data,
         "crates/lashcheck/stdout": b"%d %d\n" % (number, second),
     }

@@ -4,7 +4,7 @@
    from a byte left alone. Each sheet is previewed the same way with a tier and a mass, and held to the check of a copy. Then forecasts,
    a fifth as many, on sheets of their own in the same way; beside each the greatest factor, by which the call must do what the check
    does. Then side walls, on sheets of their own in the same way, each with a short sheet that lies as the stack sheet does. Then
-   twenties: their masses lie as the sheets do, and where no mass is to be read, on an unreadable page.
+   bays, in boundary_bay.h. Then twenties: their masses lie as the sheets do, and where no mass is to be read, on an unreadable page.
    Then accelerations from roll: no memory is lent, so only the numbers are tried.
 
    usage: boundary [--count N] [--seed N] [--dump FILE]
@@ -19,6 +19,7 @@
 #include <stdlib.h>
 #include <string.h>
 #include <sys/mman.h>
+#include <ucontext.h>
 #include <unistd.h>
 
 enum { HEAD = 8, TIER = 12, LASH = 20, MOST_TIERS = 10, MOST_LASHES = 8, LEAST_SHEET = 23 };
@@ -27,6 +28,7 @@ enum { EVERY_LENGTH = 501, STRIDE = 211 }; /* no common divisor: every length ha
 enum { AREA = 8192, DUMPED = 600, ENOUGH = 10000, NUMBERS = LASH_ROOM + 1, SHEETS_A_FORECAST = 5, LEAST_HOURS_REFUSED = 72 };
 enum { MASS_AT = 4 }; /* in a tier's bytes */
 enum { SHEETS_A_SIDE = 5, MOST_LONGITUDINAL = 1500, MOST_PITCH = 1 + 2 * 255 };
+enum { BAY_AREA = 16384, SHEETS_A_BAY = 10 };
 enum { LEAST_TIERS_IN_GUIDES = 3, MOST_TIERS_IN_GUIDES = 11, MOST_MASS = 30480, SHEETS_A_QUESTION = 5 };
 
 /* Numbers at random, the same for the same seed. */
@@ -310,30 +312,43 @@ static uint8_t *mapped(void *at, size_t size, int rights, int flags, int file)
     return p;
 }
 
-/* AREA bytes that can only be read, unreadable pages around them; the same bytes, for this program, at *writable. */
-static uint8_t *lent_memory(size_t page, uint8_t **writable)
+/* Bytes that can only be read, between unreadable pages, and the same bytes for this program. */
+static uint8_t *between_pages(size_t size, uint8_t **guarded)
 {
+    size_t page = (size_t)sysconf(_SC_PAGESIZE);
     int file = memfd_create("sheet", 0);
-    if (AREA % page || file < 0 || ftruncate(file, AREA) != 0) {
+    if (size % page || file < 0 || ftruncate(file, (off_t)size) != 0) {
         fprintf(stderr, "boundary: no memory that fits pages of %zu bytes\n", page);
         exit(2);
     }
-    *writable = mapped(NULL, AREA, PROT_READ | PROT_WRITE, MAP_SHARED, file);
-    uint8_t *around = mapped(NULL, AREA + 2 * page, PROT_NONE, MAP_PRIVATE | MAP_ANONYMOUS, -1);
-    return mapped(around + page, AREA, PROT_READ, MAP_SHARED | MAP_FIXED, file);
+    uint8_t *whole = mapped(NULL, size + 2 * page, PROT_NONE, MAP_PRIVATE | MAP_ANONYMOUS, -1);
+    *guarded = mapped(whole + page, size, PROT_READ, MAP_SHARED | MAP_FIXED, file);
+    return mapped(NULL, size, PROT_READ | PROT_WRITE, MAP_SHARED, file);
+}
+
+/* Bytes that can be written, between unreadable pages. */
+static uint8_t *answer_between_pages(size_t size)
+{
+    size_t page = (size_t)sysconf(_SC_PAGESIZE);
+    uint8_t *whole = mapped(NULL, size + 2 * page, PROT_NONE, MAP_PRIVATE | MAP_ANONYMOUS, -1);
+    return mapped(whole + page, size, PROT_READ | PROT_WRITE, MAP_PRIVATE | MAP_ANONYMOUS | MAP_FIXED, -1);
+}
+
+/* Two patterns that differ in every byte. */
+static void make_patterns(uint8_t *first, uint8_t *second, size_t size)
+{
+    for (size_t i = 0; i < size; i++) {
+        first[i] = (uint8_t)(37 * i + i / 256 + 11);
+        second[i] = (uint8_t)~first[i];
+    }
 }
 
 static void prepare_memory(void)
 {
-    size_t page = (size_t)sysconf(_SC_PAGESIZE);
-    guarded_sheet = lent_memory(page, &writable_sheet);
-    guarded_pitch = lent_memory(page, &writable_pitch);
-    uint8_t *answer = mapped(NULL, AREA + 2 * page, PROT_NONE, MAP_PRIVATE | MAP_ANONYMOUS, -1);
-    guarded_answer = mapped(answer + page, AREA, PROT_READ | PROT_WRITE, MAP_PRIVATE | MAP_ANONYMOUS | MAP_FIXED, -1);
-    for (size_t i = 0; i < AREA; i++) {
-        patterns[0][i] = (uint8_t)(37 * i + i / 256 + 11);
-        patterns[1][i] = (uint8_t)~patterns[0][i];
-    }
+    writable_sheet = between_pages(AREA, &guarded_sheet);
+    writable_pitch = between_pages(AREA, &guarded_pitch);
+    guarded_answer = answer_between_pages(AREA);
+    make_patterns(patterns[0], patterns[1], AREA);
 }
 
 /* Faults. */
@@ -354,7 +369,15 @@ struct condition {
     int32_t centre, x, y, z;
 };
 
+struct bay {
+    uint8_t bytes[BAY_AREA];
+    size_t length;
+    const char *kind;
+    int tried; /* and no sheet */
+};
+
 static struct sheet sheet;
+static struct bay bay;
 static const struct forecast *weather; /* none: the plain check */
 static struct question question;
 static struct condition condition;
@@ -402,6 +425,8 @@ __attribute__((format(printf, 1, 2), noreturn)) static void fail(const char *for
         printf("FAULT: roll: ");
     else if (asking)
         printf("FAULT: twenties: ");
+    else if (bay.tried)
+        printf("FAULT: bay %lu (%s, %zu bytes, report buffer of %zu): ", sheet_number, bay.kind, bay.length, room);
     else
         printf("FAULT: sheet %lu (%s, %zu bytes, answer buffer of %zu): ", sheet_number, sheet.kind, sheet.length, room);
     if (siding)
@@ -415,11 +440,13 @@ __attribute__((format(printf, 1, 2), noreturn)) static void fail(const char *for
         printf("\n  short sheet ");
         print_hex(stdout, pitch, pitch_length);
     }
-    printf(rolling ? "\n  sine to z " : asking ? "\n  table, acceleration, count, masses " : "\n  sheet ");
+    printf(rolling ? "\n  sine to z " : asking ? "\n  table, acceleration, count, masses " : bay.tried ? "\n  bay " : "\n  sheet ");
     if (rolling)
         print_condition(stdout);
     else if (asking)
         print_question(stdout);
+    else if (bay.tried)
+        print_hex(stdout, bay.bytes, bay.length);
     else
         print_hex(stdout, sheet.bytes, sheet.length);
     printf("\n");
@@ -847,6 +874,8 @@ static void run_sides(unsigned long count, FILE *out)
         }
 }
 
+#include "boundary_bay.h"
+
 /* Twenties. */
 
 static void make_question(void)
@@ -1050,6 +1079,7 @@ int main(int argc, char **argv)
     run_previews(count, out);
     run_forecasts(count / SHEETS_A_FORECAST, out);
     run_sides(count / SHEETS_A_SIDE, out);
+    run_bays(count / SHEETS_A_BAY, out);
     run_twenties(count / SHEETS_A_QUESTION, out);
     run_roll(count / SHEETS_A_QUESTION, out);
     if (out && fclose(out) != 0) {

@@ -1,5 +1,6 @@
 /* The readers of lash_check.h on one sheet: prints all that they give for its answer, tries places that the answer does not have,
-   and reads it cut short at every length, with an unreadable page right behind, and with bytes behind it counted in.
+   and reads it cut short at every length, with an unreadable page right behind, and with bytes behind it counted in. The same of the
+   report of a bay with this sheet in two of three rows.
 
    usage: readers SHEET
    Exit status 0: done; 1: a reader gave something for a place that is not there; 2: no sheet to read, or no memory to run in. */
@@ -119,6 +120,45 @@ static int within_cut_answers(const uint8_t *answer, size_t length)
     return kept;
 }
 
+/* Whether a report cut short gives each row and total as the whole one does, or nothing. */
+static int part_of_report(uint64_t r, const uint8_t *a, uint64_t whole, const uint8_t *report)
+{
+    int kept = same(lash_bay_mass(r, a), lash_bay_mass(whole, report)) && same(lash_bay_racking(r, a), lash_bay_racking(whole, report));
+    for (unsigned row = 0; row <= LASH_MOST_ROWS + 1; row++) {
+        struct lash_row f = lash_bay_row(r, a, row), g = lash_bay_row(whole, report, row);
+        kept &= f.result == 0 || (f.result == g.result && memcmp(f.answer, g.answer, (size_t)lash_second_of(g.result)) == 0);
+    }
+    return kept;
+}
+
+/* Whether the readers keep within the first bytes of a report, for every number of them: an unreadable page follows. */
+static int within_cut_reports(const uint8_t *sheet, size_t length)
+{
+    static uint8_t bay[1 + 3 * 2 + 2 * LASH_SHEET_SIZE], report[LASH_REPORT_SIZE];
+    size_t page = (size_t)sysconf(_SC_PAGESIZE), first = 3 + length, last = first + 4;
+    bay[0] = 3;
+    bay[1] = bay[first + 2] = (uint8_t)length;
+    bay[2] = bay[first + 3] = (uint8_t)(length >> 8);
+    memcpy(bay + 3, sheet, length);
+    memcpy(bay + last, sheet, length);
+    uint64_t whole = lash_bay(bay, last + length, report, sizeof report);
+    size_t size = lash_bay_second_of(whole);
+    uint8_t *area = mmap(NULL, 2 * page, PROT_READ | PROT_WRITE, MAP_PRIVATE | MAP_ANONYMOUS, -1, 0);
+    int kept = lash_number_of(whole) == LASH_TAKEN && lash_bay_row(whole, report, 1).result && !lash_bay_row(whole, report, 2).result &&
+               lash_bay_row(whole, report, 3).result == lash_bay_row(whole, report, 1).result && !lash_bay_row(whole, report, 4).result;
+    if (area == MAP_FAILED || size > page || mprotect(area + page, page, PROT_NONE) != 0)
+        return -1;
+    for (size_t cut = 0; cut <= size; cut++) {
+        uint8_t *a = area + page - cut;
+        memcpy(a, report, cut);
+        kept &= part_of_report((uint64_t)cut << 8, a, whole, report);
+        kept &= cut > 0 || lash_bay_accepted(0, a) == 0;
+    }
+    kept &= part_of_report(whole | LASH_BAY, report, whole, report) && lash_bay_accepted(whole | LASH_BAY, report) == 0;
+    munmap(area, 2 * page);
+    return kept;
+}
+
 int main(int argc, char **argv)
 {
     uint8_t sheet[LASH_SHEET_SIZE + 1], answer[LASH_ANSWER_SIZE];
@@ -137,7 +177,7 @@ int main(int argc, char **argv)
     }
     memset(answer + lash_second_of(result), 1, sizeof answer - (size_t)lash_second_of(result));
     print_all(result, answer);
-    int kept = within_cut_answers(answer, (size_t)lash_second_of(result));
+    int kept = within_cut_answers(answer, (size_t)lash_second_of(result)), of_bay = within_cut_reports(sheet, length);
     int whole = bounded(result, answer) && bounded((uint64_t)sizeof answer << 8, answer);
-    return kept < 0 ? 2 : kept && whole && silent_when_refused(answer) ? 0 : 1;
+    return kept < 0 || of_bay < 0 ? 2 : kept && of_bay && whole && silent_when_refused(answer) ? 0 : 1;
 }

@@ -60,10 +60,10 @@ def reply(output):
     return Reply(number + 256 * second, output)
 
 
-def lash(*words, output=b"", stdin=b"", binary=False, twenties=None, preview=None, roll=None, side=None):
+def lash(*words, output=b"", stdin=b"", binary=False, twenties=None, preview=None, roll=None, side=None, bay=None):
     """Status, output and messages of ./lash with these words, given what the program would write for the sheet, or for each, or what
     the calls for twenties and for roll would return, that for roll perhaps by the condition, or what the program would write for the
-    sheet with a move, or for its side walls."""
+    sheet with a move, or for its side walls, or a function that gives the reply for a bay."""
     out, err = io.TextIOWrapper(io.BytesIO(), "utf-8"), io.StringIO()
     given = mock.patch("sys.stdin", io.TextIOWrapper(io.BytesIO(stdin)))
     with contextlib.redirect_stdout(out), contextlib.redirect_stderr(err), given:
@@ -74,6 +74,7 @@ def lash(*words, output=b"", stdin=b"", binary=False, twenties=None, preview=Non
             works_out = None if roll is None else lambda *condition: Reply(roll(*condition) if callable(roll) else roll)
             pitch = None if side is None else lambda *sheets: reply(side)
             calls = {"check": lambda data: reply(check(data)), "judge": judge, "call": call, "roll": works_out, "pitch": pitch}
+            calls["bay_call"] = bay
             status = main([str(word) for word in words], **calls)
         except SystemExit as end:
             status = end.code
@@ -113,6 +114,10 @@ uint64_t lash_side(const uint8_t *sheet, size_t sheet_len, const uint8_t *pitch,
     memcpy(side, fixed + 1, sizeof fixed - 1);
     return (uint64_t)(sizeof fixed - 1) << 8;
 }
+uint64_t lash_bay(const uint8_t *bay, size_t bay_len, uint8_t *report, size_t report_len)
+{
+    return report_len < 20073 ? 13 | 20073 << 8 : %s(bay, bay_len, report, report_len);
+}
 uint64_t lash_twenties(uint32_t table, uint32_t acceleration, const uint32_t *masses, size_t count)
 {
     (void)table, (void)acceleration, (void)masses, (void)count;
@@ -128,11 +133,11 @@ uint64_t lash_roll(uint32_t sine, uint32_t cosine, uint32_t heave, uint32_t angl
 
 
 def library_of(folder, answer, name="lash_check", twenties=0, roll=0, side=b""):
-    """A shared library whose call gives this answer for every sheet, preview and forecast, these numbers for all twenties and all
+    """A shared library whose call gives this answer for every sheet, preview, forecast and bay, these numbers for all twenties and all
     conditions of roll, and this side answer for all side walls."""
     source, made = folder / f"{name}.c", folder / f"{name}.so"
     numbers = (f"UINT64_C({number})" for number in (twenties, roll))
     sides = "".join(f", {byte}" for byte in side)
-    source.write_text(LIBRARY % (name, ", ".join(map(str, answer)), name, name, sides, *numbers))
+    source.write_text(LIBRARY % (name, ", ".join(map(str, answer)), name, name, sides, name, *numbers))
     subprocess.run(["cc", "-shared", "-fPIC", source, "-o", made], check=True)
     return made

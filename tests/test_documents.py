@@ -6,11 +6,14 @@ import sys
 import unittest
 from struct import calcsize
 
-from reference import preview, roll, side, twenties
+from lashlib.calls import BayReply
+from reference import bay, preview, roll, side, twenties
+from reference.bay_held import judge_bay
 from reference.forecast import factor
 from reference.judge import KEPT, expected, judge
 from reference.roll_asked import USUAL
 from sheets.answer import read_answer
+from sheets.bay import LENGTH, MOST_ROWS, REPORT_ROOM, TOTALS, pack_bay, read_report
 from sheets.limits import (
     COMPRESSION_LIMIT, CORNER_LIMIT, LASH_ATHWART_LIMIT, LASH_VERTICAL_LIMIT, RACKING_LIMIT,
 )
@@ -70,6 +73,7 @@ class SheetDocument(unittest.TestCase):
             ("Refused by a preview alone", "lash_preview_number", [17]),
             ("Refused by a forecast alone", "lash_forecast_number", [20, 21]),
             ("Refused by the call for side walls alone", "lash_side_number", [14, 15]),
+            ("Refused by a bay alone", "lash_bay_number", [16]),
             ("Numbers of its refusals", "lash_twenties_number", [22, 23]),
             ("Numbers of the refusals of roll", "lash_roll_number", [18, 19]),
         ):
@@ -95,6 +99,20 @@ class SheetDocument(unittest.TestCase):
         self.assertIn(f"#define LASH_SIDE_LIMIT {SIDE_LIMIT}\n", header)
         self.assertIn(f"The side buffer must hold {SIDE_ROOM} bytes", TEXT)
         self.assertIn(f"no racking exceeds {SIDE_LIMIT:,} N", TEXT)
+
+    def test_bay(self):
+        """The example's bay and report, and what it says of the sizes."""
+        data, report = hex_of("28 bytes of a bay:"), hex_of("Its report, 55 bytes:")
+        self.assertEqual((len(data), len(report)), (28, 55))
+        self.assertEqual(data, pack_bay([hex_of("23 bytes:"), b""]))
+        self.assertEqual(judge_bay(bay.expected(data), BayReply(55 << 8, report)).faults, [])
+        self.assertEqual(read_report(report, 2).racking, 30_602)
+        longest = 1 + MOST_ROWS * (LENGTH.size + HEAD.size + 3 + MOST_TIERS * TIER.size + 2 * MOST_LASHES * LASH.size)
+        self.assertIn(f"{longest:,} for {MOST_ROWS} of the longest stack sheets", TEXT)
+        self.assertIn(f"of {TOTALS.size + LENGTH.size} to {REPORT_ROOM:,} bytes", TEXT)
+        header = (ROOT / "include" / "lash_check.h").read_text()
+        for name, size in (("BAY_SIZE", longest), ("REPORT_SIZE", REPORT_ROOM), ("MOST_ROWS", MOST_ROWS)):
+            self.assertIn(f"#define LASH_{name} {size}\n", header)
 
     def test_twenties(self):
         said = twenties.packed(twenties.judge(0, 412, (24_000, 22_000, 20_000, 18_000)))

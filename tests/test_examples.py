@@ -3,8 +3,11 @@
 import unittest
 from dataclasses import replace
 
+from lashtool.bay_description import read_bay
 from lashtool.description import describe
+from lashtool.sources import Source
 from lashtool.template import template
+from reference import bay
 from reference.cases import HOOKED, OVER_HEAVY, OVER_LIGHT
 from reference.forecast import factor
 from reference.heavier import exact_faults
@@ -13,6 +16,7 @@ from reference.stack import exact, lash_length
 from sheets.limits import (
     COMPRESSION, CORNER, LASH_TENSION, LOCK, RACKING, checks, findings,
 )
+from sheets.bay import pack_bay
 from sheets.sheet import BOTTOM, TOP, pack
 from tests.support import EXAMPLES
 
@@ -45,6 +49,20 @@ SHOWN = {
 }
 
 
+# The same of bays: findings by row.
+BESIDE_THE_GAP = [(0, COMPRESSION, 1), (1, COMPRESSION, 1), (1, CORNER, 0)]
+BAYS = {
+    "open-gap": ("not accepted, for the wind in a gap of three empty rows", {5: BESIDE_THE_GAP, 9: BESIDE_THE_GAP}),
+    "closed-gap": ("accepted", {}),
+}
+
+
+def rows_of(name):
+    """The rows of a bay with their exact forces, by the second program."""
+    told = read_bay(Source(str(EXAMPLES / "bays" / f"{name}.toml")))
+    return bay.expected(pack_bay([row.data for row in told.rows])).rows
+
+
 def sheet_of(name):
     return describe((EXAMPLES / f"{name}.toml").read_bytes()).sheet
 
@@ -65,6 +83,28 @@ class Examples(unittest.TestCase):
                 self.assertEqual(findings(sheet, ends), due)
                 self.assertEqual(words.startswith("accepted"), not due)
                 self.assertFalse([c for c in checks(sheet, ends) if c.limit - 100 < c.size <= c.limit])
+
+    def test_every_bay_is_known_and_says_what_it_shows(self):
+        folder = EXAMPLES / "bays"
+        self.assertEqual({path.stem for path in folder.glob("*.toml")}, set(BAYS))
+        for name, (words, _) in BAYS.items():
+            self.assertRegex((folder / f"{name}.toml").read_text(), f"(?m)^# Shows: {words}[.,: ]")
+
+    def test_each_bay_has_the_findings_that_it_says(self):
+        """None of the exact forces lies so close to its limit that the last 100 N decide."""
+        for name, (words, due) in BAYS.items():
+            with self.subTest(name):
+                rows = {number: row for number, row in enumerate(rows_of(name), 1) if row}
+                found = {number: findings(row.sheet, row.ends) for number, row in rows.items()}
+                self.assertEqual({number: each for number, each in found.items() if each}, due)
+                self.assertEqual(words.startswith("accepted"), not due)
+                near = [c for row in rows.values() for c in checks(row.sheet, row.ends) if c.limit - 100 < c.size <= c.limit]
+                self.assertEqual(near, [])
+
+    def test_the_bays_differ_in_one_empty_row(self):
+        opened, closed = ([row and row.sheet.tiers[0].mass for row in rows_of(name)] for name in ("open-gap", "closed-gap"))
+        self.assertEqual(opened[5:8], [None] * 3)
+        self.assertEqual(opened[:5] + opened[6:], closed)
 
     def test_the_cases_that_a_class_asks_for(self):
         """CR Appendix 2, 2.3: stack weight (post compression), lash forces, racking; beside them corner tension."""

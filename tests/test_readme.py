@@ -11,8 +11,11 @@ from lashtool.template import field_table, route_table
 from tests.support import EXAMPLES, ROOT
 
 README = (ROOT / "README.md").read_text()
-PICTURE = "docs/eight-high.svg"
-SIDE_PICTURE = "docs/side-walls.svg"
+PICTURES = {
+    "docs/eight-high.svg": ["examples/eight-high.toml"],
+    "docs/side-walls.svg": ["examples/side-walls.toml", "--side"],
+    "docs/open-gap.svg": ["bay", "examples/bays/open-gap.toml"],
+}
 
 
 def lash(words):
@@ -51,11 +54,10 @@ class Readme(unittest.TestCase):
         (text,) = re.findall(r"```toml\n(.*?)```", README, re.S)
         self.assertEqual(text, (EXAMPLES / "three-high.toml").read_text())
 
-    def test_the_picture_is_what_the_tool_draws(self):
-        self.assertIn(f"]({PICTURE})", README)
-        self.assertEqual((ROOT / PICTURE).read_text(), lash(["examples/eight-high.toml", "--svg", "-"]))
-        self.assertIn(f"]({SIDE_PICTURE})", README)
-        self.assertEqual((ROOT / SIDE_PICTURE).read_text(), lash(["examples/side-walls.toml", "--side", "--svg", "-"]))
+    def test_the_pictures_are_what_the_tool_draws(self):
+        for picture, words in PICTURES.items():
+            self.assertIn(f"]({picture})", README)
+            self.assertEqual((ROOT / picture).read_text(), lash([*words, "--svg", "-"]))
 
     def test_tables_are_those_of_the_tool(self):
         for table in (field_table(), route_table()):

@@ -17,6 +17,7 @@ pub mod Sums
 -- Bytes and rounding: laws of the definitions in specs/, and of what the functions compute.
 pub mod Arrays
 pub mod ByteLaws
+pub mod Parts
 pub mod Sizes
 pub mod Quotients
 pub mod Ceilings

@@ -1,2 +1,3 @@
+pub mod BayCalled
 pub mod Told
 pub mod RolledIn

@@ -1,5 +1,6 @@
 // The calls for programs in C: what each returns, in one number.
 ghost use mathlib.Core.Path.{_≡_};
+ghost use Prim.Native.Nat.{_+_, _*_, _≤_};
 ghost use lib.ListN.{length};
 ghost use Rattle.answer.specs.Checked.{Checked, kept};
 ghost use Rattle.answer.specs.inner.Named.{returned, written};
@@ -7,11 +8,16 @@ ghost use Rattle.preview.specs.Previews.{Previewed};
 ghost use Rattle.preview.specs.inner.Moved.{AsChecked};
 ghost use Rattle.forecast.specs.Forecasts.{Forecast};
 ghost use Rattle.forecast.specs.inner.Named.{forecastReturned, forecastWritten};
+ghost use Rattle.bay.specs.Reports as B;
+ghost use Rattle.bay.specs.Reports.{BayReported};
+ghost use Rattle.bay.specs.inner.Named.{bayReturned, bayWritten};
 ghost use Rattle.side.specs.Sides.{Sided};
 ghost use Rattle.roll.specs.Rounded.{conditionA};
 ghost use Rattle.packing.specs.Called.{Called};
+ghost use Rattle.lash.specs.BayCalled.{BayCalled};
 ghost use Rattle.lash.specs.RolledIn.{RolledIn};
 ghost use Rattle.lash.specs.Told.{Told};
+use bay::BayOutcome;
 use packing::joined;
 use packing::packed_accelerations;
 use packing::packed_outcome;
@@ -58,6 +64,30 @@ pub extern "C" fn lash_forecast(
 {
     let outcome = forecast::forecast(sheet, wave, breadth, hours, answer);
     packed_outcome(outcome)
+}
+
+// Reports a bay as bay::report does. The number is in the low 8 bits of what is returned, the second number, or the report's length, in
+// bits 8 to 31, the row that a refusal is about in bits 32 to 39.
+#[no_mangle]
+pub extern "C" fn lash_bay(bay: &[u8], report: &mut [u8]) -> u64
+    ensures reported { λ r. ⌜ BayCalled (BayReported kept (now (bay .entry)) (now (report .entry)) (now (report .exit))) r ⌝ }
+    ensures named { λ r. ⌜ BayCalled (λ o. (o ≡ bayReturned (now (bay .entry)) (length (now (report .entry))))
+        × (now (report .exit) ≡ bayWritten (now (bay .entry)) (now (report .entry)))) r ⌝ }
+{
+    let outcome = bay::report(bay, report);
+    packed_bay(outcome)
+}
+
+// The three numbers of a bay's outcome in one.
+fn packed_bay(o: BayOutcome) -> u64
+    requires { ⌜ (B.number o ≤ 16) × (B.second o ≤ 20073) × (B.row o ≤ 24) ⌝ }
+    ensures { λ r. ⌜ r ≡ B.number o + 256 * B.second o + 4294967296 * B.row o ⌝ }
+{
+    match o {
+        BayOutcome::Taken(n) => joined(0, n),
+        BayOutcome::Refused(number, second, row) => joined(number, second)
+            + 4294967296 * row as u64,
+    }
 }
 
 // Answers for side walls under pitching as side::side does: `pitch` is the second short sheet. What is returned is told as lash_check

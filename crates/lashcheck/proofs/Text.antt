@@ -1,7 +1,7 @@
 -- A text copied into a part of a buffer, and the line that two numbers make.
 use Prim.Native.Nat.{ℕ, _+_, _-_, _^_, _<_, _≤_}
 use mathlib.Core.Bool.{Bool, true, false}
-use mathlib.Core.List.{List, [], _∷_, _++_, append-assoc, append-nil}
+use mathlib.Core.List.{List, [], _∷_, _++_}
 use mathlib.Core.Path.{_≡_, refl, sym, ap, _∙_}
 use native.Mathlib.Nat.{pow-le-pow-right}
 use native.Mathlib.Numerals.{add-one}
@@ -9,8 +9,9 @@ use native.Mathlib.Omega.{arith}
 use borrow.Author.Tests.{ltb-true, ltb-false}
 use borrow.Rule.Slice.PartMut.{midOf, putMid}
 use lib.Dec.{ltb}
-use lib.ListN.{length, take, drop, set, length-append, length-drop, drop-of-length-le}
-use lib.Seq.{length-take-le, take-all, take-at, take-length, drop-drop, take-suc-set}
+use lib.ListN.{length, take, drop, set, length-append}
+use lib.Seq.{length-take-le, take-at, take-length, take-suc-set}
+use Rattle.arith.proofs.Parts.{part-put}
 use Rattle.io.specs.Counts.{Counts}
 use Rattle.io.specs.Digits.{digits, Fewest}
 use Rattle.lashcheck.specs.Lines.{Line}
@@ -27,21 +28,6 @@ few-digits n k h f = go (ltb 20 k) refl
         let large : 10 ^ 20 ≤ 10 ^ (k - 1) = pow-le-pow-right {n = 10} (omega arith) {i = 20} {j = k - 1} (omega arith) in
         let there : 10 ^ (k - 1) ≤ n = f .2 (omega arith) in
         omega arith
-
--- a text of k bytes, copied to the start of the part of xs from `at` on
-pub part-put :
-    (xs text : List ℕ) (at k : ℕ) →
-    k ≡ length text →
-    at + k ≤ length xs →
-    putMid at (length xs - at) xs (text ++ drop k (midOf at (length xs - at) xs)) ≡ take at xs ++ text ++ drop (at + k) xs
-part-put xs text at k e h =
-    rw (
-      take-all (length xs - at) (drop at xs) (rw length-drop (omega arith)),
-      drop-of-length-le (drop at xs) {i = length xs - at} (rw length-drop (omega arith)),
-      append-nil,
-      drop-drop k at xs,
-      append-assoc,
-    )
 
 -- the first k bytes of `text`, the digits of n, copied there
 pub put-of :

@@ -14,6 +14,7 @@ use Rattle.sheet.specs.declared.Sheet.{Sheet}
 use Rattle.sheet.specs.declared.Tier.{Tier}
 use Rattle.sheet.specs.Layout.{tierFits, within, blankTier}
 use Rattle.sheet.specs.Fits.{Fits, tierAt}
+use Rattle.sheet.proofs.OtherTiers.{with-tiers-fit}
 use Rattle.sheet.proofs.Rows.{row-holds, row-passed}
 use Rattle.statics.specs.declared.LoadRule.{LoadRule}
 use Rattle.statics.specs.inner.Computed.{loadRuleOf}
@@ -56,19 +57,9 @@ module _ {t : Sheet} (f : Fits t) (k mass : ℕ) (h : k < t .ntiers) where
 
   pub moved-fits : within 1 30480 mass ≡ true → Fits (moved k mass t)
   moved-fits e =
-      record {
-        rule = f .rule;
-        zero = f .zero;
-        route = f .route;
-        lock = f .lock;
-        breaking = f .breaking;
-        some = f .some;
-        few = f .few;
-        tiers = λ j q. each (λ x. tierFits x ≡ true) j (mass-decides mass old (f .tiers k h) ∙ e) (f .tiers j q);
-        sizes = λ j q. one-size j q ∙ sym (one-size 0 (f .some));
-        door = f .door;
-        closed = f .closed;
-      }
+      with-tiers-fit f (moved k mass t .tiers)
+      (λ j q. each (λ x. tierFits x ≡ true) j (mass-decides mass old (f .tiers k h) ∙ e) (f .tiers j q))
+      (λ j q. one-size j q ∙ sym (one-size 0 (f .some)))
 
 -- a decoded sheet, moved
 module _ (t : Sheet) (tier mass : ℕ) (before : List ℕ) where

@@ -8,10 +8,13 @@ use borrow.Author.Tests.{eq-eqb, le-ltb}
 use lib.ListN.{length}
 use Rattle.arith.specs.Bytes.{byteAt}
 use Rattle.arith.specs.Lists.{below}
+use Rattle.sheet.specs.declared.Tier.{Tier}
+use Rattle.sheet.specs.declared.Sheet.{Sheet}
 use Rattle.sheet.specs.declared.Reading.{Reading}
 use Rattle.sheet.specs.declared.Reading.the-variants.{Taken, Refused}
 use Rattle.sheet.specs.Layout.{headOf, tierCount, tierPlace, tierIn, lashPlace, lashIn, doorPlace, closedPlace, sparePlace}
 use Rattle.sheet.specs.Layout.{tierFits, lashesIn, tiersIn, sheetOf}
+use Rattle.sheet.specs.Fits.{tierAt, Fits}
 use Rattle.sheet.specs.Refusals.{Row, row2, notLater, first, headRows, tierCountRows, tierRows, tiersRows, lashRows}
 use Rattle.sheet.specs.Refusals.{endRows, doorRows, closedRows, endsRows, sheetRows}
 use Rattle.sheet.specs.inner.Changed.{withTiers}
@@ -163,3 +166,26 @@ module _ {s c : List ℕ} (o : OnlyTiersDiffer s c) where
           ∙ first-refused (tierRows c) (tierCount s) k h
           (λ j q. clear-taken (tierRows c j) (tier-passes j (omega (arith, h, q)) (fit j q)))
           (row-passed _ _ (le-ltb (length c) (tierPlace k + 12) (there k h)) ∙ row-holds _ _ (rw bad refl))
+
+-- a decoded sheet within its limits is so with other tiers that are, and have one size
+pub with-tiers-fit :
+    {t : Sheet} →
+    Fits t →
+    (tiers : List Tier) →
+    ((k : ℕ) → k < t .ntiers → tierFits (tierAt tiers k) ≡ true) →
+    ((k : ℕ) → k < t .ntiers → tierAt tiers k .size ≡ tierAt tiers 0 .size) →
+    Fits (withTiers tiers t)
+with-tiers-fit f tiers fit sizes =
+    record {
+      rule = f .rule;
+      zero = f .zero;
+      route = f .route;
+      lock = f .lock;
+      breaking = f .breaking;
+      some = f .some;
+      few = f .few;
+      tiers = fit;
+      sizes = sizes;
+      door = f .door;
+      closed = f .closed;
+    }

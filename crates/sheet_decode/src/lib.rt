@@ -1,6 +1,6 @@
 // A stack sheet read from its bytes: what they hold, or why they are turned back.
 
-mod refusals; // refusals.rt: the tests of a sheet's items, in the order of reading
+pub mod refusals; // refusals.rt: the tests of a sheet's items, in the order of reading
 
 ghost use mathlib.Core.Path.{_≡_};
 ghost use Rattle.sheet.specs.Refusals.{decoded};

@@ -115,7 +115,7 @@ pub fn spare_place(s: &[u8]) -> usize
     closed + 1 + 20 * (byte_at(s, closed) as usize)
 }
 
-fn blank_tier() -> Tier
+pub fn blank_tier() -> Tier
     ensures { λ r. ⌜ r ≡ blankTier ⌝ }
 {
     Tier {

@@ -1,0 +1,84 @@
+-- One row: empty, or answered as its sheet is.
+use Prim.Native.Nat.{ℕ, _+_, _≤_}
+use mathlib.Core.List.{List, [], _∷_, _++_}
+use mathlib.Core.Path.{_≡_, refl, sym, ap, ap₂, _∙_}
+use native.Mathlib.Omega.{arith}
+use borrow.Author.Tests.{eq-eqb, ne-eqb}
+use lib.ListN.{length, drop}
+use lib.Seq.{sets, sets-eq}
+use Rattle.arith.specs.Bytes.{bytes2}
+use Rattle.sheet.specs.declared.Sheet.{Sheet}
+use Rattle.sheet.specs.declared.Reading.the-variants.{Taken}
+use Rattle.sheet.specs.Layout.{sheetOf}
+use Rattle.sheet.specs.Fits.{Fits}
+use Rattle.sheet.specs.Refusals.{first, sheetRows}
+use Rattle.sheet.proofs.TakenSheets.{taken-fits}
+use Rattle.bay_wind.specs.declared.Neighbours.{Neighbours}
+use Rattle.bay_wind.specs.Sums.{sumOf, larger, greatestOf}
+use Rattle.bay_wind.specs.Exposure.{sheetInBay}
+use Rattle.bay_wind.proofs.Fitting.{in-bay-fits}
+use Rattle.bay_rows.specs.Refusals.{rowReading}
+use Rattle.bay_rows.proofs.Readings.{loaded-reading}
+use Rattle.bay_answer.specs.declared.Totals.{Totals}
+use Rattle.bay_answer.specs.Rows.{rowBytes, acceptedIn, massOf, rackingIn}
+use Rattle.bay_answer.specs.inner.Totalled.{answerOf, rowTotals, Bounded}
+use Rattle.bay.specs.inner.Named.{answerIn}
+
+abbrev nothing : Totals
+nothing = record { length = 2; accepted = 0; mass = 0; racking = 0 }
+
+module _ (near : Neighbours) where
+  pub empty-answer : (s : List ℕ) → length s ≡ 0 → answerIn near s ≡ []
+  unfolding answerIn
+  empty-answer s e = rw (eq-eqb (length s) 0 e)
+
+  no-totals : nothing ≡ rowTotals (sheetInBay near (sheetOf [])) []
+  unfolding sheetOf acceptedIn massOf rackingIn sumOf larger greatestOf
+  no-totals = refl
+
+  pub empty-totals : (s : List ℕ) → length s ≡ 0 → nothing ≡ rowTotals (sheetInBay near (sheetOf s)) (answerIn near s)
+  empty-totals [] e = no-totals ∙ ap (rowTotals (sheetInBay near (sheetOf []))) (sym (empty-answer [] refl))
+  empty-totals (x ∷ xs) e = absurd (omega (arith, e))
+
+  pub empty-stored :
+      (s report : List ℕ) {after : List ℕ} →
+      length s ≡ 0 →
+      2 ≤ length report →
+      after ≡ sets report 0 (bytes2 0) →
+      after ≡ rowBytes (answerIn near s) ++ drop (length (rowBytes (answerIn near s))) report
+  empty-stored s report e room is =
+      is
+      ∙ sets-eq (bytes2 0) report 0 room
+      ∙ ap (λ a. rowBytes a ++ drop (length (rowBytes a)) report) (sym (empty-answer s e))
+
+  -- a loaded row that has no refusal
+  module _ (s : List ℕ) (loaded : length s ≡ 0 → ⊥) where
+    pub loaded-answer : answerIn near s ≡ answerOf (sheetInBay near (sheetOf s))
+    unfolding answerIn
+    loaded-answer = rw (ne-eqb (length s) 0 loaded)
+
+    pub row-taken : rowReading s ≡ Taken → first (sheetRows s) ≡ Taken
+    row-taken e = sym (loaded-reading s loaded) ∙ e
+
+    pub sheet-fits : rowReading s ≡ Taken → Fits (sheetInBay near (sheetOf s))
+    sheet-fits e = in-bay-fits near (taken-fits s (row-taken e))
+
+    -- its answer, to a sheet that is the row's
+    pub answered :
+        (report : List ℕ) {t : Sheet} {after : List ℕ} {r : Totals} →
+        t ≡ sheetInBay near (sheetOf s) →
+        (r ≡ rowTotals t (answerOf t))
+        × Bounded 1 r
+        × (after ≡ rowBytes (answerOf t) ++ drop (length (rowBytes (answerOf t))) report) →
+        (r ≡ rowTotals (sheetInBay near (sheetOf s)) (answerIn near s))
+        × Bounded 1 r
+        × (after ≡ rowBytes (answerIn near s) ++ drop (length (rowBytes (answerIn near s))) report)
+    answered report {t} e (totals, bounded, stored) =
+        let bytes : answerOf t ≡ answerIn near s = ap answerOf e ∙ sym loaded-answer in (
+          totals ∙ ap₂ rowTotals e bytes,
+          bounded,
+          stored ∙ ap (λ a. rowBytes a ++ drop (length (rowBytes a)) report) bytes,
+        )
+
+pub nothing-bounded : Bounded 1 nothing
+nothing-bounded = record { length = omega arith; accepted = omega arith; mass = omega arith; racking = omega arith }

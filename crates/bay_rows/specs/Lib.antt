@@ -1,0 +1,2 @@
+pub mod Bay
+pub mod Refusals
