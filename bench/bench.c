@@ -1,14 +1,17 @@
-/* Times the proved check and the same check in doubles, interleaved in one run. Reads a corpus (bench/corpus.py) and prints a line
-   a group: its number, its sheets, then medians in ns a sheet: whole check proved, in doubles, decode proved, in doubles, a preview of
-   the sheet, and the check by a forecast. Groups from BAY_GROUP on hold bays in place of sheets; of these one median, in ns a bay. */
+/* Times the proved check and the same check in doubles, plain and an expert's, interleaved in one run. Reads a corpus (bench/corpus.py)
+   and prints a line a group: its number, its sheets, then medians in ns a sheet: whole check proved, in plain doubles, in the expert's,
+   decode of the three, a preview of the sheet, and the check by a forecast. Groups from COLD_GROUP on are seen once a round, so that no
+   branch is known from the pass before; of these the first three medians. Groups from BAY_GROUP on hold bays in place of sheets; of
+   these one median, in ns a bay. */
 #include "../include/lash_check.h"
 #include "doubles.h"
+#include "expert.h"
 #include "timing.h"
 
 #include <stdio.h>
 #include <stdlib.h>
 
-enum { ROUNDS = 61, GROUPS = 256, BAY_GROUP = 128, MEASURES = 6 };
+enum { ROUNDS = 61, GROUPS = 256, COLD_GROUP = 64, BAY_GROUP = 128, CHECKS = 3, MEASURES = 8 };
 enum { COUNT_AT = 8, TIERS_AT = 9, TIER = 12, MASS_AT = 4 };
 
 typedef uint64_t check_call(const uint8_t *, size_t, uint8_t *, size_t);
@@ -34,8 +37,10 @@ static const struct measure {
 } measures[MEASURES] = {
     {lash_check, LASH_ANSWER_SIZE},
     {doubles_check, LASH_ANSWER_SIZE},
+    {expert_check, LASH_ANSWER_SIZE},
     {lash_check, LASH_ANSWER_SIZE - 1},
     {doubles_check, LASH_ANSWER_SIZE - 1},
+    {expert_check, LASH_ANSWER_SIZE - 1},
     {preview_top, LASH_ANSWER_SIZE},
     {by_forecast, LASH_ANSWER_SIZE},
 };
@@ -68,14 +73,19 @@ static double pass(const struct measure *m, const struct group *g)
     return spent / (double)g->count;
 }
 
-static int count_of(int group) { return group < BAY_GROUP ? MEASURES : 1; }
+static int count_of(int group) { return group < COLD_GROUP ? MEASURES : group < BAY_GROUP ? CHECKS : 1; }
+static int is_cold(int group) { return group >= COLD_GROUP && group < BAY_GROUP; }
 
-/* Every measure in turn, in the other order every second round; the pass before each timed one warms the caches for it. */
-static void time_round(const struct measure *those, int count, struct group *g, int round)
+/* Every measure in turn, in the other order every second round; but for cold groups the pass before each timed one warms caches and
+   branches for it. */
+static void time_round(int group, struct group *g, int round)
 {
+    const struct measure *those = group < BAY_GROUP ? measures : of_bays;
+    int count = count_of(group);
     for (int i = 0; i < count; i++) {
         int m = round % 2 ? count - 1 - i : i;
-        pass(&those[m], g);
+        if (!is_cold(group))
+            pass(&those[m], g);
         g->times[m][round] = pass(&those[m], g);
     }
 }
@@ -131,7 +141,7 @@ int main(int argc, char **argv)
     for (int round = 0; round < ROUNDS; round++)
         for (int i = 0; i < GROUPS; i++)
             if (groups[i].count)
-                time_round(i < BAY_GROUP ? measures : of_bays, count_of(i), &groups[i], round);
+                time_round(i, &groups[i], round);
     for (int i = 0; i < GROUPS; i++) {
         if (groups[i].count)
             print_medians(i, &groups[i]);

@@ -8,18 +8,19 @@ from sheets.bay import MOST_ROWS, pack_bay
 from sheets.sheet import CLOSED, CROSS, DOOR, MOST_LASHES, MOST_TIERS, SIDE, TOP, Head, Sheet, pack, parse
 
 KIND_SHEETS = 400
+COLD_SHEETS = 2_000
 GROWTH_SHEETS = 100
 LASHED_TIERS = 4  # lashes of the growing groups reach this high
 FIXED_PLACES = [(1, TOP, CROSS), (1, TOP, SIDE)]
 # Sides of rods up to the longest and from the shortest that a sheet may have.
 LONG_RODS = {"lx": (4_500, 5_000), "ly": (9_000, 10_000), "lz": (18_000, 20_000)}
 SHORT_RODS = {"lx": (0, 50), "ly": (500, 550), "lz": (500, 550)}
-BAY_GROUP = 128  # the bays' number in the file, as bench.c has it
+COLD_GROUP, BAY_GROUP = 64, 128  # numbers in the file from which on groups are cold, and the bays', as bench.c has them
 
 
 @dataclass(frozen=True)
 class Group:
-    varies: str  # "kind", "tiers" or "lashes"
+    varies: str  # "kind", "cold", "tiers" or "lashes"
     value: object
     sheets: list  # bytes
 
@@ -56,11 +57,27 @@ def rodded(random, sides):
     return replace(sheet, door=door, closed=closed)
 
 
+def full(random):
+    """A stack of ten tiers with eight lashes an end, its fields mostly at their limits."""
+    sheet = samples.extreme(random)
+    tiers = tuple(samples.extreme_tier(random, sheet.tiers[0].size) for _ in range(MOST_TIERS))
+    places = samples.hooks(MOST_TIERS)
+    ends = (tuple(samples.extreme_lash(random, place, False) for place in sorted(random.sample(places, MOST_LASHES))) for _ in "dc")
+    return Sheet(sheet.head, tiers, *ends)
+
+
 KINDS = {
     "realistic": samples.realistic,
     "extreme": samples.extreme,
     "long rods": lambda random: rodded(random, LONG_RODS),
     "short rods": lambda random: rodded(random, SHORT_RODS),
+}
+
+
+# Each sheet is seen once a round; half of the extreme ones have ten tiers and eight lashes an end.
+COLD = {
+    "realistic": samples.realistic,
+    "extreme": lambda random: random.choice((samples.extreme, full))(random),
 }
 
 
@@ -72,8 +89,13 @@ def group(varies, value, count, build):
     return Group(varies, value, sheets)
 
 
+def cold_groups():
+    """The groups that are seen cold; their numbers in the file are from COLD_GROUP on."""
+    return [group("cold", name, COLD_SHEETS, build) for name, build in COLD.items()]
+
+
 def groups():
-    """Every group; its place in the list is its number in the file."""
+    """Every other group of sheets; its place in the list is its number in the file."""
     found = [group("kind", name, KIND_SHEETS, build) for name, build in KINDS.items()]
     for count in range(1, MOST_TIERS + 1):
         found.append(group("tiers", count, GROWTH_SHEETS, lambda random, c=count: tall(random, c)))
@@ -88,9 +110,10 @@ def bays(entry):
     return [pack_bay(sheets[at : at + MOST_ROWS]) for at in range(0, len(sheets) - MOST_ROWS + 1, MOST_ROWS)]
 
 
-def write(path, found, full):
+def write(path, found, cold, bays):
     """For each sheet, and then each bay: its group's number in a byte, its length in two, least byte first, and its bytes."""
     with open(path, "wb") as file:
-        for number, entry in [*enumerate(entry.sheets for entry in found), (BAY_GROUP, full)]:
+        sheets = [*enumerate(entry.sheets for entry in found), *enumerate((entry.sheets for entry in cold), COLD_GROUP)]
+        for number, entry in [*sheets, (BAY_GROUP, bays)]:
             for data in entry:
                 file.write(bytes([number]) + len(data).to_bytes(2, "little") + data)
