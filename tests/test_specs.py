@@ -20,9 +20,9 @@ OWN = {
         ),
         130,
     ),
-    "preview": (("crates/preview/specs/",), 20),
+    "preview": (("crates/preview_moves/specs/",), 20),
     "forecast": (("crates/forecast/specs/", "crates/forecast_factor/specs/"), 35),
-    "side": (("crates/side_walls/specs/", "crates/side/specs/"), 70),
+    "side": (("crates/side_walls/specs/", "crates/side_parts/specs/", "crates/side/specs/"), 70),
     "bay": ((*BAY_CRATES, "crates/answer/specs/Places.antt", "crates/lash/specs/BayCalled.antt"), 290),
     "roll": (
         (

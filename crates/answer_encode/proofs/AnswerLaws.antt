@@ -17,24 +17,18 @@ use Rattle.sheet.specs.Fits.{EndFits, Fits}
 use Rattle.statics.specs.declared.EndFigures.{EndFigures}
 use Rattle.statics.specs.declared.Figures.{Figures}
 use Rattle.sheet.specs.Ends.{End, door, closed, lashesOf}
-use Rattle.statics.specs.Forces.{Force}
-use Rattle.statics.specs.Reported.{reportedSize, Fitting}
 use Rattle.answer.specs.Findings.{Finding, findings, verdict}
 use Rattle.answer.specs.Answers.{endBytes, answerBytes, findingBytes}
 use Rattle.answer_findings.specs.declared.Found.{Found}
 use Rattle.answer_findings.specs.inner.Findings.{Sized, found}
-use Rattle.answer_encode.specs.inner.Encoding.{Wrote, endBytesOf}
+use Rattle.answer_write.specs.inner.Encoding.{Wrote, endBytesOf}
 use Rattle.answer.proofs.ReadBack.{bytes-length}
-use Rattle.answer_encode.proofs.Stores.{run, then}
+use Rattle.answer_write.proofs.Stores.{run, then}
 
 -- an end's bytes, by its counts
 pub end-is : (t : Sheet) (e : End) (f : EndFigures) (m : ℕ) → length (lashesOf e t) ≡ m → endBytes t e f ≡ endBytesOf (t .ntiers) m f
 unfolding endBytes endBytesOf
 end-is t e f m few = rw (few, add-one (t .ntiers)) refl
-
--- a figure fits four bytes
-pub fits-four : {f : EndFigures} → Fitting f → (x : Force) (i : ℕ) → reportedSize x f i < 4294967296
-fits-four h x i = omega (arith, h .small x i)
 
 -- the verdict, by the count of findings
 verdict-is : (fs : List Finding) → cond (eqb (length fs) 0) 0 1 ≡ verdict fs

@@ -1,3 +1,2 @@
 -- What is stored behind what, and the answer's bytes put together.
-pub mod Stores
 pub mod AnswerLaws

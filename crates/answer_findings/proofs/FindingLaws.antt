@@ -24,7 +24,8 @@ use Rattle.arith.specs.Lists.{from, padded}
 use Rattle.answer_findings.specs.declared.Found.{Found}
 use Rattle.limits.specs.declared.PullLimit.{PullLimit}
 use Rattle.limits.specs.inner.LowerOf.{lowerOf}
-use Rattle.answer_findings.specs.inner.Findings.{Put, Sized, lashLimit, findingWhere, findingsOver}
+use Rattle.answer_put.specs.inner.Puts.{Put, lashLimit, findingWhere, findingsOver}
+use Rattle.answer_findings.specs.inner.Findings.{Sized}
 use Rattle.answer_findings.specs.inner.Findings.{tierFindings, lashFindings, found}
 use Rattle.answer.proofs.ReadBack.{bytes-length}
 use Rattle.answer.proofs.TwoLimits.{corner-passed, lock-kept, lock-passed, corner-kept}

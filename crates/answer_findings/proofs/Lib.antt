@@ -1,5 +1,3 @@
--- What the functions' proofs rest on; the entries are for the crate above too.
+-- What the functions' proofs rest on; the entries are for the crates above.
 pub mod Entries
-mod Sizes
-mod Puts
 mod FindingLaws

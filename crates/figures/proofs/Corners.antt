@@ -16,7 +16,7 @@ use Rattle.statics.specs.Posts.{inCompression, inTension}
 use Rattle.statics.specs.inner.WholeNumbers.{upward, upwards}
 use Rattle.statics.proofs.EachLash.{Each, each-first, each-rest}
 use Rattle.statics.proofs.Relief.{by-tier}
-use Rattle.figures_lashes.specs.inner.Lashes.{cornerOf}
+use Rattle.lash_forces.specs.inner.OneLash.{cornerOf}
 use Rattle.figures_lashes.proofs.Tallies.{tally, tally-upwards}
 use Rattle.figures_levels.specs.inner.Levels.{total}
 use Rattle.figures_levels.proofs.Descent.{total-peel, total-off}

@@ -18,11 +18,11 @@ use Rattle.sheet.specs.inner.Limits.{LashLimits}
 use Rattle.statics.specs.Lashes.{lashLength}
 use Rattle.statics.specs.inner.WholeNumbers.{lashPad, stiffnessOf, part, upward}
 use Rattle.statics.specs.inner.WholeNumbers.{pullFigure, athwartFigure, verticalFigure, leePart, windwardPart}
-use Rattle.figures_lashes.specs.inner.Lashes.{carriedLash, verticalFrom, cornerOf}
+use Rattle.lash_forces.specs.inner.OneLash.{carriedLash, verticalFrom, cornerOf}
 use Rattle.figures_lashes.specs.inner.Lashes.{LashesMeasured, LevelStiffnesses, LashesFigured, VerticalsOn}
 use Rattle.statics.proofs.Arrays.{Between, between-none, fill-above, filled}
 use Rattle.statics.proofs.LashStiffness.{stiffness-most}
-use Rattle.figures_lashes.proofs.LashLaws.{part-le, upward-le}
+use Rattle.lash_forces.proofs.LashLaws.{part-le, upward-le}
 use Rattle.figures_lashes.proofs.Tallies.{tally, tally-stiffness, tally-upwards, tally-le}
 use Rattle.figures_lashes.proofs.Tallies.{Tallied, Only, tallied-none, tallied-all, tallied-le, tallied-more}
 

@@ -1,18 +1,14 @@
 // Rackings of the tiers and forces on the posts, from the top level down, each by figures_posts.
 
 ghost use mathlib.Core.Path.{_≡_};
-ghost use Prim.Native.Nat.{_+_, _*_, _<_, _≤_, _^_};
-ghost use lib.IntN.{pos, _+ℤ_, _*ℤ_};
+ghost use Prim.Native.Nat.{_<_};
 ghost use lib.ListN.{length, take, getD};
-ghost use Rattle.arith.specs.inner.Sizes.{Small};
-ghost use Rattle.statics.specs.inner.WholeNumbers.{compressionFrom, tensionFrom};
 ghost use Rattle.figures_levels.specs.inner.Levels.{LevelInputs, LevelsFigured};
 use figures_posts::compression_of;
-use figures_posts::couple_of;
-use figures_posts::moment_under;
 use figures_posts::racking_figure;
 use figures_posts::racking_part;
-use figures_posts::tension_of;
+use figures_under::Above;
+use figures_under::level_under;
 use sheet::Tier;
 use statics::PostParts;
 
@@ -24,62 +20,6 @@ fn parts_at(lee: &[u64], windward: &[u64], corner: usize) -> PostParts
     PostParts {
         lee: lee[corner],
         windward: windward[corner],
-    }
-}
-
-// What stands above a level: the moment of the tiers, and the vertical parts of the lashes at this level or above.
-struct Above {
-    moment: i64,
-    parts: PostParts,
-}
-
-struct Level {
-    above: Above,
-    compression: u64,
-    tension: u64,
-}
-
-// The level under a tier of racking `part`, with the vertical parts of the lashes at it: on the bottom corner of that tier, which count in
-// tension too, and on the top corner of the tier below. vmax and vmin: half of V with A_Vmax and A_Vmin.
-fn level_under(
-    above: Above,
-    part: i64,
-    height: u16,
-    bottom: PostParts,
-    top: PostParts,
-    vmax: u64,
-    vmin: u64,
-) -> Level
-    requires { ⌜ Small (2 ^ 60) (above .moment) × Small (2 ^ 45) part × (height ≤ 2896) ⌝ }
-    requires { ⌜ (above .parts .lee ≤ 15 * 2 ^ 58) × (above .parts .windward ≤ 15 * 2 ^ 58) ⌝ }
-    requires { ⌜ (bottom .lee ≤ 2 ^ 57) × (bottom .windward ≤ 2 ^ 57) × (top .lee ≤ 2 ^ 57) × (top .windward ≤ 2 ^ 57) ⌝ }
-    requires { ⌜ (vmax ≤ 2 ^ 40) × (vmin ≤ 2 ^ 40) ⌝ }
-    ensures { λ r. ⌜ r .above .moment ≡ pos height *ℤ part +ℤ above .moment ⌝ }
-    ensures { λ r. ⌜ r .above .parts .lee ≡ above .parts .lee + bottom .lee + top .lee ⌝ }
-    ensures { λ r. ⌜ r .above .parts .windward ≡ above .parts .windward + bottom .windward + top .windward ⌝ }
-    ensures { λ r. ⌜ r .compression ≡ compressionFrom vmax (pos height *ℤ part +ℤ above .moment)
-        (above .parts .lee + bottom .lee + top .lee) (above .parts .windward + bottom .windward + top .windward) ⌝ }
-    ensures { λ r. ⌜ r .tension ≡ tensionFrom vmin (pos height *ℤ part +ℤ above .moment)
-        (above .parts .lee + bottom .lee) (above .parts .windward + bottom .windward) ⌝ }
-{
-    let moment = moment_under(above.moment, part, height);
-    let couple = couple_of(moment);
-    let over = above.parts;
-    let held = PostParts {
-        lee: over.lee + bottom.lee,
-        windward: over.windward + bottom.windward,
-    };
-    let parts = PostParts {
-        lee: held.lee + top.lee,
-        windward: held.windward + top.windward,
-    };
-    Level {
-        above: Above {
-            moment: moment,
-            parts: parts,
-        },
-        compression: compression_of(vmax, couple, parts),
-        tension: tension_of(vmin, couple, held),
     }
 }
 

@@ -29,10 +29,10 @@ use Rattle.statics.proofs.RuleNumbers.{by-number}
 use Rattle.answer.specs.declared.Outcome.{Outcome}
 use Rattle.answer.specs.Checked.{AnswerTo, Answered, AnsweredAs, Checked, kept}
 use Rattle.answer.proofs.Consequences.{answered}
-use Rattle.preview.specs.Previews.{massPlace, withMass, moveRefusal, UnlessTurnedBack, Previewed}
-use Rattle.preview.specs.Theorems.{CopyOf}
-use Rattle.preview.proofs.Copies.{copies}
-use Rattle.preview.proofs.Order.{stack-has, lacking, lacks-tier}
+use Rattle.preview_moves.specs.Previews.{massPlace, withMass, moveRefusal, UnlessTurnedBack, Previewed}
+use Rattle.preview_moves.specs.Theorems.{CopyOf}
+use Rattle.preview_moves.proofs.Copies.{copies}
+use Rattle.preview_moves.proofs.Order.{stack-has, lacking, lacks-tier}
 use Rattle.forecast.specs.Forecasts.{forecastRule}
 use Rattle.forecast.proofs.Named.{stands, within}
 use Rattle.heavier.specs.Heavier.{HeavierSheet, massAt, HeavierBytes, ExactNotLower, ReportedNotLower, NotLower}

@@ -16,7 +16,7 @@ use Rattle.statics.specs.Ends.{EndSolved}
 use Rattle.statics.specs.Theorems.{Proper}
 use Rattle.answer.specs.declared.Outcome.{Outcome}
 use Rattle.answer.specs.Checked.{AnswerTo, Checked, kept}
-use Rattle.preview.specs.Previews.{massPlace, withMass, moveRefusal, Previewed}
+use Rattle.preview_moves.specs.Previews.{massPlace, withMass, moveRefusal, Previewed}
 use Rattle.forecast.specs.Forecasts.{forecastRule, forecastRefusal, Forecast}
 use Rattle.heavier.specs.Heavier.{HeavierSheet, HeavierBytes, ExactNotLower, ReportedNotLower, NotLower}
 use Rattle.heavier.specs.NotIncluded.{NotIncluded}

@@ -20,10 +20,10 @@ use Rattle.answer.specs.declared.Outcome.the-variants as O
 use Rattle.answer.specs.Checked.{Checked, kept}
 use Rattle.answer.specs.inner.Named.{answerBy, checkBytes, returnedAs, writtenAs, returned, written}
 use Rattle.answer.proofs.Named.{check-named}
-use Rattle.preview.specs.Previews.{withMass, moveRefusal, UnlessTurnedBack, Previewed}
-use Rattle.preview.specs.inner.Moved.{AsChecked, movedRefusal, movedBytes, Answers}
-use Rattle.preview.proofs.Copies.{copy-holds}
-use Rattle.preview.proofs.Order.{stack-has, lacking, sheet-first, lacks-tier, has-tier, copy-refusal}
+use Rattle.preview_moves.specs.Previews.{withMass, moveRefusal, UnlessTurnedBack, Previewed}
+use Rattle.preview_moves.specs.inner.Moved.{AsChecked, movedRefusal, movedBytes, Answers}
+use Rattle.preview_moves.proofs.Copies.{copy-holds}
+use Rattle.preview_moves.proofs.Order.{stack-has, lacking, sheet-first, lacks-tier, has-tier, copy-refusal}
 
 -- a sheet's bytes s, decoded as d
 module _ (s : List ℕ) (tier mass : ℕ) (before : List ℕ) (d : Decoded) (is : d ≡ decoded s) where

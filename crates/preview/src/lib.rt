@@ -1,13 +1,12 @@
 // Preview of a move (document 02, P7): what the check would return and write on a copy of the sheet with another mass in one tier.
 // No bytes are copied: the mass is put into the decoded sheet.
 
-ghost use mathlib.Core.Path.{_≡_};
-ghost use Prim.Native.Nat.{_<_};
 ghost use Rattle.sheet.specs.Fits.{Fits};
 ghost use Rattle.answer.specs.Checked.{kept};
-ghost use Rattle.preview.specs.Previews.{Previewed};
-ghost use Rattle.preview.specs.inner.Moved.{AsChecked, Answers, moved};
+ghost use Rattle.preview_moves.specs.Previews.{Previewed};
+ghost use Rattle.preview_moves.specs.inner.Moved.{AsChecked, Answers};
 use answer::Outcome;
+use preview_moves::with_mass;
 use sheet::Reading;
 use sheet::Sheet;
 
@@ -40,14 +39,4 @@ fn answer_moved(t: Sheet, tier: u32, mass: u16, answer: &mut [u8]) -> Outcome
     }
     let copy = with_mass(t, k, mass);
     stack_check::answer_to(copy, load_rules::rule_of(copy), answer)
-}
-
-// The sheet with another mass in its k-th tier, from 0.
-fn with_mass(t: Sheet, k: usize, mass: u16) -> Sheet
-    requires { ⌜ Fits t × (k < t .ntiers) ⌝ }
-    ensures { λ r. ⌜ r ≡ moved k mass t ⌝ }
-{
-    let mut copy = t;
-    copy.tiers[k].mass = mass;
-    copy
 }

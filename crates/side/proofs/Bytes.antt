@@ -10,11 +10,11 @@ use Rattle.arith.specs.Bytes.{bytes4}
 use Rattle.arith.specs.Lists.{from, below, counted}
 use Rattle.sheet.specs.declared.Sheet.{Sheet}
 use Rattle.sheet.specs.Layout.{_above_}
-use Rattle.answer_encode.specs.inner.Encoding.{Wrote}
-use Rattle.answer_encode.proofs.Stores.{run, then}
+use Rattle.answer_write.specs.inner.Encoding.{Wrote}
+use Rattle.answer_write.proofs.Stores.{run, then}
 use Rattle.side_walls.specs.SideWalls.{reportedRacking, reportedShift, sideLimit, anyOf, sideVerdict, sideBytes}
 use Rattle.side_walls.specs.inner.Units.{SideFigured}
-use Rattle.side.proofs.Tests.{any-same}
+use Rattle.side_parts.proofs.Tests.{any-same}
 
 -- entries that agree
 same-from : (f g : ℕ → List ℕ) (i left : ℕ) → ((j : ℕ) → j < i + left → f j ≡ g j) → flatMap f (from i left) ≡ flatMap g (from i left)

@@ -1,6 +1,4 @@
 -- What the functions' proofs rest on, and the theorems.
-pub mod ShortSheets
-pub mod Tests
 pub mod Bytes
 pub mod Refusals
 pub mod ReadBack

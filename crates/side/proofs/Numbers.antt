@@ -17,7 +17,8 @@ use Rattle.sheet.proofs.TakenSheets.{taken-fits}
 use Rattle.answer.specs.declared.Outcome.{Outcome}
 use Rattle.answer.proofs.Numbers.{Numbers, Small, Each, first-small, each-join}
 use Rattle.side_walls.specs.SideWalls.{sideBytes}
-use Rattle.side.specs.Sides.{row15, pitchRows, longestSide, sideRefusal, SidedAs, Sided}
+use Rattle.side_parts.specs.ShortSheets.{row15, pitchRows}
+use Rattle.side.specs.Sides.{longestSide, sideRefusal, SidedAs, Sided}
 use Rattle.side.specs.inner.Steps.{ownReading}
 use Rattle.side.proofs.ReadBack.{side-length, fits}
 

@@ -18,9 +18,10 @@ use Rattle.answer.proofs.ReadBack.{Stands, first-part, second-part, first-byte,
 use Rattle.side_walls.specs.SideWalls.{reportedRacking, reportedShift, sideVerdict, sideBytes}
 use Rattle.side_walls.specs.inner.Units.{Pitched}
 use Rattle.side_walls.proofs.Most.{all-most}
-use Rattle.side.specs.Sides.{pitchRows, longestSide, sideRefusal, SidedAs, SideAnswered}
+use Rattle.side_parts.specs.ShortSheets.{pitchRows}
+use Rattle.side.specs.Sides.{longestSide, sideRefusal, SidedAs, SideAnswered}
 use Rattle.side.specs.Theorems.{SideReadBack, AllReadBack}
-use Rattle.side.proofs.ShortSheets.{pitched}
+use Rattle.side_parts.proofs.ShortSheets.{pitched}
 
 module _ (t : Sheet) (p : List ℕ) where
   abbrev entry : ℕ → List ℕ

@@ -17,10 +17,11 @@ use Rattle.sheet.proofs.Rows.{no-rows, row-holds, row-passed, orElse, behind-ta
 use Rattle.sheet.proofs.TakenSheets.{decoded-fits}
 use Rattle.answer.specs.declared.Outcome.{Outcome}
 use Rattle.answer.specs.declared.Outcome.the-variants as O
-use Rattle.answer_encode.specs.inner.Encoding.{Wrote}
-use Rattle.answer_encode.proofs.Stores.{from-start}
+use Rattle.answer_write.specs.inner.Encoding.{Wrote}
+use Rattle.answer_write.proofs.Stores.{from-start}
 use Rattle.side_walls.specs.SideWalls.{sideBytes}
-use Rattle.side.specs.Sides.{pitchRows, longestSide, sideRefusal, Sided}
+use Rattle.side_parts.specs.ShortSheets.{pitchRows}
+use Rattle.side.specs.Sides.{longestSide, sideRefusal, Sided}
 use Rattle.side.specs.inner.Steps.{ownReading, roomReading, Settled}
 
 by-same :

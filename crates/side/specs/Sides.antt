@@ -1,30 +1,17 @@
 -- Document 02, P5: what the call for side walls says that is given a stack sheet s, a second short sheet p and a side buffer.
-use Prim.Native.Nat.{ℕ, suc, _+_, _*_}
-use mathlib.Core.Bool.{not, _||_}
-use mathlib.Core.List.{List, [], _∷_, _++_, flatMap}
+use Prim.Native.Nat.{ℕ, _+_}
+use mathlib.Core.List.{List, _++_}
 use mathlib.Core.Path.{_≡_}
 use lib.ListN.{length, drop}
-use Rattle.arith.specs.Lists.{below}
 use Rattle.sheet.specs.declared.Reading.{Reading}
 use Rattle.sheet.specs.declared.Reading.the-variants.{Taken, Refused}
-use Rattle.sheet.specs.Layout.{tierCount, sheetOf, _is_, _above_}
-use Rattle.sheet.specs.Refusals.{Row, row, refusalOf}
+use Rattle.sheet.specs.Layout.{tierCount, sheetOf}
+use Rattle.sheet.specs.Refusals.{refusalOf}
 use Rattle.answer.specs.declared.Outcome.{Outcome}
 use Rattle.answer.specs.declared.Outcome.the-variants as O
 use Rattle.answer.specs.Checked.{TurnedBack}
-use Rattle.side_walls.specs.SideWalls.{pitchCount, longitudinal, sideBytes}
-
--- 14, 0: a short sheet of the wrong length or count, for a stack of n tiers
-abbrev pub row14 : ℕ → List ℕ → Row
-row14 n p = row 14 0 (not (length p is 1 + 2 * n) || not (pitchCount p is n))
-
--- 15, its tier: an A_L above 1,500; tiers are counted from 0 here, and from 1 in what is returned
-abbrev pub row15 : List ℕ → ℕ → Row
-row15 p i = row 15 (suc i) (longitudinal p i above 1500)
-
--- 14, then 15 for the first such tier
-abbrev pub pitchRows : ℕ → List ℕ → List Row
-pitchRows n p = row14 n p ∷ flatMap (λ i. row15 p i ∷ []) (below n)
+use Rattle.side_walls.specs.SideWalls.{sideBytes}
+use Rattle.side_parts.specs.ShortSheets.{pitchRows}
 
 -- 13, 82: a side buffer under 82 bytes. After the stack sheet's own tests 14, then 15, then 13
 abbrev pub longestSide : ℕ

@@ -1,3 +1,2 @@
--- Laws of the loops and of levels that nothing holds.
-pub mod Unheld
+-- Laws of the loops.
 pub mod Loops

@@ -2,52 +2,13 @@
 // and load the tiers over it hand down to it; then, from the deck up, each level's shift follows from the one under it.
 // Arrays are lent as slices, so that no call copies them.
 ghost use mathlib.Core.Path.{_≡_};
-ghost use Prim.Native.Nat.{_+_, _<_, _≤_};
+ghost use Prim.Native.Nat.{_<_, _≤_};
 ghost use lib.ListN.{length, getD};
-ghost use Rattle.springs.specs.inner.Promise.{farthest, Solvable, Promised};
-ghost use Rattle.springs.specs.inner.Elimination.{stiffnessDown, loadDown, shiftUp, solved, InRange, mostLoadTogether, HandedDown};
-use arith::rounding::scaled;
-
-// Stiffnesses are in 2^-22 N/mm. At a level that nothing holds, above the uppermost lash, the scale cancels: that spares divisions.
-const SCALE: u64 = 4194304;
-
-// The stiffness that a level hands down by the spring k under it, of its lashes kappa and the stiffness x handed to it.
-fn stiffness_down(k: u64, kappa: u64, x: u64) -> u64
-    requires { ⌜ InRange k kappa x ⌝ }
-    ensures { λ r. ⌜ r ≡ stiffnessDown k kappa x ⌝ }
-{
-    let stiffness = kappa + x;
-    if stiffness == 0 {
-        return 0;
-    }
-    scaled(k * stiffness, SCALE, k * SCALE + stiffness)
-}
-
-// The load that it hands down, of its own, omega, and the load y handed to it.
-fn load_down(k: u64, kappa: u64, omega: u64, x: u64, y: u64) -> u64
-    requires { ⌜ InRange k kappa x × (omega + y ≤ mostLoadTogether) ⌝ }
-    ensures { λ r. ⌜ r ≡ loadDown k kappa omega x y ⌝ }
-{
-    let stiffness = kappa + x;
-    let load = omega + y;
-    if stiffness == 0 {
-        return load;
-    }
-    scaled(k * load, SCALE, k * SCALE + stiffness)
-}
-
-// Its shift, where the level under it has the shift p.
-fn shift_up(k: u64, kappa: u64, omega: u64, x: u64, y: u64, p: u64) -> u64
-    requires { ⌜ InRange k kappa x × (omega + y ≤ mostLoadTogether) × (p ≤ farthest) ⌝ }
-    ensures { λ r. ⌜ r ≡ shiftUp k kappa omega x y p ⌝ }
-{
-    let stiffness = kappa + x;
-    let load = omega + y;
-    if stiffness == 0 {
-        return p + load / k;
-    }
-    scaled(load + k * p, SCALE, k * SCALE + stiffness)
-}
+ghost use Rattle.springs.specs.inner.Promise.{Solvable, Promised};
+ghost use Rattle.springs.specs.inner.Elimination.{solved, HandedDown};
+use springs_steps::load_down;
+use springs_steps::shift_up;
+use springs_steps::stiffness_down;
 
 // What is handed down to each level, 1 to n: stiffness to x, load to y, where level n gets nothing. The deck needs nothing.
 fn hand_down(n: usize, k: &[u64], kappa: &[u64], omega: &[u64], x: &mut [u64], y: &mut [u64])

@@ -3,7 +3,7 @@ use mathlib.Core.Path.{_∙_}
 use Prim.Native.Nat.{_+_, _*_, _≤_}
 use native.Mathlib.Nat.{zero-add, le-trans}
 use native.Mathlib.Omega.{arith}
-use Rattle.answer_encode.proofs.Stores.{from-start}
+use Rattle.answer_write.proofs.Stores.{from-start}
 use Rattle.answer_encode.proofs.AnswerLaws.{whole}
 use borrow.Author.Needs.{needs}
 use Rattle.answer_encode.proofs.write_answer.Statement.{statement}

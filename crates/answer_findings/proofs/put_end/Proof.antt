@@ -1,7 +1,7 @@
 -- `answer_findings::put_end`: the seven kinds are put one behind another.
 use native.Mathlib.Omega.{arith}
 use Rattle.answer_findings.specs.inner.Findings.{tierFindings, lashFindings}
-use Rattle.answer_findings.proofs.Puts.{then}
+use Rattle.answer_put.proofs.Puts.{then}
 use borrow.Author.Needs.{needs}
 use Rattle.answer_findings.proofs.put_end.Statement.{statement}
 use Rattle.answer_findings.proofs.put_end.Tie as tie

@@ -1,23 +1,15 @@
 -- Contracts of inner functions: what is found of an end's lashes before and after the springs are solved. Nothing here need be believed.
 use mathlib.Core.Path.{_≡_}
 use mathlib.Core.List.{List}
-use Prim.Native.Nat.{ℕ, suc, _*_, _-_, _/_, _^_, _≤_}
+use Prim.Native.Nat.{ℕ, suc, _^_, _≤_}
 use lib.Dec.{eqb}
 use lib.ListN.{getD, length}
 use Rattle.sheet.specs.declared.Lash.{Lash}
 use Rattle.sheet.specs.declared.Lashing.{Lashing}
-use Rattle.sheet.specs.declared.Lashing.the-variants.{Cross, Side}
 use Rattle.sheet.specs.Layout.{blankLash}
 use Rattle.statics.specs.Lashes.{lashLength}
 use Rattle.statics.specs.inner.WholeNumbers.{Filled, stiffnessOf, levelStiffness, pullFigure, athwartFigure, verticalFigure, upwards}
-
--- the lash that a cross or a side lash carries, and the vertical part of a lash from its athwart part
-abbrev pub carriedLash : Lashing → Lash
-carriedLash (Cross l) = l
-carriedLash (Side l) = l
-
-abbrev pub verticalFrom : ℕ → Lash → ℕ
-verticalFrom part l = part * l .lz / l .ly
+use Rattle.lash_forces.specs.inner.OneLash.{cornerOf}
 
 -- lengths and stiffnesses of m lashes
 pub record LashesMeasured (m : ℕ) (ls : List Lash) (lengths stiffnesses : List ℕ) : Type 0 where
@@ -33,11 +25,6 @@ pub record LashesFigured (m : ℕ) (ls : List Lash) (d tension athwart vertical 
   pub lash-tension-is : Filled 8 0 m (λ j. pullFigure d (getD ls j blankLash)) tension
   pub athwart-is : Filled 8 0 m (λ j. athwartFigure d (getD ls j blankLash)) athwart
   pub vertical-is : Filled 8 0 m (λ j. verticalFigure d (getD ls j blankLash)) vertical
-
--- corners counted from the deck up: the bottom corner of tier i is 2 i − 1 and its top corner 2 i. At level i, 2 i is the top corner of the
--- lower box and 2 i + 1 the bottom corner of the upper box
-unfoldable pub cornerOf : Lash → ℕ
-cornerOf l = 2 * l .tier - l .hook
 
 -- the vertical parts of the lashes on a post at each corner
 pub record VerticalsOn (post : Lashing → ℕ → ℕ) (ls : List Lash) (d r : List ℕ) : Type 0 where

@@ -1,7 +1,7 @@
 -- `lash::lash_preview` says what `preview::preview` says, with its two numbers in one.
 use native.Mathlib.Omega.{arith}
 use borrow.Author.Needs.{needs}
-use Rattle.preview.proofs.TwoNumbers.{fitting}
+use Rattle.preview_moves.proofs.TwoNumbers.{fitting}
 use Rattle.packing.proofs.OneNumber.{called-both}
 use Rattle.lash.proofs.lash_preview.Statement.{statement}
 use Rattle.lash.proofs.lash_preview.Tie as tie

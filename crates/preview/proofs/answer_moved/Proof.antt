@@ -4,7 +4,7 @@ use mathlib.Core.Path.{sym, subst}
 use borrow.Author.Needs.{needs}
 use borrow.Author.Tests.{not-false}
 use Rattle.sheet.specs.Fits.{Fits}
-use Rattle.preview.proofs.Moves.{without-tier, without-mass, some, below, moved-fits, with-mass}
+use Rattle.preview_moves.proofs.Moves.{without-tier, without-mass, some, below, moved-fits, with-mass}
 use Rattle.preview.proofs.answer_moved.Statement.{statement}
 use Rattle.preview.proofs.answer_moved.Tie as tie
 

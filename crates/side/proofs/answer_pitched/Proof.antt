@@ -1,5 +1,5 @@
 -- `side::answer_pitched`: what turns the short sheet back, or what `answer_side` says (Refusals).
-use Rattle.side.proofs.ShortSheets.{pitched}
+use Rattle.side_parts.proofs.ShortSheets.{pitched}
 use Rattle.side.proofs.Refusals.{pitch-refused, pitch-taken}
 use mathlib.Core.Path.{sym, _∙_}
 use borrow.Author.Needs.{needs}

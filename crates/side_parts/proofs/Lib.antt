@@ -1,0 +1,2 @@
+pub mod ShortSheets
+pub mod Tests

@@ -1,0 +1,2 @@
+-- Laws of levels that nothing holds.
+pub mod Unheld

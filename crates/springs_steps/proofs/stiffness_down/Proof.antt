@@ -1,0 +1,41 @@
+-- `springs_steps::stiffness_down` meets its contract: where nothing is held, by Unheld; else its product and its divisor are in range by Ranges.
+use mathlib.Core.Path.{sym}
+use Prim.Native.Nat.{_+_, _*_}
+use native.Mathlib.Nat.{mul-le-mul-right}
+use native.Mathlib.Omega.{arith}
+use Rattle.springs.specs.inner.Elimination.{stiffnessDown}
+use Rattle.springs.proofs.Ranges.{scalable, stiffness-fits}
+use Rattle.springs_steps.proofs.Unheld.{stiffness-unheld}
+use borrow.Author.Needs.{needs}
+use Rattle.springs_steps.proofs.stiffness_down.Statement.{statement}
+use Rattle.springs_steps.proofs.stiffness_down.Tie as tie
+
+add-stiffness : tie.Need-add-stiffness
+add-stiffness c = search needs
+
+returns : tie.Need-returns
+returns c = let a = c .before .args in sym (stiffness-unheld (a .k) (a .kappa) (a .x) (omega arith) (c .if1 .taken))
+
+mul-scaled : tie.Need-mul-scaled
+mul-scaled c = let a = c .before .args in omega (arith, mul-le-mul-right (a .kappa + a .x) (c .before .pre .high))
+
+mul-scaled-2 : tie.Need-mul-scaled-2
+mul-scaled-2 c = search needs
+
+add-scaled : tie.Need-add-scaled
+add-scaled c = search needs
+
+scaled-requires : tie.Need-scaled-requires
+scaled-requires c κs =
+    let b = c .before in
+    let a = b .args in
+    scalable (a .k) (a .kappa) (a .x) (b .pre) (a .k * (a .kappa + a .x)) (stiffness-fits (a .k) (a .kappa) (a .x) (b .pre))
+
+returns-2 : tie.Need-returns-2
+unfolding stiffnessDown
+returns-2 c = search needs
+
+pub stiffness-down-spec : {M : Type 1} → statement M
+stiffness-down-spec =
+    tie.close
+    (tie.spec add-stiffness returns mul-scaled mul-scaled-2 add-scaled scaled-requires returns-2)
