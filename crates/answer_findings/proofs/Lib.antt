@@ -1,3 +1,2 @@
--- What the functions' proofs rest on; the entries are for the crates above.
-pub mod Entries
+-- What the functions' proofs rest on.
 mod FindingLaws

@@ -4,6 +4,4 @@ pub mod Numbers
 pub mod Copies
 pub mod Named
 -- What the functions' proofs rest on.
-mod Rows
-mod Steps
 mod Whole

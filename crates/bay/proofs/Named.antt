@@ -20,8 +20,9 @@ use Rattle.bay_rows.proofs.Readings.{sound, rows-taken-of, rows-refused, room-s
 use Rattle.bay.specs.declared.BayOutcome.{BayOutcome}
 use Rattle.bay.specs.declared.BayOutcome.the-variants.{Taken, Refused}
 use Rattle.bay.specs.Reports.{rowSheet, RowAnswered, ReportedAs, BayReported}
-use Rattle.bay.specs.inner.Named.{answerIn, rowAnswer, bayBytes, reportReturnedAs, reportWrittenAs, bayReturned, bayWritten}
-use Rattle.bay.proofs.Rows.{sheet-fits, loaded-answer}
+use Rattle.bay_put.specs.inner.Answered.{answerIn}
+use Rattle.bay.specs.inner.Named.{rowAnswer, bayBytes, reportReturnedAs, reportWrittenAs, bayReturned, bayWritten}
+use Rattle.bay_put.proofs.Rows.{sheet-fits, loaded-answer}
 
 -- a loaded row of a bay that has no refusal
 module _ (b : List ℕ) (taken : rowsRefusal b ≡ R.Taken) (k : ℕ) (h : k < rowCount b) (loaded : isEmpty (rowOf b k) ≡ false) where

@@ -15,7 +15,7 @@ use Rattle.bay_rows.specs.Refusals.{rowsRefusal, bayRefusal}
 use Rattle.bay_rows.proofs.Numbers.{Most, bay-numbers}
 use Rattle.bay_rows.proofs.Readings.{sound, rows-taken-of}
 use Rattle.bay_answer.specs.Rows.{rowBytes}
-use Rattle.bay_answer.proofs.Answers.{lashes}
+use Rattle.bay_put.proofs.Answers.{lashes}
 use Rattle.bay.specs.declared.BayOutcome.{BayOutcome}
 use Rattle.bay.specs.Reports.{number, second, row, rowSheet, reportBytes, RowAnswered, ReportedAs, BayReported}
 use Rattle.bay.proofs.Named.{row-fits}

@@ -32,7 +32,7 @@ use Rattle.bay.specs.inner.Named.{rowAnswer}
 use Rattle.bay.proofs.Copies.{put-size, put-elsewhere, bit-put, bits-kept, copy-taken, copy-holds}
 use Rattle.bay.proofs.Named.{bay-named}
 use Rattle.bay.proofs.Numbers.{bay-most}
-use Rattle.bay.proofs.Rows.{row-taken, loaded-answer}
+use Rattle.bay_put.proofs.Rows.{row-taken, loaded-answer}
 
 -- a loaded row of a bay that has no refusal
 module _ (b : List ℕ) (k : ℕ) (taken : rowsRefusal b ≡ Taken) (h : k < rowCount b) (loaded : isEmpty (rowOf b k) ≡ false) where

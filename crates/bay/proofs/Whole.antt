@@ -11,8 +11,9 @@ use Rattle.bay_rows.specs.Bay.{rowCount}
 use Rattle.bay_answer.specs.declared.Totals.{Totals}
 use Rattle.bay_answer.specs.inner.Totalled.{Bounded}
 use Rattle.bay.specs.Reports.{reportBytes}
-use Rattle.bay.specs.inner.Named.{rowsBytes, totalsOf, bayBytes}
-use Rattle.bay.proofs.Steps.{put-behind}
+use Rattle.bay_put_rows.specs.inner.Together.{rowsBytes, totalsOf}
+use Rattle.bay_put_rows.proofs.Steps.{put-behind}
+use Rattle.bay.specs.inner.Named.{bayBytes}
 
 abbrev headOf : Totals → List ℕ
 headOf t = (t .accepted ∷ []) ++ bytes4 (t .mass) ++ bytes4 (t .racking)

@@ -1,3 +1,2 @@
 -- What the functions' proofs rest on.
 pub mod Sizes
-pub mod Answers

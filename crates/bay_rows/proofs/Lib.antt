@@ -2,5 +2,3 @@
 pub mod Places
 pub mod Readings
 pub mod Numbers
--- What the functions' proofs rest on.
-mod Heights

@@ -1,17 +1,12 @@
-// A bay sheet read from its bytes (document 02, P6): where its rows lie, what turns it back, and the outlines of its rows.
+// A bay sheet read from its bytes (document 02, P6): where its rows lie, and what turns it back.
 
 ghost use mathlib.Core.Path.{_≡_};
-ghost use mathlib.Core.List.{map};
-ghost use Prim.Native.Nat.{_+_, _*_, _<_, _≤_};
+ghost use Prim.Native.Nat.{_+_, _<_, _≤_};
 ghost use lib.ListN.{length};
 ghost use Rattle.arith.specs.Bytes.{le2};
-ghost use Rattle.arith.specs.Lists.{below, padded};
-ghost use Rattle.sheet.specs.declared.Reading.the-variants.{Taken};
-ghost use Rattle.sheet.specs.Layout.{tiersIn};
-ghost use Rattle.bay_wind.specs.Exposure.{heightOf, emptyRow};
-ghost use Rattle.bay_rows.specs.Bay.{rowCount, rowPlace, rowAt, rowOf, outlineOf};
+ghost use Rattle.arith.specs.Lists.{below};
+ghost use Rattle.bay_rows.specs.Bay.{rowPlace, rowAt};
 ghost use Rattle.bay_rows.specs.Refusals.{row16, rowReading, firstOf, rowsRefusal};
-use bay_wind::Outline;
 use sheet::Reading;
 
 // What comes of reading a bay: it is taken, or refused with the two numbers of a refusal and the row, from 1, or 0 where it is about none.
@@ -106,56 +101,4 @@ pub fn test_bay(bay: &[u8]) -> BayReading
         return BayReading::Refused(16, 0, 0);
     }
     test_rows(bay, sheet_fields::byte_at(bay, 0) as usize)
-}
-
-// The height of the first n tiers of a stack sheet together.
-fn height_of(row: &[u8], n: usize) -> u32
-    requires { ⌜ (n ≤ 10) × (9 + 12 * n ≤ length (now row)) ⌝ }
-    ensures { λ r. ⌜ r ≡ heightOf (tiersIn (now (row .entry)) n) n ⌝ }
-{
-    let mut height: u32 = 0;
-    let mut k = 0;
-    while k < n {
-        let t = sheet_fields::tier_of(row, 9 + 12 * k);
-        height += t.height as u32;
-        k += 1;
-    }
-    height
-}
-
-fn empty_row() -> Outline
-    ensures { λ r. ⌜ r ≡ emptyRow ⌝ }
-{
-    Outline { height: 0, size: 0 }
-}
-
-// A row that has no refusal, as the rows beside it see it.
-fn outline_of(row: &[u8]) -> Outline
-    requires { ⌜ rowReading (now row) ≡ Taken ⌝ }
-    ensures { λ r. ⌜ r ≡ outlineOf (now (row .entry)) ⌝ }
-{
-    if row.len() == 0 {
-        return empty_row();
-    }
-    let n = sheet_fields::byte_at(row, 8) as usize;
-    Outline {
-        height: height_of(row, n),
-        size: sheet_fields::field1(row, 9),
-    }
-}
-
-// The outlines of the n rows of a bay that has no refusal.
-pub fn outlines(bay: &[u8], n: usize) -> [Outline; 24]
-    requires { ⌜ (n ≤ 24) × (n ≡ rowCount (now bay)) × (rowsRefusal (now bay) ≡ BayReading.Taken) ⌝ }
-    ensures { λ r. ⌜ r ≡ padded 24 emptyRow (map (λ k. outlineOf (rowOf (now (bay .entry)) k)) (below n)) ⌝ }
-{
-    let mut rows = [empty_row(); 24];
-    let mut at = 1;
-    let mut k = 0;
-    while k < n {
-        rows[k] = outline_of(row_at(bay, at));
-        at = next_place(bay, at);
-        k += 1;
-    }
-    rows
 }

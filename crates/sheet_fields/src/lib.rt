@@ -181,7 +181,7 @@ fn tiers_of(s: &[u8], n: usize) -> [Tier; 10]
 }
 
 // The first n lashes of an end whose count stands at `at`.
-fn lashes_of(s: &[u8], at: usize, n: usize) -> [Lash; 8]
+pub fn lashes_of(s: &[u8], at: usize, n: usize) -> [Lash; 8]
     requires { ⌜ (n ≤ 8) × (lashPlace at n ≤ length (now s)) ⌝ }
     ensures { λ r. ⌜ r ≡ lashesIn (now (s .entry)) at n ⌝ }
 {

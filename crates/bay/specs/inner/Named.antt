@@ -1,53 +1,19 @@
--- What a bay is reported, by name: a function of its bytes and the buffer; and what the steps of it say. Theorems says what it is worth;
--- nothing here need be believed.
-use Prim.Native.Nat.{ℕ, _+_}
-use mathlib.Core.Bool.{cond}
-use mathlib.Core.List.{List, [], _++_, flatMap}
+-- What a bay is reported, by name: a function of its bytes and the buffer. Theorems says what it is worth; nothing here need be
+-- believed.
+use Prim.Native.Nat.{ℕ}
+use mathlib.Core.List.{List, _++_}
 use lib.ListN.{drop, length}
-use Rattle.arith.specs.Lists.{below}
-use Rattle.sheet.specs.Layout.{sheetOf}
-use Rattle.bay_wind.specs.declared.Neighbours.{Neighbours}
-use Rattle.bay_wind.specs.Sums.{sumOf, larger, greatestOf}
-use Rattle.bay_wind.specs.Exposure.{neighboursOf, sheetInBay}
 use Rattle.bay_rows.specs.declared.BayReading.{BayReading}
 use Rattle.bay_rows.specs.declared.BayReading.the-variants as R
-use Rattle.bay_rows.specs.Bay.{rowOf, isEmpty, outlines}
 use Rattle.bay_rows.specs.Refusals.{bayRefusal}
-use Rattle.bay_answer.specs.declared.Totals.{Totals}
-use Rattle.bay_answer.specs.Rows.{rowBytes, acceptedIn, massOf, rackingIn}
-use Rattle.bay_answer.specs.inner.Totalled.{answerOf}
+use Rattle.bay_put_rows.specs.inner.Together.{answerAt}
 use Rattle.bay.specs.declared.BayOutcome.{BayOutcome}
 use Rattle.bay.specs.declared.BayOutcome.the-variants.{Taken, Refused}
-use Rattle.bay.specs.Reports.{rowSheet, reportBytes}
+use Rattle.bay.specs.Reports.{reportBytes}
 
--- the answer to a row between these neighbours, and to row k
-unfoldable pub answerIn : Neighbours → List ℕ → List ℕ
-answerIn near row = cond (isEmpty row) [] (answerOf (sheetInBay near (sheetOf row)))
-
+-- the answer to row k
 abbrev pub rowAnswer : List ℕ → ℕ → List ℕ
-rowAnswer b k = answerIn (neighboursOf (outlines b) k) (rowOf b k)
-
--- the bytes of the first k rows, and what is said of them together
-unfoldable pub rowsBytes : List ℕ → ℕ → List ℕ
-rowsBytes b k = flatMap (λ j. rowBytes (rowAnswer b j)) (below k)
-
-abbrev pub totalsOf : List ℕ → ℕ → Totals
-totalsOf b k =
-    record {
-      length = length (rowsBytes b k);
-      accepted = sumOf (λ j. acceptedIn (rowAnswer b j)) k;
-      mass = sumOf (λ j. massOf (rowSheet b j)) k;
-      racking = greatestOf (λ j. rackingIn (rowSheet b j) (rowAnswer b j)) k;
-    }
-
-abbrev pub addedUp : Totals → Totals → Totals
-addedUp a b =
-    record {
-      length = a .length + b .length;
-      accepted = a .accepted + b .accepted;
-      mass = a .mass + b .mass;
-      racking = larger (a .racking) (b .racking);
-    }
+rowAnswer b k = answerAt b k
 
 -- the report's bytes; what is returned and what a buffer that held `before` holds then, by cases on a refusal
 abbrev pub bayBytes : List ℕ → List ℕ

@@ -11,6 +11,9 @@ use Rattle.bay_answer.proofs.size_at.Tie as tie
 read4-requires : tie.Need-read4-requires
 read4-requires c κs = search needs
 
+cast-bits : tie.Need-cast-bits
+cast-bits c = omega (arith, c .read4 .ensures .1)
+
 returns : tie.Need-returns
 returns c =
     let r = c .before .read4 in
@@ -18,6 +21,9 @@ returns c =
 
 sub-result : tie.Need-sub-result
 sub-result c = search needs
+
+add-result : tie.Need-add-result
+add-result c = search needs
 
 returns-2 : tie.Need-returns-2
 returns-2 c =
@@ -27,4 +33,4 @@ returns-2 c =
     )
 
 pub size-at-spec : {M : Type 1} → statement M
-size-at-spec = tie.close (tie.spec read4-requires returns sub-result returns-2)
+size-at-spec = tie.close (tie.spec read4-requires cast-bits returns sub-result add-result returns-2)

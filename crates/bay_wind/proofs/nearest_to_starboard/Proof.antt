@@ -1,52 +1,69 @@
 -- `bay_wind::nearest_to_starboard`: the rows not yet passed give what all rows to starboard give (Sides).
 use Prim.Native.Nat.{ℕ, suc, _+_, _<_, _≤_, _-_}
+use mathlib.Core.List.{List}
 use mathlib.Core.Path.{_≡_, sym, ap, _∙_}
 use native.Mathlib.Omega.{arith}
 use borrow.Author.Needs.{needs}
 use lib.ListN.{length, getD, take, drop}
 use lib.Seq.{length-take-le, getD-take}
+use Rattle.bay_wind.specs.declared.Outline.{Outline}
 use Rattle.bay_wind.specs.declared.Nearest.the-variants.{Loaded}
 use Rattle.bay_wind.specs.Exposure.{emptyRow, nearestBehind, nearestOf}
+use Rattle.bay_wind.specs.inner.Paired.{paired}
+use Rattle.bay_wind.proofs.Paired.{paired-length, paired-at}
 use Rattle.bay_wind.proofs.Sides.{first-is, starboard-loaded, starboard-empty, starboard-none}
 use Rattle.bay_wind.proofs.nearest_to_starboard.Statement.{statement}
 use Rattle.bay_wind.proofs.nearest_to_starboard.Tie as tie
 
 abbrev Inv-loop : tie.InvT-loop
-Inv-loop n k rows first j₀ j =
-    (first ≤ j) × (j ≤ n) × (nearestBehind (j - first) (drop j (take n rows)) ≡ nearestOf (drop (suc k) (take n rows)))
+Inv-loop heights sizes n k first j₀ j =
+    (first ≤ j)
+    × (j ≤ n)
+    × (nearestBehind (j - first) (drop j (take n (paired heights sizes)))
+    ≡ nearestOf (drop (suc k) (take n (paired heights sizes))))
 
 abbrev μ-loop : tie.MeasureT-loop
-μ-loop n k rows first j₀ j = n - j
+μ-loop heights sizes n k first j₀ j = n - j
 
--- of 24 rows the first n, and of these the j-th
-counted : (b : tie.Start Inv-loop μ-loop) → length (take (b .args .n) (b .args .t1)) ≡ b .args .n
-counted b = length-take-le (b .args .n) (b .args .t1) (omega (arith, b .pre .1, b .good .0 .1 .0 .1))
+-- the first n rows, and of these the j-th
+abbrev rows : tie.Start Inv-loop μ-loop → List Outline
+rows b = take (b .args .n) (paired (b .args .heights .now) (b .args .sizes .now))
 
-inside : (b : tie.Start Inv-loop μ-loop) (j : ℕ) → j < b .args .n → j < length (take (b .args .n) (b .args .t1))
+counted : (b : tie.Start Inv-loop μ-loop) → length (rows b) ≡ b .args .n
+counted b =
+    let heights = b .args .heights .now in
+    let sizes = b .args .sizes .now in
+    length-take-le (b .args .n) (paired heights sizes) (omega (arith, b .pre .1, paired-length heights sizes (b .pre .2)))
+
+inside : (b : tie.Start Inv-loop μ-loop) (j : ℕ) → j < b .args .n → j < length (rows b)
 inside b j h = omega (arith, counted b, h)
 
 row-is :
     (b : tie.Start Inv-loop μ-loop) (j : ℕ) →
     j < b .args .n →
-    getD (take (b .args .n) (b .args .t1)) j emptyRow ≡ getD (b .args .t1) j emptyRow
-row-is b j h = getD-take (b .args .n) (b .args .t1) j emptyRow h
+    getD (rows b) j emptyRow ≡ record { height = getD (b .args .heights .now) j 0; size = getD (b .args .sizes .now) j 0 }
+row-is b j h =
+    let heights = b .args .heights .now in
+    let sizes = b .args .sizes .now in
+    getD-take (b .args .n) (paired heights sizes) j emptyRow h ∙ paired-at heights sizes j (b .pre .2)
 
 add-first : tie.Need-add-first Inv-loop μ-loop
 add-first c = search needs
 
 loop-holds : tie.Need-loop-holds Inv-loop μ-loop
-loop-holds c =
-    let a = c .args in
-    (search needs, search needs, first-is (take (a .n) (a .t1)) (a .k))
+loop-holds c = (search needs, search needs, first-is (rows c) (c .args .k))
 
-mul-row : tie.Need-mul-row Inv-loop μ-loop
-mul-row c = search needs
+mul-height : tie.Need-mul-height Inv-loop μ-loop
+mul-height c = search needs
 
-array-copy-out-row : tie.Need-array-copy-out-row Inv-loop μ-loop
-array-copy-out-row c = search needs
+shared-slice-read-height : tie.Need-shared-slice-read-height Inv-loop μ-loop
+shared-slice-read-height c = search needs
 
-sub-t13 : tie.Need-sub-t13 Inv-loop μ-loop
-sub-t13 c = search needs
+shared-slice-read-size : tie.Need-shared-slice-read-size Inv-loop μ-loop
+shared-slice-read-size c = search needs
+
+sub-t15 : tie.Need-sub-t15 Inv-loop μ-loop
+sub-t15 c = search needs
 
 returns : tie.Need-returns Inv-loop μ-loop
 returns c =
@@ -56,8 +73,8 @@ returns c =
     let e = row-is b (l .loop .j) (i .loop-test .taken) in
     ap (Loaded (l .loop .j - (b .args .k + 1))) (sym e)
     ∙ sym
-    (starboard-loaded (take (b .args .n) (b .args .t1)) (b .args .k + 1) (l .loop .j) (l .loop .inv .0)
-    (inside b (l .loop .j) (i .loop-test .taken)) (rw e (c .if1 .taken)))
+    (starboard-loaded (rows b) (b .args .k + 1) (l .loop .j) (l .loop .inv .0) (inside b (l .loop .j) (i .loop-test .taken))
+    (rw e (c .if1 .taken)))
     ∙ l .loop .inv .2
 
 add-j : tie.Need-add-j Inv-loop μ-loop
@@ -70,12 +87,13 @@ loop-again : tie.Need-loop-again Inv-loop μ-loop
 loop-again c =
     let i = c .before .before .before in
     let l = i .before in
-    let b = l .before in (
+    let b = l .before in
+    let e = row-is b (l .loop .j) (i .loop-test .taken) in (
       search needs,
       search needs,
       sym
-          (starboard-empty (take (b .args .n) (b .args .t1)) (b .args .k + 1) (l .loop .j) (l .loop .inv .0)
-          (inside b (l .loop .j) (i .loop-test .taken)) (rw (row-is b (l .loop .j) (i .loop-test .taken)) (c .if1 .left)))
+          (starboard-empty (rows b) (b .args .k + 1) (l .loop .j) (l .loop .inv .0) (inside b (l .loop .j) (i .loop-test .taken))
+          (rw e (c .if1 .left)))
           ∙ l .loop .inv .2,
     )
 
@@ -84,8 +102,7 @@ returns-2 c =
     let l = c .before in
     let b = l .before in
     sym
-    (starboard-none (take (b .args .n) (b .args .t1)) (b .args .k + 1) (l .loop .j) (l .loop .inv .0)
-    (omega (arith, counted b, c .loop-test .left)))
+    (starboard-none (rows b) (b .args .k + 1) (l .loop .j) (l .loop .inv .0) (omega (arith, counted b, c .loop-test .left)))
     ∙ l .loop .inv .2
 
 pub nearest-to-starboard-spec : {M : Type 1} → statement M
@@ -96,9 +113,10 @@ nearest-to-starboard-spec =
     μ-loop
     add-first
     loop-holds
-    mul-row
-    array-copy-out-row
-    sub-t13
+    mul-height
+    shared-slice-read-height
+    shared-slice-read-size
+    sub-t15
     returns
     add-j
     loop-less

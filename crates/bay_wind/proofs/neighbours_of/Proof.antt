@@ -5,6 +5,7 @@ use native.Mathlib.Omega.{arith}
 use borrow.Author.Needs.{needs}
 use lib.Seq.{take-take}
 use Rattle.bay_wind.specs.Exposure.{nearestOf, neighboursOf}
+use Rattle.bay_wind.specs.inner.Paired.{paired}
 use Rattle.bay_wind.proofs.neighbours_of.Statement.{statement}
 use Rattle.bay_wind.proofs.neighbours_of.Tie as tie
 
@@ -17,9 +18,9 @@ nearest-to-starboard-requires c κs = search needs
 returns : tie.Need-returns
 unfolding neighboursOf
 returns c =
-    let a = c .before .before .args in
-    let p = c .before .before .pre in
-    let same = sym (take-take (a .k) (a .n) (a .rows) (omega (arith, p .0))) in
+    let b = c .before .before .before .before in
+    let a = b .args in
+    let same = sym (take-take (a .k) (a .n) (paired (a .heights .now) (a .sizes .now)) (omega (arith, b .pre .0))) in
     let port = c .before .nearest-to-port .ensures ∙ ap (λ rows. nearestOf (reverse rows)) same in
     λ i. record { port = port i; starboard = c .nearest-to-starboard .ensures i }
 

@@ -1,0 +1,3 @@
+-- Theorems for the crates above.
+pub mod Answers
+pub mod Rows

@@ -1,0 +1,2 @@
+-- Theorems for the crates above.
+pub mod Steps

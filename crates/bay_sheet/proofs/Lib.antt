@@ -1,0 +1,3 @@
+-- What the functions' proofs rest on.
+mod Codes
+mod Tiers
