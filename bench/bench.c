@@ -1,8 +1,8 @@
 /* Times the proved check and the same check in doubles, plain and an expert's, interleaved in one run. Reads a corpus (bench/corpus.py)
    and prints a line a group: its number, its sheets, then medians in ns a sheet: whole check proved, in plain doubles, in the expert's,
    decode of the three, a preview of the sheet, and the check by a forecast. Groups from COLD_GROUP on are seen once a round, so that no
-   branch is known from the pass before; of these the first three medians. Groups from BAY_GROUP on hold bays in place of sheets; of
-   these one median, in ns a bay. */
+   branch is known from the pass before; of these the first three medians. Groups from BAY_GROUP on hold bays in place of sheets, those
+   from GEAR_GROUP on a sheet without lashes and behind it a gear section; of these one median, in ns a bay or a list of choices. */
 #include "../include/lash_check.h"
 #include "doubles.h"
 #include "expert.h"
@@ -11,8 +11,8 @@
 #include <stdio.h>
 #include <stdlib.h>
 
-enum { ROUNDS = 61, GROUPS = 256, COLD_GROUP = 64, BAY_GROUP = 128, CHECKS = 3, MEASURES = 8 };
-enum { COUNT_AT = 8, TIERS_AT = 9, TIER = 12, MASS_AT = 4 };
+enum { ROUNDS = 61, GROUPS = 256, COLD_GROUP = 64, BAY_GROUP = 128, GEAR_GROUP = 192, CHECKS = 3, MEASURES = 8 };
+enum { COUNT_AT = 8, TIERS_AT = 9, TIER = 12, MASS_AT = 4, NO_LASHES = 2 };
 
 typedef uint64_t check_call(const uint8_t *, size_t, uint8_t *, size_t);
 
@@ -30,6 +30,13 @@ static uint64_t by_forecast(const uint8_t *sheet, size_t sheet_len, uint8_t *ans
     return lash_forecast(sheet, sheet_len, 365, 2500, 48, answer, answer_len);
 }
 
+/* Every choice of the gear that lies behind a sheet. */
+static uint64_t arrange(const uint8_t *both, size_t length, uint8_t *list, size_t room)
+{
+    size_t sheet = TIERS_AT + TIER * (size_t)both[COUNT_AT] + NO_LASHES;
+    return lash_arrangements(both, sheet, both + sheet, length - sheet, list, room);
+}
+
 /* A buffer one byte short is refused after the whole sheet was decoded: that times decode alone. */
 static const struct measure {
     check_call *call;
@@ -45,7 +52,7 @@ static const struct measure {
     {by_forecast, LASH_ANSWER_SIZE},
 };
 
-static const struct measure of_bays[] = {{lash_bay, LASH_REPORT_SIZE}};
+static const struct measure of_bays[] = {{lash_bay, LASH_REPORT_SIZE}}, of_gears[] = {{arrange, LASH_LIST_SIZE}};
 
 struct item {
     const uint8_t *bytes;
@@ -80,7 +87,7 @@ static int is_cold(int group) { return group >= COLD_GROUP && group < BAY_GROUP;
    branches for it. */
 static void time_round(int group, struct group *g, int round)
 {
-    const struct measure *those = group < BAY_GROUP ? measures : of_bays;
+    const struct measure *those = group < BAY_GROUP ? measures : group < GEAR_GROUP ? of_bays : of_gears;
     int count = count_of(group);
     for (int i = 0; i < count; i++) {
         int m = round % 2 ? count - 1 - i : i;

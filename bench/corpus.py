@@ -5,6 +5,7 @@ from random import Random
 
 from reference import samples
 from sheets.bay import MOST_ROWS, pack_bay
+from sheets.gear import pack_gear
 from sheets.sheet import CLOSED, CROSS, DOOR, MOST_LASHES, MOST_TIERS, SIDE, TOP, Head, Sheet, pack, parse
 
 KIND_SHEETS = 400
@@ -15,7 +16,8 @@ FIXED_PLACES = [(1, TOP, CROSS), (1, TOP, SIDE)]
 # Sides of rods up to the longest and from the shortest that a sheet may have.
 LONG_RODS = {"lx": (4_500, 5_000), "ly": (9_000, 10_000), "lz": (18_000, 20_000)}
 SHORT_RODS = {"lx": (0, 50), "ly": (500, 550), "lz": (500, 550)}
-COLD_GROUP, BAY_GROUP = 64, 128  # numbers in the file from which on groups are cold, and the bays', as bench.c has them
+# Numbers in the file from which on groups are cold, the bays' and the gears', as bench.c has them.
+COLD_GROUP, BAY_GROUP, GEAR_GROUP = 64, 128, 192
 
 
 @dataclass(frozen=True)
@@ -110,10 +112,27 @@ def bays(entry):
     return [pack_bay(sheets[at : at + MOST_ROWS]) for at in range(0, len(sheets) - MOST_ROWS + 1, MOST_ROWS)]
 
 
-def write(path, found, cold, bays):
-    """For each sheet, and then each bay: its group's number in a byte, its length in two, least byte first, and its bytes."""
+def with_gear(sheet):
+    """A stack without its lashes, with those of its door end as gear: the sheet's bytes, then the gear section's."""
+    return pack(replace(sheet, door=(), closed=())) + pack_gear(sheet.door)
+
+
+def lightened(sheet):
+    """The stack with boxes so light, and out of the wind, that every choice of its lashes is accepted: both ends are worked for each."""
+    return replace(sheet, tiers=tuple(replace(tier, mass=tier.mass // 20 + 1, wind=0) for tier in sheet.tiers))
+
+
+def gears(entry):
+    """The group's stacks with their gear: as they are, of which most choices are not accepted, and lightened."""
+    sheets = [parse(data) for data in entry.sheets]
+    return [with_gear(sheet) for sheet in sheets], [with_gear(lightened(sheet)) for sheet in sheets]
+
+
+def write(path, found, cold, bays, gears):
+    """For each sheet, then each bay, then each stack with its gear: its group's number in a byte, its length in two, least byte first, and
+    its bytes."""
     with open(path, "wb") as file:
         sheets = [*enumerate(entry.sheets for entry in found), *enumerate((entry.sheets for entry in cold), COLD_GROUP)]
-        for number, entry in [*sheets, (BAY_GROUP, bays)]:
+        for number, entry in [*sheets, (BAY_GROUP, bays), *enumerate(gears, GEAR_GROUP)]:
             for data in entry:
                 file.write(bytes([number]) + len(data).to_bytes(2, "little") + data)

@@ -1,8 +1,8 @@
 /* The lashing check of a container stack: bytes of a stack sheet in, bytes of an answer sheet out; docs/SHEET.md has the layout
    of both, byte by byte. lash_preview answers for the sheet with another mass in one tier, lash_forecast for a short voyage by its
-   forecast, lash_bay for the stacks of a bay side by side. lash_side answers for the side walls under pitching, with a side answer of its
-   own. And lash_twenties, for 20-ft boxes in 40-ft cell guides, and lash_roll, for a box's accelerations from the ship's roll: numbers
-   in, one number out.
+   forecast, lash_bay for the stacks of a bay side by side, lash_arrangements for every choice of the lashes aboard. lash_side answers for
+   the side walls under pitching, with a side answer of its own. And lash_twenties, for 20-ft boxes in 40-ft cell guides, and lash_roll,
+   for a box's accelerations from the ship's roll: numbers in, one number out.
 
    rt staticlib lash                                                      proves the check and writes target/staticlib/liblash.a
    cc -Iinclude yours.c target/staticlib/liblash.a -o yours               a program over it, on x86-64 Linux
@@ -17,9 +17,9 @@
 extern "C" {
 #endif
 
-/* The version of the header and of the library built beside it; the text is LASH_VERSION, as "0.14.0". */
+/* The version of the header and of the library built beside it; the text is LASH_VERSION, as "0.15.0". */
 #define LASH_VERSION_MAJOR 0
-#define LASH_VERSION_MINOR 14
+#define LASH_VERSION_MINOR 15
 #define LASH_VERSION_PATCH 0
 #define LASH_TEXT_(number) #number
 #define LASH_TEXT(number) LASH_TEXT_(number)
@@ -340,6 +340,51 @@ static inline struct lash_row lash_bay_row(uint64_t result, const uint8_t *repor
         found.answer = report + at;
     }
     return found;
+}
+
+/* Every arrangement of the gear aboard: which choices of up to 8 lashes the check accepts when they are used alike at both ends of a
+   stack. `sheet` is a stack sheet without lashes; `gear` is a gear section: a count, then that many lashes of 20 bytes, laid out and in
+   order as at an end of a stack sheet. The list is a count in 2 bytes, the least first, then a byte a choice, whose bit k, counted from 0
+   at the lowest, is set where lash k of the gear is used. Listed is each choice, once, for which lash_check writes verdict 0 when the
+   sheet has its lashes at both ends; the empty choice counts. Fewer lashes come first; of two choices of as many lashes, at the first
+   lash where they differ, the one that uses it.
+   The first number is in the low 8 bits of what is returned, the second above them. With 0 the second is the list's length, 2 and a byte
+   a choice. The sheet's own refusals come first, then LASH_LASHED, then those of the gear section in the order of reading: LASH_SHORT
+   with the section's length, LASH_LASH_COUNT, LASH_LASH, LASH_PLACE, LASH_ORDER and LASH_SPARE with offsets in that section; last
+   LASH_ROOM with 258. A refusal leaves the buffer as it was, bytes behind the list stay, and the caller tests nothing first. The three
+   buffers do not overlap; what is proved holds for pointers that are not null. */
+uint64_t lash_arrangements(const uint8_t *sheet, size_t sheet_len, const uint8_t *gear, size_t gear_len, uint8_t *list, size_t list_len);
+
+enum lash_arrangements_number {
+    LASH_LASHED = 24 /* 0: the stack sheet holds a lash, at either end */
+};
+
+/* The list buffer must hold this many bytes, whatever the gear; no list is longer. */
+#define LASH_LIST_SIZE 258
+
+/* No gear section that is taken is longer. */
+#define LASH_GEAR_SIZE 161
+
+/* Readers of a list. `result` is what lash_arrangements returned for it. They read no byte behind the list, and none after a refusal. */
+
+/* How many choices are accepted; 0 after a refusal. */
+static inline unsigned lash_choices(uint64_t result, const uint8_t *list)
+{
+    return lash_byte(result, list, 0) | lash_byte(result, list, 1) << 8;
+}
+
+/* An accepted choice, from 0 in the list's order; LASH_NONE where there is no such choice. */
+static inline int64_t lash_choice(uint64_t result, const uint8_t *list, unsigned index)
+{
+    size_t at = 2 + (size_t)index;
+    return index < lash_choices(result, list) && at < lash_second_of(result) ? (int64_t)lash_byte(result, list, at) : LASH_NONE;
+}
+
+/* Whether an accepted choice, from 0, uses a lash of the gear, from 0. */
+static inline int lash_choice_uses(uint64_t result, const uint8_t *list, unsigned index, unsigned lash)
+{
+    int64_t choice = lash_choice(result, list, index);
+    return choice != LASH_NONE && lash < 8 && (choice >> lash & 1);
 }
 
 /* Twenties in forty-foot guides (CR 5.4.6(b)(ii)): whether all tiers but the lowest together weigh no more than CR Table 5-2 (table 0,

@@ -6,6 +6,7 @@ from functools import lru_cache
 
 from lashlib.build import shared_library
 from sheets.bay import REPORT_ROOM
+from sheets.gear import LIST_ROOM
 from sheets.sheet import ANSWER_ROOM
 from sheets.side import SIDE_ROOM
 
@@ -17,6 +18,7 @@ CALLS = {
     "lash_forecast": (READ, ctypes.c_uint16, ctypes.c_uint16, ctypes.c_uint32, WRITTEN),
     "lash_side": (READ, READ, WRITTEN),
     "lash_bay": (READ, WRITTEN),
+    "lash_arrangements": (READ, READ, WRITTEN),
     "lash_twenties": (ctypes.c_uint32, ctypes.c_uint32, NUMBERS),
     "lash_roll": (*(ctypes.c_uint32,) * 6, *(ctypes.c_int32,) * 4),
 }
@@ -99,6 +101,9 @@ class Library:
 
     def bay(self, data, room=REPORT_ROOM):
         return self.call("lash_bay", data, room=room, reply=BayReply)
+
+    def arrangements(self, sheet, gear, room=LIST_ROOM):
+        return self.call("lash_arrangements", sheet, gear, room=room)
 
     def twenties(self, table, acceleration, masses):
         return self.call("lash_twenties", table, acceleration, masses, room=0)

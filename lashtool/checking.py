@@ -50,6 +50,16 @@ def outcome(data, reply):
     return sheet, answer
 
 
+def written(reply, what, read):
+    """What a call wrote for a stack that is to be taken, by a function that reads its bytes or raises ValueError."""
+    if reply.number:
+        raise CheckFailed(f"the call for {what} refused a stack that is to be taken, with {reply.number} {reply.second}")
+    try:
+        return read(reply.answer)
+    except ValueError as reason:
+        raise CheckFailed(f"the call for {what} wrote {reason}") from None
+
+
 def fits(sheet, answer, length):
     """Whether an answer has this sheet's counts and the findings and verdict of its own figures."""
     return (

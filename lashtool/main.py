@@ -8,7 +8,7 @@ from dataclasses import dataclass
 from pathlib import Path
 
 from lashlib.version import version
-from lashtool import bay, preview, report, rolled, side, svg, svg_side, twenties
+from lashtool import arrange, bay, preview, report, rolled, side, svg, svg_side, twenties
 from lashtool.checking import CheckFailed, library, library_check, library_roll, outcome
 from lashtool.colour import wanted
 from lashtool.data import as_data
@@ -29,8 +29,8 @@ from sheets.sheet import Refused, pack
 
 HELP = (
     "Checks the lashing of a container stack and prints its forces beside their limits; of several stacks, "
-    "or of a folder of *.toml, a line each with the worst use of a limit. `lash bay --help` tells of a bay, `lash twenties --help` of "
-    "20-ft boxes in 40-ft guides, `lash roll --help` of a box's accelerations."
+    "or of a folder of *.toml, a line each with the worst use of a limit. `lash bay --help` tells of a bay, `lash arrange --help` of "
+    "every choice of the lashes aboard, `lash twenties --help` of 20-ft boxes in 40-ft guides, `lash roll --help` of a box's accelerations."
 )
 STATUS_HELP = (
     "Exit status: 0 accepted, 1 not accepted, 2 refused, or a bad description, move or forecast, "
@@ -208,12 +208,14 @@ def many(options, check, roll):
     return status
 
 
-def main(words=None, check=None, judge=None, call=None, roll=None, pitch=None, bay_call=None):
+def main(words=None, check=None, judge=None, call=None, roll=None, pitch=None, bay_call=None, gear_call=None):
     """The exit status. In place of the library's calls: `check` gives a sheet's reply, `judge` that of twenties, `call` that of a preview,
-    `roll` that of a box's accelerations, `pitch` that of side walls, `bay_call` that of a bay."""
+    `roll` that of a box's accelerations, `pitch` that of side walls, `bay_call` that of a bay, `gear_call` that of arrangements."""
     words = sys.argv[1:] if words is None else words
     if words[:1] == [bay.WORD]:
         return bay.main(words[1:], bay_call, check, roll)
+    if words[:1] == [arrange.WORD]:
+        return arrange.main(words[1:], gear_call, check, roll)
     if words[:1] == [twenties.WORD]:
         return twenties.main(words[1:], judge)
     if words[:1] == [rolled.WORD]:

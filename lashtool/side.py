@@ -3,7 +3,7 @@
 from dataclasses import dataclass
 from fractions import Fraction
 
-from lashtool.checking import CheckFailed
+from lashtool.checking import CheckFailed, written
 from lashtool.colour import bar, painted
 from lashtool.description import BadDescription
 from lashtool.fields import FLEET_STANDARD, LONGITUDINAL_FIELD, RULES
@@ -94,13 +94,7 @@ def sides(told, call):
         if a_l is None:
             field = LONGITUDINAL_FIELD
             raise BadDescription(f"tier {number}: {field.name} is missing ({field.allowed()}); {OPTION} needs it in each tier or in [box]")
-    reply = call(pack(told.sheet), pack_pitch(told.longitudinal))
-    if reply.number:
-        raise CheckFailed(f"the call for side walls refused a stack that is to be taken, with {reply.number} {reply.second}")
-    try:
-        answer = read_side(reply.answer)
-    except ValueError as reason:
-        raise CheckFailed(f"the call for side walls wrote {reason}") from None
+    answer = written(call(pack(told.sheet), pack_pitch(told.longitudinal)), "side walls", read_side)
     figures = zip(told.sheet.tiers, told.longitudinal, answer.racking, answer.shift)
     walls = tuple(Wall(number, tier.mass, *rest) for number, (tier, *rest) in enumerate(figures, 1))
     if len(answer.racking) != len(told.sheet.tiers) or answer.verdict != (1 if any(wall.over for wall in walls) else 0):

@@ -1,6 +1,6 @@
 #!/usr/bin/env python3
-"""Writes what the programs cases, cases_preview, cases_twenties, cases_forecast, cases_side, cases_roll, cases_bay and lashcheck are run
-on, and what they must write.
+"""Writes what the programs cases, cases_preview, cases_twenties, cases_forecast, cases_side, cases_roll, cases_bay, cases_arrangements and
+lashcheck are run on, and what they must write.
 
 The src/main.rt of each says how a case, a move, a question, a condition and a bay are laid out. A field is the size of a number of the
 answer and the least and the most that it may be; a racking to windward lies in two's complement.
@@ -15,7 +15,7 @@ from pathlib import Path
 ROOT = Path(__file__).resolve().parent.parent
 sys.path.insert(0, str(ROOT))
 
-from reference import bay, bay_asked, forecast, forecast_asked, side
+from reference import arrangements, arrangements_asked, bay, bay_asked, forecast, forecast_asked, side
 from reference.cases import CASES, may_be_named, reported_range, stands
 from reference.judge import MARGIN, figures
 from reference.preview import previewed, with_mass
@@ -37,7 +37,7 @@ FIELD = struct.Struct("<BII")
 QUESTION = struct.Struct("<16I")  # table, acceleration, count, and thirteen masses of which so many count
 MOVE = struct.Struct("<IHHHH250s250s")  # tier, mass, room, lengths of the sheet and of the copy, and these
 FORECAST = struct.Struct("<HHIHIIH")  # wave height, breadth, hours, room, least and most of a racking, length of the sheet
-SIDE = struct.Struct("<3H")  # room, lengths of the stack sheet and of the short sheet
+TWO_SHEETS = struct.Struct("<3H")  # room, lengths of the stack sheet and of the short sheet or the gear section
 CONDITION = struct.Struct("<6I4i")
 BAY = struct.Struct("<HIIH")  # room, least and most of the greatest racking, length of the bay sheet
 ROOM_LIMIT = 1_024
@@ -189,9 +189,9 @@ def forecast_line(asked):
     return f"{asked.wave_height} {asked.breadth} {asked.hours}{factor} {words}\n"
 
 
-def side_question(asked):
-    """The bytes of a question on side walls."""
-    return SIDE.pack(asked.room, len(asked.sheet), len(asked.pitch)) + asked.sheet + asked.pitch
+def two_sheets(room, sheet, second):
+    """The bytes of a question with a second sheet: on side walls or on arrangements."""
+    return TWO_SHEETS.pack(room, len(sheet), len(second)) + sheet + second
 
 
 def side_line(asked):
@@ -202,6 +202,18 @@ def side_line(asked):
     answer = read_side(due.data)
     figures = (f" {racking} {shift}" for racking, shift in zip(answer.racking, answer.shift))
     return f"taken {due.second} {answer.verdict}{''.join(figures)}\n"
+
+
+def arrangements_line(asked):
+    """What the program cases_arrangements must write of a question."""
+    due = arrangements.expected(asked.sheet, asked.gear, asked.room)
+    if due.refusal:
+        return f"refused {due.refusal[0]} {due.refusal[1]}\n"
+    judged = list(arrangements.by_fractions(due, MARGIN))
+    if any(right is None for _, right in judged):
+        raise Undecided("a choice is open")
+    accepted = [choice for choice, right in judged if right]
+    return f"taken {LENGTH.size + len(accepted)} {' '.join(map(str, (len(accepted), *accepted)))}\n"
 
 
 def condition_line(given):
@@ -246,12 +258,16 @@ def stored():
         "crates/cases_twenties/stdout": "".join(question_line(*asked) for asked in FIGURES).encode(),
         "crates/cases_forecast/stdin": b"".join(map(forecast_question, forecast_asked.FIGURES)),
         "crates/cases_forecast/stdout": "".join(map(forecast_line, forecast_asked.FIGURES)).encode(),
-        "crates/cases_side/stdin": b"".join(map(side_question, SIDES)),
+        "crates/cases_side/stdin": b"".join(two_sheets(asked.room, asked.sheet, asked.pitch) for asked in SIDES),
         "crates/cases_side/stdout": "".join(map(side_line, SIDES)).encode(),
         "crates/cases_roll/stdin": b"".join(CONDITION.pack(*astuple(given)) for given in CONDITIONS),
         "crates/cases_roll/stdout": "".join(map(condition_line, CONDITIONS)).encode(),
         "crates/cases_bay/stdin": b"".join(bay_question(asked) for _, asked in bay_asked.FIGURES),
         "crates/cases_bay/stdout": "".join(bay_line(asked) for _, asked in bay_asked.FIGURES).encode(),
+        "crates/cases_arrangements/stdin": b"".join(
+            two_sheets(asked.room, asked.sheet, asked.gear) for _, asked in arrangements_asked.FIGURES
+        ),
+        "crates/cases_arrangements/stdout": "".join(arrangements_line(asked) for _, asked in arrangements_asked.FIGURES).encode(),
         "crates/lashcheck/stdin": sample.data,
         "crates/lashcheck/stdout": b"%d %d\n" % (number, second),
     }

@@ -4,8 +4,8 @@
    from a byte left alone. Each sheet is previewed the same way with a tier and a mass, and held to the check of a copy. Then forecasts,
    a fifth as many, on sheets of their own in the same way; beside each the greatest factor, by which the call must do what the check
    does. Then side walls, on sheets of their own in the same way, each with a short sheet that lies as the stack sheet does. Then
-   bays, in boundary_bay.h. Then twenties: their masses lie as the sheets do, and where no mass is to be read, on an unreadable page.
-   Then accelerations from roll: no memory is lent, so only the numbers are tried.
+   bays, in boundary_bay.h, and arrangements, in boundary_gear.h. Then twenties: their masses lie as the sheets do, and where no mass is
+   to be read, on an unreadable page. Then accelerations from roll: no memory is lent, so only the numbers are tried.
 
    usage: boundary [--count N] [--seed N] [--dump FILE]
    Exit status 0: no fault; 1: a fault, shown with its sheet; 2: bad use, or no memory to run in. */
@@ -29,6 +29,7 @@ enum { AREA = 8192, DUMPED = 600, ENOUGH = 10000, NUMBERS = LASH_ROOM + 1, SHEET
 enum { MASS_AT = 4 }; /* in a tier's bytes */
 enum { SHEETS_A_SIDE = 5, MOST_LONGITUDINAL = 1500, MOST_PITCH = 1 + 2 * 255 };
 enum { BAY_AREA = 16384, SHEETS_A_BAY = 10 };
+enum { SHEETS_A_GEAR = 5, MOST_GEAR = EVERY_LENGTH };
 enum { LEAST_TIERS_IN_GUIDES = 3, MOST_TIERS_IN_GUIDES = 11, MOST_MASS = 30480, SHEETS_A_QUESTION = 5 };
 
 /* Numbers at random, the same for the same seed. */
@@ -119,10 +120,12 @@ static void add_tier(struct sheet *s, uint32_t feet, int extreme)
         memcpy(p + 10, p + 8, 2);
 }
 
+static int bare; /* sheets are made without lashes */
+
 /* Lashes at places drawn in sheet order: by tier, then hook, then kind, without the bottom of tier 1. */
 static void add_end(struct sheet *s, uint32_t tiers, int extreme)
 {
-    uint32_t places = 4 * tiers - 2, due = below(MOST_LASHES + 1);
+    uint32_t places = 4 * tiers - 2, due = bare ? 0 : below(MOST_LASHES + 1);
     due = due < places ? due : places;
     s->bytes[s->length++] = (uint8_t)due;
     for (uint32_t place = 0; due; place++) {
@@ -297,8 +300,8 @@ static size_t choose_room(void)
 
 static uint8_t *guarded_sheet;  /* AREA bytes, only readable */
 static uint8_t *writable_sheet; /* the same bytes, for this program */
-static uint8_t *guarded_pitch;  /* the same for a short sheet */
-static uint8_t *writable_pitch;
+static uint8_t *guarded_second; /* the same for a second sheet: a short sheet or a gear section */
+static uint8_t *writable_second;
 static uint8_t *guarded_answer; /* AREA bytes */
 static uint8_t patterns[2][AREA];
 
@@ -346,7 +349,7 @@ static void make_patterns(uint8_t *first, uint8_t *second, size_t size)
 static void prepare_memory(void)
 {
     writable_sheet = between_pages(AREA, &guarded_sheet);
-    writable_pitch = between_pages(AREA, &guarded_pitch);
+    writable_second = between_pages(AREA, &guarded_second);
     guarded_answer = answer_between_pages(AREA);
     make_patterns(patterns[0], patterns[1], AREA);
 }
@@ -388,6 +391,9 @@ static uint16_t moved_mass;
 static uint8_t pitch[MOST_PITCH];
 static size_t pitch_length;
 static int siding; /* about side walls, with a short sheet */
+static uint8_t gear[MOST_GEAR];
+static size_t gear_length;
+static int arranging; /* about arrangements, with a gear section */
 static int rolling; /* about accelerations, no longer about twenties */
 static unsigned long sheet_number;
 static size_t room;
@@ -431,6 +437,8 @@ __attribute__((format(printf, 1, 2), noreturn)) static void fail(const char *for
         printf("FAULT: sheet %lu (%s, %zu bytes, answer buffer of %zu): ", sheet_number, sheet.kind, sheet.length, room);
     if (siding)
         printf("side walls: ");
+    if (arranging)
+        printf("arrangements: ");
     if (previewing)
         printf("preview of tier %u, mass %u: ", moved_tier, moved_mass);
     if (!asking && weather)
@@ -439,6 +447,10 @@ __attribute__((format(printf, 1, 2), noreturn)) static void fail(const char *for
     if (siding) {
         printf("\n  short sheet ");
         print_hex(stdout, pitch, pitch_length);
+    }
+    if (arranging) {
+        printf("\n  gear ");
+        print_hex(stdout, gear, gear_length);
     }
     printf(rolling ? "\n  sine to z " : asking ? "\n  table, acceleration, count, masses " : bay.tried ? "\n  bay " : "\n  sheet ");
     if (rolling)
@@ -533,6 +545,38 @@ static const uint8_t *laid(int before, size_t *at)
     memcpy(writable_sheet + sheet_at, sheet.bytes, sheet.length);
     memcpy(guarded_answer, patterns[before], AREA);
     return guarded_sheet + sheet_at;
+}
+
+/* The same of a second sheet; where it is. */
+static const uint8_t *laid_second(int before, const uint8_t *bytes, size_t length)
+{
+    size_t at = before ? 0 : AREA - length;
+    memcpy(writable_second + at, bytes, length);
+    return guarded_second + at;
+}
+
+/* Holds a call's result to what is due, and the answer's memory to the pattern that was there, but for what was written at `at`: the
+   length of that. */
+static size_t held(uint64_t result, uint64_t due, int before, size_t at)
+{
+    size_t length = lash_number_of(result) == LASH_TAKEN ? lash_second_of(result) : 0;
+    if (result != due)
+        fail("gives %llx, %llx is due", (unsigned long long)result, (unsigned long long)due);
+    if (!same(guarded_answer, patterns[before], 0, at) || !same(guarded_answer, patterns[before], at + length, AREA))
+        fail("a byte outside the %zu bytes that are due was written", length);
+    return length;
+}
+
+/* A line: the word, the buffer's room, the result, the sheet, the second sheet, what was written by a call against the pages before. */
+static void dump_second(FILE *out, const char *word, uint64_t result, const uint8_t *second, size_t length)
+{
+    fprintf(out, "%s %zu %llu ", word, room, (unsigned long long)result);
+    print_hex(out, sheet.bytes, sheet.length);
+    fputc(' ', out);
+    print_hex(out, second, length);
+    fputc(' ', out);
+    print_hex(out, guarded_answer, lash_number_of(result) == LASH_TAKEN ? lash_second_of(result) : 0);
+    fputc('\n', out);
 }
 
 /* One call; what it gave. */
@@ -664,15 +708,10 @@ static uint64_t preview_due(uint64_t checked, uint8_t *answer)
 static void preview(int before, uint64_t due, const uint8_t *answer)
 {
     size_t at;
-    const uint8_t *pattern = patterns[before], *lent = laid(before, &at);
+    const uint8_t *lent = laid(before, &at);
     uint64_t result = lash_preview(lent, sheet.length, moved_tier, moved_mass, guarded_answer + at, room);
-    size_t length = lash_number_of(result) == LASH_TAKEN ? lash_second_of(result) : 0;
-    if (result != due)
-        fail("gives %llx, %llx is due", (unsigned long long)result, (unsigned long long)due);
-    if (memcmp(guarded_answer + at, answer, length) != 0)
+    if (memcmp(guarded_answer + at, answer, held(result, due, before, at)) != 0)
         fail("the answer is not that of the copy");
-    if (!same(guarded_answer, pattern, 0, at) || !same(guarded_answer, pattern, at + length, AREA))
-        fail("a byte outside the answer of %zu bytes was written", length);
 }
 
 /* In the dump a line: preview, tier, mass, answer room, result, sheet. */
@@ -816,22 +855,16 @@ static int side_possible(uint64_t result, const uint8_t *side)
 /* One call against the pages behind (0) or before (1), held to what is due. */
 static void side(int before, uint64_t due)
 {
-    size_t at, pitch_at = before ? 0 : AREA - pitch_length;
-    const uint8_t *pattern = patterns[before], *lent = laid(before, &at);
-    memcpy(writable_pitch + pitch_at, pitch, pitch_length);
-    uint64_t result = lash_side(lent, sheet.length, guarded_pitch + pitch_at, pitch_length, guarded_answer + at, room);
-    size_t length = lash_number_of(result) == LASH_TAKEN ? lash_second_of(result) : 0;
-    if (result != due)
-        fail("gives %llx, %llx is due", (unsigned long long)result, (unsigned long long)due);
+    size_t at;
+    const uint8_t *lent = laid(before, &at), *second = laid_second(before, pitch, pitch_length);
+    uint64_t result = lash_side(lent, sheet.length, second, pitch_length, guarded_answer + at, room);
+    size_t length = held(result, due, before, at);
     if (length && !side_possible(result, guarded_answer + at))
         fail("the side answer does not fit the stack or itself");
     if (!length && (lash_accepted(result, guarded_answer + at) || lash_side_racking(result, guarded_answer + at, 1) != LASH_NONE))
         fail("is refused, and the readers give figures");
-    if (!same(guarded_answer, pattern, 0, at) || !same(guarded_answer, pattern, at + length, AREA))
-        fail("a byte outside the side answer of %zu bytes was written", length);
 }
 
-/* In the dump a line: side, side room, result, sheet, short sheet, side answer. */
 static uint64_t check_side(FILE *out)
 {
     static uint8_t unused[LASH_ANSWER_SIZE], first[LASH_SIDE_SIZE];
@@ -845,15 +878,8 @@ static uint64_t check_side(FILE *out)
     if (memcmp(first, guarded_answer, length) != 0)
         fail("two calls on the same sheets differ");
     siding = 0;
-    if (out) {
-        fprintf(out, "side %zu %llu ", room, (unsigned long long)due);
-        print_hex(out, sheet.bytes, sheet.length);
-        fputc(' ', out);
-        print_hex(out, pitch, pitch_length);
-        fputc(' ', out);
-        print_hex(out, guarded_answer, length);
-        fputc('\n', out);
-    }
+    if (out)
+        dump_second(out, "side", due, pitch, pitch_length);
     return due;
 }
 
@@ -875,6 +901,7 @@ static void run_sides(unsigned long count, FILE *out)
 }
 
 #include "boundary_bay.h"
+#include "boundary_gear.h"
 
 /* Twenties. */
 
@@ -1080,6 +1107,7 @@ int main(int argc, char **argv)
     run_forecasts(count / SHEETS_A_FORECAST, out);
     run_sides(count / SHEETS_A_SIDE, out);
     run_bays(count / SHEETS_A_BAY, out);
+    run_gears(count / SHEETS_A_GEAR, out);
     run_twenties(count / SHEETS_A_QUESTION, out);
     run_roll(count / SHEETS_A_QUESTION, out);
     if (out && fclose(out) != 0) {

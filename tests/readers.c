@@ -1,6 +1,6 @@
 /* The readers of lash_check.h on one sheet: prints all that they give for its answer, tries places that the answer does not have,
    and reads it cut short at every length, with an unreadable page right behind, and with bytes behind it counted in. The same of the
-   report of a bay with this sheet in two of three rows.
+   report of a bay with this sheet in two of three rows, and of a list of choices.
 
    usage: readers SHEET
    Exit status 0: done; 1: a reader gave something for a place that is not there; 2: no sheet to read, or no memory to run in. */
@@ -159,6 +159,31 @@ static int within_cut_reports(const uint8_t *sheet, size_t length)
     return kept;
 }
 
+/* Whether the readers of a list give its choices, and of its first bytes, for every number of them, what the whole one has there, or
+   nothing: an unreadable page follows. */
+static int within_cut_lists(void)
+{
+    static const uint8_t list[] = {5, 0, 0, 1, 128, 3, 255};
+    const uint64_t whole = (uint64_t)sizeof list << 8;
+    size_t page = (size_t)sysconf(_SC_PAGESIZE);
+    uint8_t *area = mmap(NULL, 2 * page, PROT_READ | PROT_WRITE, MAP_PRIVATE | MAP_ANONYMOUS, -1, 0);
+    int kept = lash_choices(whole, list) == 5 && lash_choice(whole, list, 5) == LASH_NONE && lash_choice_uses(whole, list, 2, 7) &&
+               !lash_choice_uses(whole, list, 2, 0) && !lash_choice_uses(whole, list, 4, 8) && lash_choices(whole | LASH_LASHED, list) == 0;
+    if (area == MAP_FAILED || mprotect(area + page, page, PROT_NONE) != 0)
+        return -1;
+    for (size_t cut = 0; cut <= sizeof list; cut++) {
+        uint8_t *a = area + page - cut;
+        uint64_t r = (uint64_t)cut << 8;
+        memcpy(a, list, cut);
+        for (unsigned i = 0; i <= sizeof list; i++) {
+            kept &= same(lash_choice(r, a, i), lash_choice(whole, list, i));
+            kept &= lash_choice(r | LASH_LASHED, a, i) == LASH_NONE && !lash_choice_uses(r, a, i, 8);
+        }
+    }
+    munmap(area, 2 * page);
+    return kept;
+}
+
 int main(int argc, char **argv)
 {
     uint8_t sheet[LASH_SHEET_SIZE + 1], answer[LASH_ANSWER_SIZE];
@@ -178,6 +203,8 @@ int main(int argc, char **argv)
     memset(answer + lash_second_of(result), 1, sizeof answer - (size_t)lash_second_of(result));
     print_all(result, answer);
     int kept = within_cut_answers(answer, (size_t)lash_second_of(result)), of_bay = within_cut_reports(sheet, length);
-    int whole = bounded(result, answer) && bounded((uint64_t)sizeof answer << 8, answer);
-    return kept < 0 || of_bay < 0 ? 2 : kept && of_bay && whole && silent_when_refused(answer) ? 0 : 1;
+    int whole = bounded(result, answer) && bounded((uint64_t)sizeof answer << 8, answer), of_list = within_cut_lists();
+    if (kept < 0 || of_bay < 0 || of_list < 0)
+        return 2;
+    return kept && of_bay && of_list && whole && silent_when_refused(answer) ? 0 : 1;
 }

@@ -5,6 +5,7 @@ import io
 import re
 import struct
 import subprocess
+import tempfile
 from pathlib import Path
 from unittest import mock
 
@@ -60,10 +61,10 @@ def reply(output):
     return Reply(number + 256 * second, output)
 
 
-def lash(*words, output=b"", stdin=b"", binary=False, twenties=None, preview=None, roll=None, side=None, bay=None):
+def lash(*words, output=b"", stdin=b"", binary=False, twenties=None, preview=None, roll=None, side=None, bay=None, gear=None):
     """Status, output and messages of ./lash with these words, given what the program would write for the sheet, or for each, or what
     the calls for twenties and for roll would return, that for roll perhaps by the condition, or what the program would write for the
-    sheet with a move, or for its side walls, or a function that gives the reply for a bay."""
+    sheet with a move, or for its side walls, or functions that give the reply for a bay and for a stack with gear."""
     out, err = io.TextIOWrapper(io.BytesIO(), "utf-8"), io.StringIO()
     given = mock.patch("sys.stdin", io.TextIOWrapper(io.BytesIO(stdin)))
     with contextlib.redirect_stdout(out), contextlib.redirect_stderr(err), given:
@@ -74,7 +75,7 @@ def lash(*words, output=b"", stdin=b"", binary=False, twenties=None, preview=Non
             works_out = None if roll is None else lambda *condition: Reply(roll(*condition) if callable(roll) else roll)
             pitch = None if side is None else lambda *sheets: reply(side)
             calls = {"check": lambda data: reply(check(data)), "judge": judge, "call": call, "roll": works_out, "pitch": pitch}
-            calls["bay_call"] = bay
+            calls |= {"bay_call": bay, "gear_call": gear}
             status = main([str(word) for word in words], **calls)
         except SystemExit as end:
             status = end.code
@@ -114,6 +115,15 @@ uint64_t lash_side(const uint8_t *sheet, size_t sheet_len, const uint8_t *pitch,
     memcpy(side, fixed + 1, sizeof fixed - 1);
     return (uint64_t)(sizeof fixed - 1) << 8;
 }
+uint64_t lash_arrangements(const uint8_t *sheet, size_t sheet_len, const uint8_t *gear, size_t gear_len, uint8_t *list, size_t list_len)
+{
+    static const uint8_t fixed[] = {0%s}; /* behind a byte that stands for none */
+    (void)sheet, (void)sheet_len, (void)gear, (void)gear_len;
+    if (list_len < 258)
+        return 13 | 258 << 8;
+    memcpy(list, fixed + 1, sizeof fixed - 1);
+    return (uint64_t)(sizeof fixed - 1) << 8;
+}
 uint64_t lash_bay(const uint8_t *bay, size_t bay_len, uint8_t *report, size_t report_len)
 {
     return report_len < 20073 ? 13 | 20073 << 8 : %s(bay, bay_len, report, report_len);
@@ -132,12 +142,23 @@ uint64_t lash_roll(uint32_t sine, uint32_t cosine, uint32_t heave, uint32_t angl
 """
 
 
-def library_of(folder, answer, name="lash_check", twenties=0, roll=0, side=b""):
+def library_of(folder, answer, name="lash_check", twenties=0, roll=0, side=b"", arrangements=b""):
     """A shared library whose call gives this answer for every sheet, preview, forecast and bay, these numbers for all twenties and all
-    conditions of roll, and this side answer for all side walls."""
+    conditions of roll, this side answer for all side walls and this list for all gear."""
     source, made = folder / f"{name}.c", folder / f"{name}.so"
     numbers = (f"UINT64_C({number})" for number in (twenties, roll))
-    sides = "".join(f", {byte}" for byte in side)
-    source.write_text(LIBRARY % (name, ", ".join(map(str, answer)), name, name, sides, name, *numbers))
+    fixed = ("".join(f", {byte}" for byte in each) for each in (side, arrangements))
+    source.write_text(LIBRARY % (name, ", ".join(map(str, answer)), name, name, *fixed, name, *numbers))
     subprocess.run(["cc", "-shared", "-fPIC", source, "-o", made], check=True)
     return made
+
+
+def fails_by(test, script, words, answer, count=0, **fixed):
+    """That a script of reference/ shows a library that answers so, with these words, and ends with 2 where there is none."""
+    with tempfile.TemporaryDirectory() as folder:
+        library = library_of(Path(folder), answer, **fixed)
+        for path, status, shown in ((library, 1, words), (Path(folder, "none.so"), 2, "")):
+            command = [ROOT / "reference" / script, "--count", str(count), "--library", path]
+            done = subprocess.run(command, capture_output=True, text=True)
+            test.assertEqual(done.returncode, status, done.stderr)
+            test.assertIn(shown, done.stdout)

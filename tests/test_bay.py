@@ -2,11 +2,8 @@
 
 import random
 import struct
-import subprocess
-import tempfile
 import unittest
 from functools import cache
-from pathlib import Path
 
 from lashlib.calls import BayReply, Reply
 from reference.bay import exposed, expected, in_the_wind, sheets_of, with_winds
@@ -16,7 +13,7 @@ from reference.stored import BAY, bay_line, bay_question
 from sheets.answer import read_answer
 from sheets.bay import REPORT_ROOM, BadReport, pack_bay, read_report
 from sheets.sheet import parse
-from tests.support import B_ANSWER, ROOT, library_of
+from tests.support import B_ANSWER, fails_by
 from tests.test_compare import StandIn
 
 CHECK = StandIn()
@@ -391,13 +388,7 @@ class Comparison(unittest.TestCase):
 
     def test_the_script_fails_on_another_library(self):
         """One that gives the answer of box B for every bay."""
-        with tempfile.TemporaryDirectory() as folder:
-            library = library_of(Path(folder), B_ANSWER)
-            for path, status, words in ((library, 1, "FAULT: third: room "), (Path(folder, "none.so"), 2, "")):
-                command = [ROOT / "reference" / "compare_bay", "--count", "0", "--library", path]
-                done = subprocess.run(command, capture_output=True, text=True)
-                self.assertEqual(done.returncode, status, done.stderr)
-                self.assertIn(words, done.stdout)
+        fails_by(self, "compare_bay", "FAULT: third: room ", B_ANSWER)
 
 
 def whole(answer):

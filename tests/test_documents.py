@@ -7,13 +7,14 @@ import unittest
 from struct import calcsize
 
 from lashlib.calls import BayReply
-from reference import bay, preview, roll, side, twenties
+from reference import arrangements, bay, preview, roll, side, twenties
 from reference.bay_held import judge_bay
 from reference.forecast import factor
-from reference.judge import KEPT, expected, judge
+from reference.judge import KEPT, MARGIN, expected, judge
 from reference.roll_asked import USUAL
 from sheets.answer import read_answer
 from sheets.bay import LENGTH, MOST_ROWS, REPORT_ROOM, TOTALS, pack_bay, read_report
+from sheets.gear import LIST_ROOM, read_list
 from sheets.limits import (
     COMPRESSION_LIMIT, CORNER_LIMIT, LASH_ATHWART_LIMIT, LASH_VERTICAL_LIMIT, RACKING_LIMIT,
 )
@@ -74,6 +75,7 @@ class SheetDocument(unittest.TestCase):
             ("Refused by a forecast alone", "lash_forecast_number", [20, 21]),
             ("Refused by the call for side walls alone", "lash_side_number", [14, 15]),
             ("Refused by a bay alone", "lash_bay_number", [16]),
+            ("Refused by the call for arrangements alone", "lash_arrangements_number", [24]),
             ("Numbers of its refusals", "lash_twenties_number", [22, 23]),
             ("Numbers of the refusals of roll", "lash_roll_number", [18, 19]),
         ):
@@ -112,6 +114,19 @@ class SheetDocument(unittest.TestCase):
         self.assertIn(f"of {TOTALS.size + LENGTH.size} to {REPORT_ROOM:,} bytes", TEXT)
         header = (ROOT / "include" / "lash_check.h").read_text()
         for name, size in (("BAY_SIZE", longest), ("REPORT_SIZE", REPORT_ROOM), ("MOST_ROWS", MOST_ROWS)):
+            self.assertIn(f"#define LASH_{name} {size}\n", header)
+
+    def test_arrangements(self):
+        """The example's stack, gear and list, the order of 4 lashes, and what it says of the sizes."""
+        sheet, gear, listed = (hex_of(begin) for begin in ("47 bytes of a stack sheet:", "41 bytes of gear:", "Its list, 5 bytes"))
+        self.assertEqual((len(sheet), len(gear), len(listed)), (47, 41, 5))
+        due = arrangements.expected(sheet, gear)
+        self.assertEqual([right for _, right in arrangements.by_fractions(due, MARGIN)], [False, True, True, True])
+        self.assertEqual(read_list(listed), (1, 2, 3))
+        self.assertIn(f"in order, {', '.join(map(str, arrangements.choices(4)))};", TEXT)
+        self.assertIn(f"The list buffer must hold {LIST_ROOM} bytes", TEXT)
+        header = (ROOT / "include" / "lash_check.h").read_text()
+        for name, size in (("LIST_SIZE", LIST_ROOM), ("GEAR_SIZE", 1 + MOST_LASHES * LASH.size)):
             self.assertIn(f"#define LASH_{name} {size}\n", header)
 
     def test_twenties(self):

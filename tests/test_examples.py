@@ -7,7 +7,7 @@ from lashtool.bay_description import read_bay
 from lashtool.description import describe
 from lashtool.sources import Source
 from lashtool.template import template
-from reference import bay
+from reference import arrangements, bay
 from reference.cases import HOOKED, OVER_HEAVY, OVER_LIGHT
 from reference.forecast import factor
 from reference.heavier import exact_faults
@@ -34,6 +34,7 @@ SHOWN = {
     "long-rods": ("accepted", []),
     "from-roll": ("accepted, its accelerations worked out from the ship's roll", []),
     "side-walls": ("accepted, and not its side walls", []),
+    "gear-aboard": ("accepted, and with fewer rods than are aboard", []),
     "last-box": ("accepted, and not with a heavier box on top", []),
     "light-below": ("accepted, and a heavier box below lowers a racking and a tension, but no lash force", []),
     "racking": ("unacceptable racking", [(end, RACKING, 1) for end in BOTH]),
@@ -126,6 +127,15 @@ class Examples(unittest.TestCase):
         for sheet, verdict, racking in ((told.sheet, 1, 131_687), (replace(told.sheet, tiers=lighter), 0, 124_526)):
             answer = reported(sheet, told.longitudinal)
             self.assertEqual((answer.verdict, answer.racking[0]), (verdict, racking))
+
+    def test_the_gear_aboard(self):
+        """Three of its five rods hold it, in one way, and two do not; no choice hangs on the last 100 N."""
+        sheet = sheet_of("gear-aboard")
+        self.assertEqual(sheet.door, sheet.closed)
+        gear = arrangements.Due(sheet=replace(sheet, door=(), closed=()), lashes=sheet.door)
+        found = list(arrangements.by_fractions(gear, 100))
+        self.assertEqual([choice for choice, right in found if right], [26, 15, 23, 27, 29, 30, 31])
+        self.assertEqual([choice for choice, right in found if right is None], [])
 
     def test_the_forecast_decides(self):
         sheet = sheet_of("feeder")

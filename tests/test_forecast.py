@@ -2,12 +2,9 @@
 catches each slip."""
 
 import random
-import subprocess
-import tempfile
 import unittest
 from dataclasses import replace
 from math import ceil, isqrt
-from pathlib import Path
 from unittest import mock
 
 from lashlib.calls import Reply
@@ -21,7 +18,7 @@ from reference.stack import exact, wind
 from sheets.limits import findings
 from sheets.answer import End, LashForces
 from sheets.sheet import Refused, parse
-from tests.support import B_ANSWER, ROOT, answer_bytes, library_of
+from tests.support import B_ANSWER, answer_bytes, fails_by
 
 
 class Factors(unittest.TestCase):
@@ -219,13 +216,7 @@ class Comparison(unittest.TestCase):
 
     def test_the_script_fails_on_another_library(self):
         """One that gives the answer of box B for every sheet."""
-        with tempfile.TemporaryDirectory() as folder:
-            library = library_of(Path(folder), B_ANSWER)
-            for path, status, words in ((library, 1, "FAULT: step: H "), (Path(folder, "none.so"), 2, "")):
-                command = [ROOT / "reference" / "compare_forecast", "--count", "0", "--library", path]
-                done = subprocess.run(command, capture_output=True, text=True)
-                self.assertEqual(done.returncode, status, done.stderr)
-                self.assertIn(words, done.stdout)
+        fails_by(self, "compare_forecast", "FAULT: step: H ", B_ANSWER)
 
 
 if __name__ == "__main__":

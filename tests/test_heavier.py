@@ -1,12 +1,9 @@
 """A heavier box in the same stack: the second program's figures by hand, its pairs, and that the comparison catches each slip."""
 
-import subprocess
-import tempfile
 import unittest
 from dataclasses import replace
 from fractions import Fraction
 from math import ceil
-from pathlib import Path
 from types import SimpleNamespace
 from unittest import mock
 
@@ -18,7 +15,7 @@ from reference.judge import MARGIN
 from reference.stack import exact
 from sheets.answer import LashForces
 from sheets.sheet import parse
-from tests.support import B_ANSWER, ROOT, library_of
+from tests.support import B_ANSWER, fails_by
 
 PAIRS = [drawn(seed) for seed in range(1, 121)]
 
@@ -208,13 +205,7 @@ class Comparison(unittest.TestCase):
 
     def test_the_script_fails_on_another_library(self):
         """One that gives the answer of box B for every sheet."""
-        with tempfile.TemporaryDirectory() as folder:
-            library = library_of(Path(folder), B_ANSWER)
-            for path, status, words in ((library, 1, "FAULT: seed "), (Path(folder, "none.so"), 2, "")):
-                command = [ROOT / "reference" / "compare_heavier", "--count", "20", "--library", path]
-                done = subprocess.run(command, capture_output=True, text=True)
-                self.assertEqual(done.returncode, status, done.stderr)
-                self.assertIn(words, done.stdout)
+        fails_by(self, "compare_heavier", "FAULT: seed ", B_ANSWER, count=20)
 
 
 if __name__ == "__main__":

@@ -1,10 +1,7 @@
 """Preview of a move: the second program's figures and order of refusals, and that its comparison catches each slip."""
 
 import hashlib
-import subprocess
-import tempfile
 import unittest
-from pathlib import Path
 
 from lashlib.calls import Reply
 from reference.making import make
@@ -12,7 +9,7 @@ from reference.preview import expected, previewed, tier_place, with_mass
 from reference.preview_asked import FIGURES, GREATEST, KINDS, STACK, TIERS, Move, moves
 from reference.preview_held import held, own_refusal, refusal
 from sheets.sheet import ANSWER_ROOM, Refused, pack, parse
-from tests.support import ROOT, library_of
+from tests.support import fails_by
 
 STACK_BYTES = pack(STACK)
 SEEDS = range(1, 41)
@@ -183,13 +180,7 @@ class Comparison(unittest.TestCase):
 
     def test_the_script_fails_on_another_library(self):
         """One that answers every sheet and every preview alike."""
-        with tempfile.TemporaryDirectory() as folder:
-            library = library_of(Path(folder), b"\0\0")
-            for path, status, words in ((library, 1, "FAULT: seed 1, extreme"), (Path(folder, "none.so"), 2, "")):
-                command = [ROOT / "reference" / "compare_preview", "--count", "20", "--library", path]
-                done = subprocess.run(command, capture_output=True, text=True)
-                self.assertEqual(done.returncode, status, done.stderr)
-                self.assertIn(words, done.stdout)
+        fails_by(self, "compare_preview", "FAULT: seed 1, extreme", b"\0\0", count=20)
 
 
 class Moves(unittest.TestCase):

@@ -1,18 +1,15 @@
 """Accelerations from roll: the second program's figures, and that its comparison catches each slip."""
 
-import subprocess
-import tempfile
 import unittest
 from dataclasses import astuple, replace
 from fractions import Fraction
 from math import ceil, floor
-from pathlib import Path
 from unittest import mock
 
 from reference import roll
 from reference.roll import Accelerations, Condition, Refused, accelerations, exact, factor, faults, packed
 from reference.roll_asked import FIGURES, UPRIGHT, USUAL, conditions, unit
-from tests.support import ROOT, library_of
+from tests.support import fails_by
 
 
 class Figures(unittest.TestCase):
@@ -207,13 +204,7 @@ class Comparison(unittest.TestCase):
 
     def test_the_script_fails_on_another_library(self):
         """One that says the same of all, which is due for a single condition."""
-        with tempfile.TemporaryDirectory() as folder:
-            library = library_of(Path(folder), b"", roll=packed(accelerations(USUAL)))
-            for path, status, words in ((library, 1, "FAULT: figure"), (Path(folder, "none.so"), 2, "")):
-                command = [ROOT / "reference" / "compare_roll", "--count", "0", "--library", path]
-                done = subprocess.run(command, capture_output=True, text=True)
-                self.assertEqual(done.returncode, status, done.stderr)
-                self.assertIn(words, done.stdout)
+        fails_by(self, "compare_roll", "FAULT: figure", b"", roll=packed(accelerations(USUAL)))
 
 
 if __name__ == "__main__":

@@ -1,12 +1,9 @@
 """Side walls under pitching: the second program's figures by hand, and that its comparison catches each slip."""
 
-import subprocess
-import tempfile
 import unittest
 from fractions import Fraction
 from itertools import accumulate
 from math import ceil, floor
-from pathlib import Path
 
 from reference.cases import BOX_B, box, stack
 from reference.side import Due, expected, forces, rackings, read_pitch, reported, shifts
@@ -14,7 +11,7 @@ from reference.side_asked import AT_LIMIT, FAULTY, FIGURES, HEAVY, WHOLE, pairs
 from reference.stack import SHARE_TO_TOP
 from sheets.sheet import Refused, parse
 from sheets.side import SIDE_LIMIT, SIDE_ROOM, SideAnswer, pack_pitch, pack_side, read_side
-from tests.support import B_ANSWER, ROOT, library_of
+from tests.support import B_ANSWER, fails_by
 
 
 def of(tiers, longitudinal, rule=1, route=0):
@@ -241,13 +238,7 @@ class Comparison(unittest.TestCase):
     def test_the_script_fails_on_another_library(self):
         """One that gives the same side answer for all, which is due for the first figure."""
         due = expected(FIGURES[0].sheet, FIGURES[0].pitch)
-        with tempfile.TemporaryDirectory() as folder:
-            library = library_of(Path(folder), B_ANSWER, side=due.data)
-            for path, status, words in ((library, 1, "FAULT: figure: "), (Path(folder, "none.so"), 2, "")):
-                command = [ROOT / "reference" / "compare_side", "--count", "0", "--library", path]
-                done = subprocess.run(command, capture_output=True, text=True)
-                self.assertEqual(done.returncode, status, done.stderr)
-                self.assertIn(words, done.stdout)
+        fails_by(self, "compare_side", "FAULT: figure: ", B_ANSWER, side=due.data)
 
 
 def fails(test, asked):

@@ -24,6 +24,7 @@ OWN = {
     "forecast": (("crates/forecast/specs/", "crates/forecast_factor/specs/"), 35),
     "side": (("crates/side_walls/specs/", "crates/side_parts/specs/", "crates/side/specs/"), 70),
     "bay": ((*BAY_CRATES, "crates/answer/specs/Places.antt", "crates/lash/specs/BayCalled.antt"), 290),
+    "arrangements": (("crates/choices/specs/", "crates/gear/specs/", "crates/arrangements/specs/"), 115),
     "roll": (
         (
             "crates/roll/specs/",

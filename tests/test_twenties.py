@@ -2,19 +2,16 @@
 catches each slip."""
 
 import re
-import subprocess
-import tempfile
 import unittest
 from dataclasses import replace
 from fractions import Fraction
-from pathlib import Path
 from unittest import mock
 
 from reference import twenties
 from reference.twenties import PRINTED, TABLES, USED, Refused, Verdict, judge, packed, permitted, printed, used
 from reference.twenties_asked import questions
 from reference.twenties_reached import Reached
-from tests.support import ROOT, library_of
+from tests.support import ROOT, fails_by
 
 DEFINED = (ROOT / "crates" / "twenties" / "specs" / "Tables.antt").read_text(encoding="utf-8")
 CODED = (ROOT / "crates" / "twenties" / "src" / "tables.rt").read_text(encoding="utf-8")
@@ -225,13 +222,7 @@ class Comparison(unittest.TestCase):
     def test_the_script_fails_on_another_library(self):
         """One that says yes to all, with what is due for a single question."""
         said = packed(judge(0, 412, (24_000, 22_000, 20_000, 18_000)))
-        with tempfile.TemporaryDirectory() as folder:
-            library = library_of(Path(folder), b"", twenties=said)
-            for path, status, words in ((library, 1, "FAULT: near permitted"), (Path(folder, "none.so"), 2, "")):
-                command = [ROOT / "reference" / "compare_twenties", "--count", "0", "--library", path]
-                done = subprocess.run(command, capture_output=True, text=True)
-                self.assertEqual(done.returncode, status, done.stderr)
-                self.assertIn(words, done.stdout)
+        fails_by(self, "compare_twenties", "FAULT: near permitted", b"", twenties=said)
 
     def missed(self, left_out=lambda each: False):
         reached = Reached()

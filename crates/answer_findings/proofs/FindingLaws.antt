@@ -1,13 +1,13 @@
 -- The findings in bytes, kind by kind, against document 01's list of findings.
 use mathlib.Core.Path.{_≡_, refl, sym, ap, ap₂, _∙_}
-use mathlib.Core.Bool.{Bool, true, false, cond}
+use mathlib.Core.Bool.{Bool, true, false, cond, _&&_}
 use mathlib.Core.List.{List, [], _∷_, _++_, flatMap, append-assoc, append-nil}
-use Prim.Native.Nat.{ℕ, zero, suc, _+_, _-_, _/_, _<_, _≤_}
-use native.Mathlib.Nat.{add-zero}
+use Prim.Native.Nat.{ℕ, zero, suc, _+_, _-_, _*_, _/_, _<_, _≤_}
+use native.Mathlib.Nat.{add-zero, zero-add}
 use native.Mathlib.Omega.{arith}
-use borrow.Author.Tests.{ltb-true, ltb-false}
-use lib.Dec.{ltb}
-use lib.ListN.{length, getD, take, drop, replicate, length-replicate}
+use borrow.Author.Tests.{ltb-true, ltb-false, ne-eqb}
+use lib.Dec.{ltb, eqb}
+use lib.ListN.{length, getD, take, drop, replicate, length-replicate, length-append}
 use lib.Seq.{sets, sets-eq, getD-take}
 use Rattle.sheet.specs.Layout.{blankLash}
 use Rattle.sheet.specs.declared.Lash.{Lash}
@@ -18,7 +18,7 @@ use Rattle.sheet.specs.Ends.{End, door, closed, lashesOf}
 use Rattle.answer.specs.Limits.{cornerTensionLimit, safeLoad}
 use Rattle.answer.specs.Findings.{Finding, Kind, racking, compression, cornerTension, lockTension, lashTension, lashVertical, lashAthwart}
 use Rattle.answer.specs.Findings.{endCode, kindCode, figuresOf, firstIndex, indexCount, sizeAt, limitAt, exceeded, named, findingsFrom}
-use Rattle.answer.specs.Findings.{endFindings, findingsBy, findings}
+use Rattle.answer.specs.Findings.{endFindings, findingsBy, findings, accepted}
 use Rattle.answer.specs.Answers.{findingBytes}
 use Rattle.arith.specs.Lists.{from, padded}
 use Rattle.answer_findings.specs.declared.Found.{Found}
@@ -139,6 +139,15 @@ module _ (e : End) (t : Sheet) (f : EndFigures) where
           (none-bytes e t f lockTension (λ i. lock-passed e t f i low) 0 (t .ntiers))
           ∙ append-nil _
 
+-- a sum is 0 where both parts are, three times a number where the number is
+pub sum-none : (a b : ℕ) → eqb (a + b) 0 ≡ eqb a 0 && eqb b 0
+sum-none zero b = rw (zero-add b) refl
+sum-none (suc a) b = rw (ne-eqb (suc a + b) 0 (λ e. omega arith), ne-eqb (suc a) 0 (λ e. omega arith)) refl
+
+thrice-none : (a : ℕ) → eqb (3 * a) 0 ≡ eqb a 0
+thrice-none zero = refl
+thrice-none (suc a) = rw (ne-eqb (3 * suc a) 0 (λ e. omega arith), ne-eqb (suc a) 0 (λ e. omega arith)) refl
+
 -- an end: kinds 1 to 7
 module _ (t : Sheet) (f : Figures) (e : End) (ls : List Lash) (m : ℕ) (few : length (lashesOf e t) ≡ m)
     (each : (j : ℕ) → j < m → getD (lashesOf e t) j blankLash ≡ getD ls j blankLash) where
@@ -159,6 +168,22 @@ module _ (t : Sheet) (f : Figures) (e : End) (ls : List Lash) (m : ℕ) (few : l
       let v = kind-bytes e t g lashVertical (λ i. refl) m _ few (λ i h. refl) in
       let a = kind-bytes e t g lashAthwart (λ i. refl) m _ few (λ i h. refl) in
       simp (bytes-append, append-nil, append-assoc, tierFindings, lashFindings, r, c, ← s, p, v, a)
+
+  -- the end has no finding where it has no byte of one
+  pub end-none :
+      {pull : PullLimit} →
+      pull ≡ lowerOf (safeLoad (t .head .lockMaterial) (t .head .lockBreakingLoad)) →
+      eqb (length (tierFindings (endCode e) (t .ntiers) pull (figuresOf e f) ++ lashFindings (endCode e) ls m (figuresOf e f))) 0
+      ≡ eqb (length (endFindings named t f e)) 0
+  end-none lower = rw (lower, end-bytes, bytes-length (endFindings named t f e)) (thrice-none (length (endFindings named t f e)))
+
+-- a stack is accepted where neither end has a finding
+pub ends-accepted :
+    (t : Sheet) (f : Figures) → accepted t f ≡ eqb (length (endFindings named t f door)) 0 && eqb (length (endFindings named t f closed)) 0
+unfolding findingsBy
+ends-accepted t f =
+    rw (length-append (endFindings named t f door) (endFindings named t f closed))
+    (sum-none (length (endFindings named t f door)) (length (endFindings named t f closed)))
 
 -- both ends
 module _ (t : Sheet) (f : Figures) (s : Sized t) (pull : PullLimit)

@@ -1,2 +1,2 @@
--- What the functions' proofs rest on.
-mod FindingLaws
+-- What the functions' proofs rest on; the laws are for the crates above too.
+pub mod FindingLaws

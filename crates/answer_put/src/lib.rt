@@ -14,7 +14,7 @@ use limits::safe_load;
 use sheet::Lash;
 
 // The size of a racking, its value without the sign.
-fn size(x: i32) -> u64
+pub fn size(x: i32) -> u64
     ensures { λ r. ⌜ r ≡ natAbs x ⌝ }
 {
     if x < 0 {

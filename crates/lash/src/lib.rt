@@ -12,6 +12,8 @@ ghost use Rattle.bay.specs.Reports as B;
 ghost use Rattle.bay.specs.Reports.{BayReported};
 ghost use Rattle.bay.specs.inner.Named.{bayReturned, bayWritten};
 ghost use Rattle.side.specs.Sides.{Sided};
+ghost use Rattle.arrangements.specs.Arrangements.{Listed};
+ghost use Rattle.arrangements.specs.inner.Named.{listReturned, listWritten};
 ghost use Rattle.roll.specs.Rounded.{conditionA};
 ghost use Rattle.packing.specs.Called.{Called};
 ghost use Rattle.lash.specs.BayCalled.{BayCalled};
@@ -97,6 +99,18 @@ pub extern "C" fn lash_side(sheet: &[u8], pitch: &[u8], answer: &mut [u8]) -> u6
     ensures { λ r. ⌜ Called (Sided (now (sheet .entry)) (now (pitch .entry)) (now (answer .entry)) (now (answer .exit))) r ⌝ }
 {
     let outcome = side::side(sheet, pitch, answer);
+    packed_outcome(outcome)
+}
+
+// Lists the arrangements of the gear aboard as arrangements::list does: `gear` is a count and its lashes. What is returned is told as
+// lash_check tells it.
+#[no_mangle]
+pub extern "C" fn lash_arrangements(sheet: &[u8], gear: &[u8], list: &mut [u8]) -> u64
+    ensures listed { λ r. ⌜ Called (Listed kept (now (sheet .entry)) (now (gear .entry)) (now (list .entry)) (now (list .exit))) r ⌝ }
+    ensures named { λ r. ⌜ Called (λ o. (o ≡ listReturned (now (sheet .entry)) (now (gear .entry)) (length (now (list .entry))))
+        × (now (list .exit) ≡ listWritten (now (sheet .entry)) (now (gear .entry)) (now (list .entry)))) r ⌝ }
+{
+    let outcome = arrangements::list(sheet, gear, list);
     packed_outcome(outcome)
 }
 

@@ -127,6 +127,15 @@ pub sheet-numbers :
     (1 ≤ number) × (number ≤ 12) × (second ≤ 451)
 sheet-numbers s e = subst (Within 12 451) e (sheet-bounded s)
 
+-- of an end whose count stands at 290 or before
+pub end-numbers :
+    (n : ℕ) (s : List ℕ) (at : ℕ) →
+    at ≤ 290 →
+    {number second : ℕ} →
+    first (endRows n s at) ≡ Refused number second →
+    (1 ≤ number) × (number ≤ 12) × (second ≤ 451)
+end-numbers n s at h e = subst (Within 12 451) e (end-bounded s n at h)
+
 wider : {c p : ℕ} → 12 ≤ c → 451 ≤ p → (q : Reading) → Within 12 451 q → Within c p q
 wider a b Taken w = tt
 wider a b (Refused number second) w = (w .0, omega (arith, w .1), omega (arith, w .2))

@@ -28,7 +28,7 @@ module _ (n : ℕ) (s : List ℕ) (at : ℕ) (h : Clear (endRows n s at)) where
   lash-held : (k : ℕ) → k < byteAt s at → getD (lashesIn s at (byteAt s at)) k blankLash ≡ lashIn s at k
   lash-held k q = entry-at (lashIn s at) blankLash (byteAt s at) 8 k q
 
-  end-fits : EndFits n (lashesIn s at (byteAt s at)) (byteAt s at)
+  pub end-fits : EndFits n (lashesIn s at (byteAt s at)) (byteAt s at)
   unfolding notLater
   end-fits =
       record {

@@ -117,7 +117,7 @@ fn test_each_lash(n: u64, s: &[u8], at: usize, count: usize) -> Reading
 }
 
 // An end of a stack of n tiers: the count at `at`, then its lashes.
-fn test_end(n: u64, s: &[u8], at: usize) -> Reading
+pub fn test_end(n: u64, s: &[u8], at: usize) -> Reading
     requires { ⌜ at < 10000 ⌝ }
     ensures { λ r. ⌜ r ≡ first (endRows n (now (s .entry)) at) ⌝ }
 {

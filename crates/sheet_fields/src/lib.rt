@@ -129,7 +129,7 @@ pub fn blank_tier() -> Tier
     }
 }
 
-fn blank_lash() -> Lash
+pub fn blank_lash() -> Lash
     ensures { λ r. ⌜ r ≡ blankLash ⌝ }
 {
     Lash {

@@ -1,0 +1,142 @@
+-- A stack with the same lashes at both ends: what an end's figures take, and that its findings are those of the check.
+use Prim.Native.Nat.{ℕ, _<_, _≤_}
+use mathlib.Core.Bool.{Bool, true, false, not, _&&_}
+use mathlib.Core.List.{List}
+use mathlib.Core.Path.{_≡_, refl, sym, ap, ap₂, subst, _∙_}
+use native.Mathlib.Omega.{arith}
+use lib.Dec.{eqb}
+use lib.ListN.{length, getD}
+use lib.Seq.{getD-take}
+use Rattle.sheet.specs.declared.Lash.{Lash}
+use Rattle.sheet.specs.declared.Sheet.{Sheet}
+use Rattle.sheet.specs.declared.Tier.{Tier}
+use Rattle.sheet.specs.Fits.{Fits}
+use Rattle.sheet.specs.Layout.{blankLash}
+use Rattle.sheet.specs.inner.Limits.{LashLimits}
+use Rattle.sheet.specs.Ends.{End, door, closed, tiersOf, lashesOf}
+use Rattle.sheet.proofs.Bools.{not-true, not-false}
+use Rattle.sheet.proofs.Limits.{lash-wider}
+use Rattle.sheet.proofs.SheetLimits.{sheet-limits}
+use Rattle.springs.specs.inner.Elimination.{solved}
+use Rattle.statics.specs.declared.EndFigures.{EndFigures}
+use Rattle.statics.specs.declared.Figures.{Figures}
+use Rattle.statics.specs.inner.Computed.{springsOf, stiffnessesOf, figuresAt, endFiguresBy, figuresBy, loadRuleOf}
+use Rattle.figures_lashes.specs.inner.Lashes.{LashesMeasured, LevelStiffnesses}
+use Rattle.figures.specs.inner.Ends.{Workable}
+use Rattle.figures.proofs.EndLaws.{workable, springs-long}
+use Rattle.limits.specs.declared.PullLimit.{PullLimit}
+use Rattle.answer.specs.Findings.{endCode, figuresOf, named, endFindings}
+use Rattle.answer_findings.proofs.FindingLaws.{end-none, ends-accepted}
+use Rattle.end_verdict.specs.inner.NoneOver.{noneFound}
+use Rattle.end_verdict.proofs.NoneFound.{none-found}
+use Rattle.gear.specs.Gear.{withLashes}
+use Rattle.chosen_lashes.specs.declared.Chosen.{Chosen}
+use Rattle.chosen_lashes.specs.inner.Gathered.{heldOf}
+use Rattle.chosen_lashes.proofs.Picked.{levels-long}
+use Rattle.chosen_lashes.proofs.Held.{held-measured, held-levels}
+use Rattle.arrangements_judge.specs.inner.Judged.{lashesIn, EndGiven, noFinding, StackGiven, acceptedWith}
+
+-- an end that is given: its lashes are measured
+module _ {n : ℕ} {k : List ℕ} {ts : List Tier} {g : Chosen} {ω vmax vmin : List ℕ} (e : EndGiven n k ts g ω vmax vmin) where
+  count-is : g .count ≡ length (lashesIn g)
+  count-is = ap (λ (x : Chosen). x .count) (e .held)
+
+  few : length (lashesIn g) ≤ 8
+  few = omega (arith, count-is, e .works .few-lashes)
+
+  each-ten : (j : ℕ) → j < length (lashesIn g) → LashLimits 10 (getD (lashesIn g) j blankLash)
+  each-ten j q = lash-wider (e .works .few) (e .works .each j q)
+
+  pub given-measured : LashesMeasured (g .count) (lashesIn g) (g .lengths) (g .stiffnesses)
+  given-measured =
+      subst (λ (x : Chosen). LashesMeasured (x .count) (lashesIn g) (x .lengths) (x .stiffnesses)) (sym (e .held))
+      (held-measured (lashesIn g) few each-ten)
+
+  pub given-levels : LevelStiffnesses (lashesIn g) (g .levels)
+  given-levels =
+      subst (λ (x : Chosen). LevelStiffnesses (lashesIn g) (x .levels)) (sym (e .held)) (held-levels (lashesIn g) few each-ten)
+
+  pub given-long : length (g .levels) ≡ 10
+  given-long = ap (λ (x : Chosen). length (x .levels)) (e .held) ∙ levels-long (lashesIn g)
+
+-- a stack that is given, with lashes with which it fits
+module _ {t : Sheet} {pull : PullLimit} {k h ω vmax vmin : List ℕ} (given : StackGiven t pull k h ω vmax vmin) {g : Chosen}
+    (held : g ≡ heldOf (lashesIn g))
+    (fits : Fits (withLashes (lashesIn g) t)) where
+  abbrev with-them : Sheet
+  with-them = withLashes (lashesIn g) t
+
+  abbrev figures : Figures
+  figures = figuresBy (loadRuleOf t) with-them
+
+  abbrev springs : End → List ℕ
+  springs door = k
+  springs closed = h
+
+  springs-are : (e : End) → springs e ≡ springsOf e (tiersOf t)
+  springs-are door = given .door-springs
+  springs-are closed = given .closed-springs
+
+  same : (e : End) → lashesIn g ≡ lashesOf e with-them
+  same door = ap lashesIn held
+  same closed = ap lashesIn held
+
+  counted : g .count ≡ length (lashesIn g)
+  counted = ap (λ (x : Chosen). x .count) held
+
+  pub end-given : (e : End) → EndGiven (t .ntiers) (springs e) (tiersOf t) g ω vmax vmin
+  end-given e =
+      record {
+        works = rw (springs-are e, same e) works;
+        long = (ap length (springs-are e) ∙ springs-long e (tiersOf t), given .long .0, given .long .1, given .long .2);
+        held = held;
+      }
+    where
+      works : Workable (t .ntiers) (springsOf e (tiersOf t)) (tiersOf t) (g .count) (lashesOf e with-them) ω vmax vmin
+      works =
+          workable (sheet-limits fits) e (loadRuleOf t) (g .count) ω vmax vmin (omega (arith, counted, fits .door .few)) (given .loaded)
+          (given .weighed)
+
+  -- an end's figures by its springs, its lashes and the loads
+  abbrev figuresWith : List ℕ → List Lash → List ℕ → EndFigures
+  figuresWith k ls ω = figuresAt (t .ntiers) k (tiersOf t) ls (solved (t .ntiers) k (stiffnessesOf ls) ω)
+
+  by-name : (e : End) → endFiguresBy (loadRuleOf t) e with-them ≡ figuresOf e figures
+  unfolding figuresBy
+  by-name door = refl
+  by-name closed = refl
+
+  end-figures : (e : End) → figuresWith (springs e) (lashesIn g) ω ≡ figuresOf e figures
+  end-figures e =
+      ap (λ (k : List ℕ). figuresWith k (lashesIn g) ω) (springs-are e)
+      ∙ ap₂ (λ (ls : List Lash) (ω : List ℕ). figuresWith (springsOf e (tiersOf t)) ls ω) (same e) (given .loaded .named)
+      ∙ by-name e
+
+  pub end-judged :
+      (e : End) →
+      noFinding (t .ntiers) (springs e) (tiersOf t) g pull ω ≡ eqb (length (endFindings named with-them figures e)) 0
+  end-judged e =
+      ap (λ (f : EndFigures). noneFound (t .ntiers) pull (g .lashes) (g .count) f) (end-figures e)
+      ∙ sym (none-found (endCode e) (t .ntiers) pull (g .lashes) (g .count) (figuresOf e figures))
+      ∙ end-none with-them figures e (g .lashes) (g .count) (sym (ap length (same e)) ∙ sym counted)
+      (λ j q. ap (λ (l : List Lash). getD l j blankLash) (sym (same e)) ∙ getD-take (g .count) (g .lashes) j blankLash q)
+      (given .lower)
+
+  -- accepted where neither end has a finding
+  ends-are :
+      {a b : Bool} →
+      a ≡ noFinding (t .ntiers) k (tiersOf t) g pull ω →
+      b ≡ noFinding (t .ntiers) h (tiersOf t) g pull ω →
+      a && b ≡ acceptedWith (lashesIn g) t
+  ends-are p q = ap₂ (λ x y. x && y) (p ∙ end-judged door) (q ∙ end-judged closed) ∙ sym (ends-accepted with-them figures)
+
+  pub door-found : {a : Bool} → a ≡ noFinding (t .ntiers) k (tiersOf t) g pull ω → not a ≡ true → false ≡ acceptedWith (lashesIn g) t
+  door-found {a} p e = ends-are (sym (not-true a e) ∙ p) refl
+
+  pub door-clear :
+      {a b : Bool} →
+      a ≡ noFinding (t .ntiers) k (tiersOf t) g pull ω →
+      not a ≡ false →
+      b ≡ noFinding (t .ntiers) h (tiersOf t) g pull ω →
+      b ≡ acceptedWith (lashesIn g) t
+  door-clear {a} p e q = ends-are (sym (not-false a e) ∙ p) q

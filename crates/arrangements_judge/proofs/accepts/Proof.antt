@@ -1,0 +1,36 @@
+-- `arrangements_judge::accepts`: the door end has a finding, or the closed end decides.
+use Rattle.sheet.specs.Ends.{door, closed}
+use Rattle.arrangements_judge.proofs.EndsJudged.{end-given, door-found, door-clear}
+use Rattle.arrangements_judge.proofs.accepts.Statement.{statement}
+use Rattle.arrangements_judge.proofs.accepts.Tie as tie
+
+-- from the door end to the start
+abbrev start : tie.After-end-without-finding → tie.Start
+start c = c .before .before .before .before .before .before .before
+
+end-without-finding-requires : tie.Need-end-without-finding-requires
+end-without-finding-requires c κs =
+    let p = c .before .before .before .before .before .before .pre in
+    end-given (p .0) (p .1 .0) (p .1 .1) door
+
+returns : tie.Need-returns
+returns c =
+    let d = c .before in
+    let p = start d .pre in
+    door-found (p .0) (p .1 .0) (p .1 .1) (d .end-without-finding .ensures) (c .if1 .taken)
+
+end-without-finding-requires-2 : tie.Need-end-without-finding-requires-2
+end-without-finding-requires-2 c κs =
+    let p = start (c .before) .pre in
+    end-given (p .0) (p .1 .0) (p .1 .1) closed
+
+returns-2 : tie.Need-returns-2
+returns-2 c =
+    let d = c .before .before in
+    let p = start d .pre in
+    door-clear (p .0) (p .1 .0) (p .1 .1) (d .end-without-finding .ensures) (c .before .if1 .left) (c .end-without-finding2 .ensures)
+
+pub accepts-spec : {M : Type 1} → statement M
+accepts-spec =
+    tie.close
+    (tie.spec end-without-finding-requires returns end-without-finding-requires-2 returns-2)

@@ -1,0 +1,51 @@
+-- Contracts of inner functions: what is given of a stack before its lashes are chosen, and whether it is accepted with them. Nothing here
+-- need be believed.
+use Prim.Native.Nat.{ℕ}
+use mathlib.Core.Bool.{Bool}
+use mathlib.Core.List.{List}
+use mathlib.Core.Path.{_≡_}
+use lib.ListN.{length, take}
+use Rattle.sheet.specs.declared.Lash.{Lash}
+use Rattle.sheet.specs.declared.Tier.{Tier}
+use Rattle.sheet.specs.declared.Sheet.{Sheet}
+use Rattle.sheet.specs.Ends.{door, closed, tiersOf}
+use Rattle.springs.specs.inner.Elimination.{solved}
+use Rattle.statics.specs.inner.Computed.{springsOf, stiffnessesOf, figuresAt, figuresBy, loadRuleOf}
+use Rattle.figures_tiers.specs.inner.Loads.{Loaded, Weighed}
+use Rattle.figures.specs.inner.Ends.{Workable}
+use Rattle.limits.specs.declared.PullLimit.{PullLimit}
+use Rattle.limits.specs.inner.LowerOf.{lowerOf}
+use Rattle.answer.specs.Limits.{safeLoad}
+use Rattle.answer.specs.Findings.{accepted}
+use Rattle.end_verdict.specs.inner.NoneOver.{noneFound}
+use Rattle.gear.specs.Gear.{withLashes}
+use Rattle.chosen_lashes.specs.declared.Chosen.{Chosen}
+use Rattle.chosen_lashes.specs.inner.Gathered.{heldOf}
+
+-- the lashes in arrays
+abbrev pub lashesIn : Chosen → List Lash
+lashesIn g = take (g .count) (g .lashes)
+
+-- an end of n tiers ts with springs k and these lashes, loads ω on the levels and half of the weights above them
+pub record EndGiven (n : ℕ) (k : List ℕ) (ts : List Tier) (g : Chosen) (ω vmax vmin : List ℕ) : Type 0 where
+  pub works : Workable n k ts (g .count) (lashesIn g) ω vmax vmin
+  pub long : (length k ≡ 10) × (length ω ≡ 10) × (length vmax ≡ 11) × (length vmin ≡ 11)
+  pub held : g ≡ heldOf (lashesIn g)
+
+-- whether it has no finding
+abbrev pub noFinding : ℕ → List ℕ → List Tier → Chosen → PullLimit → List ℕ → Bool
+noFinding n k ts g pull ω =
+    noneFound n pull (g .lashes) (g .count) (figuresAt n k ts (lashesIn g) (solved n k (stiffnessesOf (lashesIn g)) ω))
+
+-- what is given of a stack: the lower limit of a pull, the springs of the door end and of the closed end, loads and weights
+pub record StackGiven (t : Sheet) (pull : PullLimit) (k h ω vmax vmin : List ℕ) : Type 0 where
+  pub lower : pull ≡ lowerOf (safeLoad (t .head .lockMaterial) (t .head .lockBreakingLoad))
+  pub door-springs : k ≡ springsOf door (tiersOf t)
+  pub closed-springs : h ≡ springsOf closed (tiersOf t)
+  pub loaded : Loaded (loadRuleOf t) (t .ntiers) (tiersOf t) ω
+  pub weighed : Weighed (tiersOf t) vmax vmin
+  pub long : (length ω ≡ 10) × (length vmax ≡ 11) × (length vmin ≡ 11)
+
+-- whether the check accepts it with these lashes at both ends
+abbrev pub acceptedWith : List Lash → Sheet → Bool
+acceptedWith ls t = accepted (withLashes ls t) (figuresBy (loadRuleOf t) (withLashes ls t))

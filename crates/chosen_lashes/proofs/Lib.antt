@@ -1,0 +1,3 @@
+-- What the functions' proofs rest on.
+pub mod Picked
+pub mod Held

@@ -1,0 +1,72 @@
+// Whether an end of a stack has no finding (document 01, "The answer sheet"), where the findings themselves are not asked for.
+
+ghost use mathlib.Core.Path.{_≡_};
+ghost use Prim.Native.Nat.{_+_, _≤_, _-_};
+ghost use lib.IntN.{pos, natAbs};
+ghost use lib.ListN.{length, getD};
+ghost use Rattle.answer.specs.Limits.{rackingLimit};
+ghost use Rattle.answer_put.specs.inner.Puts.{lashLimit};
+ghost use Rattle.end_verdict.specs.inner.NoneOver.{noneOver, noneFound};
+use answer_put::size;
+use limits::Limits;
+use limits::PullLimit;
+use limits::safe_load;
+use sheet::Lash;
+use statics::EndFigures;
+
+// Whether none of n rackings exceeds its limit. No branch on a size: it would often be predicted wrongly.
+fn rackings_kept(xs: &[i32], n: usize) -> bool
+    requires { ⌜ (n ≤ 10) × (n ≤ length (now xs)) ⌝ }
+    ensures { λ r. ⌜ r ≡ noneOver (λ i. natAbs (getD (now (xs .entry)) (i - 1) (pos 0))) (λ i. rackingLimit) 1 n ⌝ }
+{
+    let mut kept = true;
+    let mut k = 0;
+    while k < n {
+        kept = kept & !(Limits::RACKING < size(xs[k]));
+        k += 1;
+    }
+    kept
+}
+
+// Whether none of n sizes exceeds one limit, at the indexes from `first` on.
+fn all_kept(first: usize, xs: &[u64], limit: u64, n: usize) -> bool
+    requires { ⌜ (first ≤ 1) × (n ≤ 10) × (first + n ≤ length (now xs)) ⌝ }
+    ensures { λ r. ⌜ r ≡ noneOver (λ i. getD (now (xs .entry)) i 0) (λ i. limit) first n ⌝ }
+{
+    let mut kept = true;
+    let mut k = 0;
+    while k < n {
+        kept = kept & !(limit < xs[first + k]);
+        k += 1;
+    }
+    kept
+}
+
+// Whether none of m tensions exceeds the safe load of its lash.
+fn pulls_kept(lashes: [Lash; 8], xs: &[u64], m: usize) -> bool
+    requires { ⌜ (m ≤ 8) × (m ≤ length (now xs)) ⌝ }
+    ensures { λ r. ⌜ r ≡ noneOver (λ j. getD (now (xs .entry)) j 0) (lashLimit lashes) 0 m ⌝ }
+{
+    let mut kept = true;
+    let mut j = 0;
+    while j < m {
+        let l = lashes[j];
+        let limit = safe_load(l.material, l.breakingLoad);
+        kept = kept & !(limit < xs[j]);
+        j += 1;
+    }
+    kept
+}
+
+// Whether an end of n tiers and m lashes has no finding.
+pub fn no_finding(n: usize, pull: PullLimit, lashes: [Lash; 8], m: usize, f: EndFigures) -> bool
+    requires { ⌜ (n ≤ 10) × (m ≤ 8) ⌝ }
+    ensures { λ r. ⌜ r ≡ noneFound n pull lashes m f ⌝ }
+{
+    rackings_kept(&f.racking, n)
+        & all_kept(1, &f.compression, Limits::COMPRESSION, n)
+        & all_kept(0, &f.tension, pull.limit, n)
+        & pulls_kept(lashes, &f.pull, m)
+        & all_kept(0, &f.vertical, Limits::LASH_VERTICAL, m)
+        & all_kept(0, &f.athwart, Limits::LASH_ATHWART, m)
+}
