@@ -64,7 +64,11 @@ count-back : (n : ℕ) → n < 65536 → n % 256 + 256 * (n / 256 % 256) ≡ n
 count-back n h = omega arith
 
 read-back :
-    (answer : ℕ → List ℕ) (m : ℕ) → m ≤ 8 → {list : List ℕ} (rest : List ℕ) → list ≡ listBytes answer m ++ rest → listedIn list ≡ acceptedBy answer m
+    (answer : ℕ → List ℕ) (m : ℕ) →
+    m ≤ 8 →
+    {list : List ℕ} (rest : List ℕ) →
+    list ≡ listBytes answer m ++ rest →
+    listedIn list ≡ acceptedBy answer m
 unfolding listBytes
 read-back answer m h {list} rest e =
     let cs = acceptedBy answer m in

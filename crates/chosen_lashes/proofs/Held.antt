@@ -43,7 +43,12 @@ module _ (f : Lash → ℕ) (ls : List Lash) (few : length ls ≤ 8) where
       }
 
 -- no lash of ten tiers lies above level 10
-levels-off : (ls : List Lash) → ((k : ℕ) → k < length ls → LashLimits 10 (getD ls k blankLash)) → (i : ℕ) → 10 ≤ i → levelStiffness ls (suc i) ≡ 0
+levels-off :
+    (ls : List Lash) →
+    ((k : ℕ) → k < length ls → LashLimits 10 (getD ls k blankLash)) →
+    (i : ℕ) →
+    10 ≤ i →
+    levelStiffness ls (suc i) ≡ 0
 unfolding levelStiffness
 levels-off [] each i h = refl
 levels-off (l ∷ ls) each i h =
