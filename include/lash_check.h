@@ -2,7 +2,8 @@
    of both, byte by byte. lash_preview answers for the sheet with another mass in one tier, lash_forecast for a short voyage by its
    forecast, lash_bay for the stacks of a bay side by side, lash_arrangements for every choice of the lashes aboard. lash_side answers for
    the side walls under pitching, with a side answer of its own. And lash_twenties, for 20-ft boxes in 40-ft cell guides, and lash_roll,
-   for a box's accelerations from the ship's roll: numbers in, one number out.
+   for a box's accelerations from the ship's roll: numbers in, one number out. All want the floating-point environment that a C program
+   starts with: no traps, rounding to the nearest.
 
    rt staticlib lash                                                      proves the check and writes target/staticlib/liblash.a
    cc -Iinclude yours.c target/staticlib/liblash.a -o yours               a program over it, on x86-64 Linux
@@ -17,10 +18,10 @@
 extern "C" {
 #endif
 
-/* The version of the header and of the library built beside it; the text is LASH_VERSION, as "0.15.0". */
+/* The version of the header and of the library built beside it; the text is LASH_VERSION, as "0.15.1". */
 #define LASH_VERSION_MAJOR 0
 #define LASH_VERSION_MINOR 15
-#define LASH_VERSION_PATCH 0
+#define LASH_VERSION_PATCH 1
 #define LASH_TEXT_(number) #number
 #define LASH_TEXT(number) LASH_TEXT_(number)
 #define LASH_VERSION LASH_TEXT(LASH_VERSION_MAJOR) "." LASH_TEXT(LASH_VERSION_MINOR) "." LASH_TEXT(LASH_VERSION_PATCH)

@@ -207,6 +207,36 @@ LENGTHS = [
     Case("length-ly", "LY is the longest side: L is 9,696", of_sides(3_000, 9_000, 2_000)),
 ]
 
+
+
+def of_stiffness(tier, sides, area, modulus):
+    return rod(tier, lx=sides[0], ly=sides[1], lz=sides[2], area=area, modulus=modulus)
+
+
+# Lashes whose stiffness in 2^-22 N/mm the check finds by divisions, since a quotient of doubles, less a half and to the nearest whole
+# number, is not the quotient rounded down: of an odd one without remainder it is one too small (lengths of 2,560, 7,680, 2,560 and
+# 17,408 mm), so too with a fraction under 0.000003, and with one over 0.9999998 one too great. tests/test_stiffness.py holds them to that.
+STIFFNESSES = [
+    Case(
+        "stiffness-whole",
+        "stiffnesses that are odd whole numbers of 2^-22 N/mm",
+        stack(
+            PUSHED,
+            [of_stiffness(1, (191, 1_050, 2_326), 490, 97_100), of_stiffness(2, (260, 1_917, 7_432), 380, 176_600)],
+            [of_stiffness(1, (628, 2_026, 1_433), 1_000, 97_495), of_stiffness(2, (2_999, 2_533, 16_959), 544, 85_848)],
+        ),
+    ),
+    Case(
+        "stiffness-near-whole",
+        "just above a whole number, and at the closed end just below",
+        stack(
+            PUSHED,
+            [of_stiffness(1, (817, 5_095, 1_606), 964, 188_956), of_stiffness(2, (1_698, 7_631, 7_596), 660, 177_934)],
+            [of_stiffness(1, (127, 802, 1_000), 380, 97_100)],
+        ),
+    ),
+]
+
 # Six boxes, the upper five light and in the wind, and a side lash at level 1.
 IN_THE_WIND = [
     box(mass=m, wind=w, a_t=250, a_vmax=1_200, a_vmin=950)
@@ -296,7 +326,7 @@ HEAVIER = [
     Case("heavier-after", "over 10,000 kg: racking of tier 2 there and tension at the door end are lower", OVER_HEAVY),
 ]
 
-CASES = RUN_BY_A_PROGRAM + FIGURES + SLIPS + ORDER + KILONEWTONS + TURNED + LENGTHS + HOOKED + FLEET + PULLS + HEAVIER
+CASES = RUN_BY_A_PROGRAM + FIGURES + SLIPS + ORDER + KILONEWTONS + TURNED + LENGTHS + STIFFNESSES + HOOKED + FLEET + PULLS + HEAVIER
 
 
 def reported_range(kind, force):

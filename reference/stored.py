@@ -1,6 +1,6 @@
 #!/usr/bin/env python3
-"""Writes what the programs cases, cases_preview, cases_twenties, cases_forecast, cases_side, cases_roll, cases_bay, cases_arrangements and
-lashcheck are run on, and what they must write.
+"""Writes what the programs cases, cases_preview, cases_twenties, cases_forecast, cases_side, cases_roll, cases_bay, cases_arrangements,
+cases_springs and lashcheck are run on, and what they must write.
 
 The src/main.rt of each says how a case, a move, a question, a condition and a bay are laid out. A field is the size of a number of the
 answer and the least and the most that it may be; a racking to windward lies in two's complement.
@@ -15,7 +15,7 @@ from pathlib import Path
 ROOT = Path(__file__).resolve().parent.parent
 sys.path.insert(0, str(ROOT))
 
-from reference import arrangements, arrangements_asked, bay, bay_asked, forecast, forecast_asked, side
+from reference import arrangements, arrangements_asked, bay, bay_asked, chains, forecast, forecast_asked, side
 from reference.cases import CASES, may_be_named, reported_range, stands
 from reference.judge import MARGIN, figures
 from reference.preview import previewed, with_mass
@@ -268,6 +268,8 @@ def stored():
             two_sheets(asked.room, asked.sheet, asked.gear) for _, asked in arrangements_asked.FIGURES
         ),
         "crates/cases_arrangements/stdout": "".join(arrangements_line(asked) for _, asked in arrangements_asked.FIGURES).encode(),
+        "crates/cases_springs/stdin": b"".join(map(chains.question, chains.CHAINS)),
+        "crates/cases_springs/stdout": "".join(map(chains.line, chains.CHAINS)).encode(),
         "crates/lashcheck/stdin": sample.data,
         "crates/lashcheck/stdout": b"%d %d\n" % (number, second),
     }

@@ -3,13 +3,13 @@ use mathlib.Core.Path.{_≡_, refl, sym, ap, _∙_}
 use mathlib.Core.Bool.{true, cond, true≢false}
 use native.Mathlib.Nat.{lt-of-not-le}
 use mathlib.Core.List.{List, [], _∷_, flatMap}
-use Prim.Native.Nat.{ℕ, zero, suc, _<_, _+_, _-_, _*_, _≤_}
+use Prim.Native.Nat.{ℕ, zero, suc, _<_, _+_, _*_, _/_, _≤_}
 use native.Mathlib.Numerals.{add-one}
 use native.Mathlib.Omega.{arith}
 use borrow.Author.Tests.{ne-eqb}
 use lib.Dec.{eqb}
-use lib.ListN.{length, take, replicate, length-take, List·getD-eq-default}
-use lib.Seq.{sets, take-at}
+use lib.ListN.{length, take, length-take, List·getD-eq-default}
+use lib.Seq.{sets}
 use Rattle.sheet.specs.declared.Lash.{Lash}
 use Rattle.sheet.specs.declared.Sheet.{Sheet}
 use Rattle.sheet.specs.Layout.{blankLash, lashFits}
@@ -19,10 +19,8 @@ use Rattle.statics.specs.declared.Figures.{Figures}
 use Rattle.sheet.specs.Ends.{End, door, closed, lashesOf}
 use Rattle.answer.specs.Findings.{Finding, findings, verdict}
 use Rattle.answer.specs.Answers.{endBytes, answerBytes, findingBytes}
-use Rattle.answer_findings.specs.declared.Found.{Found}
-use Rattle.answer_findings.specs.inner.Findings.{Sized, found}
+use Rattle.answer_findings.specs.inner.Findings.{PutFindings, Sized}
 use Rattle.answer_write.specs.inner.Encoding.{Wrote, endBytesOf}
-use Rattle.answer.proofs.ReadBack.{bytes-length}
 use Rattle.answer_write.proofs.Stores.{run, then}
 
 -- an end's bytes, by its counts
@@ -38,29 +36,26 @@ verdict-is (x ∷ xs) = rw (ne-eqb (suc (length xs)) 0 some) refl
     some : suc (length xs) ≡ 0 → ⊥
     some e = omega arith
 
--- the first bytes of the findings' array are the findings
-pub found-bytes : (t : Sheet) (f : Figures) → take (3 * length (findings t f)) (found t f .bytes) ≡ flatMap findingBytes (findings t f)
-found-bytes t f =
-    let bytes = flatMap findingBytes (findings t f) in
-    take-at bytes (replicate (327 - length bytes) 0) (3 * length (findings t f)) (bytes-length (findings t f))
+module _ (t : Sheet) (f : Figures) (s : Sized t) {before held : List ℕ} {behind : ℕ} (p : PutFindings t f before held behind) where
+  count-is : behind / 3 ≡ length (findings t f)
+  count-is = omega (arith, p .three)
 
-module _ (t : Sheet) (f : Figures) (s : Sized t) {r : Found} (is : r ≡ found t f) where
-  count-is : r .count ≡ length (findings t f)
-  count-is = ap (λ (x : Found). x .count) is
-
-  bytes-are : take (3 * r .count) (r .bytes) ≡ flatMap findingBytes (findings t f)
-  bytes-are = ap (λ (x : Found). take (3 * x .count) (x .bytes)) is ∙ found-bytes t f
+  -- the findings are the first bytes put
+  bytes-are : take (3 * (behind / 3)) held ≡ flatMap findingBytes (findings t f)
+  bytes-are =
+      let e : 3 * (behind / 3) ≡ behind = omega (arith, p .three) in
+      ap (λ (n : ℕ). take n held) e ∙ p .put .stored
 
   -- the verdict, the two ends, the count and the findings, one behind another
   pub whole :
-      {l k m n o z : List ℕ} {p q v : ℕ} →
+      {l k m n o z : List ℕ} {at q v : ℕ} →
       k ≡ sets l 0 (v ∷ []) →
-      v ≡ cond (eqb (r .count) 0) 0 1 →
-      Wrote k 1 (endBytesOf (t .ntiers) (t .ndoor) (f .door)) m p →
-      Wrote m p (endBytesOf (t .ntiers) (t .nclosed) (f .closed)) n q →
-      o ≡ sets n q (r .count ∷ []) →
-      Wrote o (q + 1) (take (3 * r .count) (r .bytes)) z (q + 1 + 3 * r .count) →
-      Wrote l 0 (answerBytes t f) z (q + 1 + 3 * r .count)
+      v ≡ cond (eqb (behind / 3) 0) 0 1 →
+      Wrote k 1 (endBytesOf (t .ntiers) (t .ndoor) (f .door)) m at →
+      Wrote m at (endBytesOf (t .ntiers) (t .nclosed) (f .closed)) n q →
+      o ≡ sets n q (behind / 3 ∷ []) →
+      Wrote o (q + 1) (take (3 * (behind / 3)) held) z (q + 1 + 3 * (behind / 3)) →
+      Wrote l 0 (answerBytes t f) z (q + 1 + 3 * (behind / 3))
   unfolding answerBytes
   whole {v = v} e g a b d h =
       let u : v ≡ verdict (findings t f) = g ∙ ap (λ (x : ℕ). cond (eqb x 0) 0 1) count-is ∙ verdict-is (findings t f) in

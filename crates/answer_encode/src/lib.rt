@@ -2,19 +2,19 @@
 
 ghost use mathlib.Core.Path.{_≡_};
 ghost use mathlib.Core.Bool.{cond};
-ghost use mathlib.Core.List.{_++_};
-ghost use Prim.Native.Nat.{_+_, _≤_};
+ghost use Prim.Native.Nat.{_≤_};
 ghost use lib.Dec.{eqb};
-ghost use lib.ListN.{length, drop};
+ghost use lib.ListN.{length};
 ghost use Rattle.statics.specs.Reported.{Fitting};
+ghost use Rattle.statics.specs.inner.InArrays.{Lengths, figuresIn};
 ghost use Rattle.answer.specs.Answers.{answerBytes};
-ghost use Rattle.answer_findings.specs.inner.Findings.{Sized};
-use answer_findings::findings_of;
+ghost use Rattle.answer_findings.specs.inner.Findings.{Sized, bothIn};
+ghost use Rattle.answer_encode.specs.inner.Stored.{Stored};
+use answer_findings::put_findings;
 use answer_write::write_end;
 use answer_write::write_found;
 use arith::bytes::write1;
 use sheet::Sheet;
-use statics::Figures;
 
 // 0 accepted, with no findings; 1 not.
 fn verdict_of(findings: usize) -> u64
@@ -26,22 +26,55 @@ fn verdict_of(findings: usize) -> u64
     1
 }
 
-// The answer to a sheet, from its figures: its length. The findings go through a buffer of their own, since bytes are stored behind
-// the last of them too.
-pub fn write_answer(answer: &mut [u8], t: Sheet, f: Figures) -> usize
-    requires { ⌜ Sized t × Fitting (f .door) × Fitting (f .closed) × (834 ≤ length (now answer)) ⌝ }
-    ensures { λ r. ⌜ (r ≡ length (answerBytes t f))
-        × (now (answer .exit) ≡ answerBytes t f ++ drop (length (answerBytes t f)) (now (answer .entry))) ⌝ }
+// The answer to a sheet, from the figures of its two ends: its length. The findings go through a buffer of their own, since bytes are
+// stored behind the last of them too.
+pub fn write_answer(
+    answer: &mut [u8],
+    t: Sheet,
+    doorRacking: &[i32],
+    doorLevels: &[u64],
+    doorForces: &[u64],
+    closedRacking: &[i32],
+    closedLevels: &[u64],
+    closedForces: &[u64],
+) -> usize
+    requires { ⌜ Sized t × (834 ≤ length (now answer)) ⌝ }
+    requires { ⌜ Lengths (now doorRacking) (now doorLevels) (now doorForces)
+        × Fitting (figuresIn (now doorRacking) (now doorLevels) (now doorForces)) ⌝ }
+    requires { ⌜ Lengths (now closedRacking) (now closedLevels) (now closedForces)
+        × Fitting (figuresIn (now closedRacking) (now closedLevels) (now closedForces)) ⌝ }
+    ensures { λ r. ⌜ Stored (answerBytes t
+        (bothIn (now (doorRacking .entry)) (now (doorLevels .entry)) (now (doorForces .entry))
+        (now (closedRacking .entry)) (now (closedLevels .entry)) (now (closedForces .entry))))
+        (now (answer .entry)) (now (answer .exit)) r ⌝ }
 {
-    let found = findings_of(t, f);
-    let count = found.count;
+    let mut found = [0u8; 327];
+    let behind = put_findings(
+        &mut found,
+        t,
+        doorRacking,
+        doorLevels,
+        doorForces,
+        closedRacking,
+        closedLevels,
+        closedForces,
+    );
+    let count = behind / 3;
     let n = t.ntiers;
     write1(answer, 0, verdict_of(count));
-    let p = write_end(answer, 1, n, t.ndoor, f.door);
-    let q = write_end(answer, p, n, t.nclosed, f.closed);
+    let p = write_end(answer, 1, n, t.ndoor, doorRacking, doorLevels, doorForces);
+    let q = write_end(
+        answer,
+        p,
+        n,
+        t.nclosed,
+        closedRacking,
+        closedLevels,
+        closedForces,
+    );
     write1(answer, q, count as u64);
     let first = q + 1;
     let size = 3 * count;
-    write_found(answer, first, &found.bytes, size);
+    write_found(answer, first, &found, size);
     first + size
 }

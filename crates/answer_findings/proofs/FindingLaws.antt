@@ -1,14 +1,14 @@
 -- The findings in bytes, kind by kind, against document 01's list of findings.
-use mathlib.Core.Path.{_≡_, refl, sym, ap, ap₂, _∙_}
+use mathlib.Core.Path.{_≡_, refl, ap, ap₂, _∙_}
 use mathlib.Core.Bool.{Bool, true, false, cond, _&&_}
 use mathlib.Core.List.{List, [], _∷_, _++_, flatMap, append-assoc, append-nil}
-use Prim.Native.Nat.{ℕ, zero, suc, _+_, _-_, _*_, _/_, _<_, _≤_}
+use Prim.Native.Nat.{ℕ, zero, suc, _+_, _*_, _<_, _≤_}
 use native.Mathlib.Nat.{add-zero, zero-add}
 use native.Mathlib.Omega.{arith}
 use borrow.Author.Tests.{ltb-true, ltb-false, ne-eqb}
 use lib.Dec.{ltb, eqb}
-use lib.ListN.{length, getD, take, drop, replicate, length-replicate, length-append}
-use lib.Seq.{sets, sets-eq, getD-take}
+use lib.ListN.{length, getD, length-append}
+use lib.Seq.{getD-take}
 use Rattle.sheet.specs.Layout.{blankLash}
 use Rattle.sheet.specs.declared.Lash.{Lash}
 use Rattle.sheet.specs.declared.Sheet.{Sheet}
@@ -20,13 +20,12 @@ use Rattle.answer.specs.Findings.{Finding, Kind, racking, compression, cornerTe
 use Rattle.answer.specs.Findings.{endCode, kindCode, figuresOf, firstIndex, indexCount, sizeAt, limitAt, exceeded, named, findingsFrom}
 use Rattle.answer.specs.Findings.{endFindings, findingsBy, findings, accepted}
 use Rattle.answer.specs.Answers.{findingBytes}
-use Rattle.arith.specs.Lists.{from, padded}
-use Rattle.answer_findings.specs.declared.Found.{Found}
+use Rattle.arith.specs.Lists.{from}
 use Rattle.limits.specs.declared.PullLimit.{PullLimit}
 use Rattle.limits.specs.inner.LowerOf.{lowerOf}
 use Rattle.answer_put.specs.inner.Puts.{Put, lashLimit, findingWhere, findingsOver}
-use Rattle.answer_findings.specs.inner.Findings.{Sized}
-use Rattle.answer_findings.specs.inner.Findings.{tierFindings, lashFindings, found}
+use Rattle.answer_put.proofs.Puts.{then}
+use Rattle.answer_findings.specs.inner.Findings.{PutFindings, Sized, tierFindings, lashFindings}
 use Rattle.answer.proofs.ReadBack.{bytes-length}
 use Rattle.answer.proofs.TwoLimits.{corner-passed, lock-kept, lock-passed, corner-kept}
 use Rattle.answer.proofs.Accepted.{nowhere}
@@ -65,17 +64,6 @@ where-found :
 unfolding flatMap
 where-found true x xs = refl
 where-found false x xs = refl
-
-drop-replicate : (k n z : ℕ) → drop k (replicate n z) ≡ replicate (n - k) z
-drop-replicate zero n z =
-    let e : n - 0 ≡ n = omega arith in
-    rw e refl
-drop-replicate (suc k) zero z =
-    let e : 0 - suc k ≡ 0 = omega arith in
-    rw e refl
-drop-replicate (suc k) (suc n) z =
-    let e : suc n - suc k ≡ n - k = omega arith in
-    rw e (drop-replicate k n z)
 
 -- one kind: its findings where each exceeded limit is named, and where none is
 module _ (e : End) (t : Sheet) (f : EndFigures) (k : Kind) where
@@ -188,12 +176,12 @@ ends-accepted t f =
 -- both ends
 module _ (t : Sheet) (f : Figures) (s : Sized t) (pull : PullLimit)
     (lower : pull ≡ lowerOf (safeLoad (t .head .lockMaterial) (t .head .lockBreakingLoad))) where
-  abbrev both : List ℕ
-  both =
-      (tierFindings 0 (t .ntiers) pull (f .door) ++ lashFindings 0 (t .door) (t .ndoor) (f .door))
-      ++ (tierFindings 1 (t .ntiers) pull (f .closed) ++ lashFindings 1 (t .closed) (t .nclosed) (f .closed))
+  abbrev endPut : ℕ → List Lash → ℕ → EndFigures → List ℕ
+  endPut end ls m g = tierFindings end (t .ntiers) pull g ++ lashFindings end ls m g
 
-  both-bytes : both ≡ flatMap findingBytes (findings t f)
+  both-bytes :
+      endPut 0 (t .door) (t .ndoor) (f .door) ++ endPut 1 (t .closed) (t .nclosed) (f .closed)
+      ≡ flatMap findingBytes (findings t f)
   unfolding findingsBy
   both-bytes =
       rw (lower, bytes-append)
@@ -202,30 +190,24 @@ module _ (t : Sheet) (f : Figures) (s : Sized t) (pull : PullLimit)
       (end-bytes t f door (t .door) (t .ndoor) (s .door-lashes) (λ j h. getD-take (t .ndoor) (t .door) j blankLash h))
       (end-bytes t f closed (t .closed) (t .nclosed) (s .closed-lashes) (λ j h. getD-take (t .nclosed) (t .closed) j blankLash h)))
 
-  -- put into an array of zeros, with zeros stored again behind the last
-  module _ {held : List ℕ} {q : ℕ} (p : Put (replicate 327 0) 0 both held q) (room : q ≤ 324) where
-    count-is : q / 3 ≡ length (findings t f)
-    count-is = omega (arith, p .place, ap length both-bytes, bytes-length (findings t f))
+  -- put one behind the other
+  pub put-both :
+      {before held after : List ℕ} {p q : ℕ} →
+      Put before 0 (endPut 0 (t .door) (t .ndoor) (f .door)) held p →
+      Put held p (endPut 1 (t .closed) (t .nclosed) (f .closed)) after q →
+      q ≤ 324 →
+      PutFindings t f before after q
+  put-both a b room =
+      let c = then a b in
+      let size = ap length both-bytes ∙ bytes-length (findings t f) in
+      record {
+        put = rw both-bytes at c;
+        three = omega (arith, c .place, size);
+        few = omega (arith, c .place, size);
+        within = room;
+      }
 
-    zeros : 0 ∷ 0 ∷ 0 ∷ drop (q + 3) held ≡ replicate (327 - q) 0
-    zeros =
-        let e : 327 - q ≡ suc (suc (suc (327 - (q + 3)))) = omega arith in
-        rw (p .behind, drop-replicate (q + 3) 327 0) (ap (λ (n : ℕ). replicate n 0) (sym e))
-
-    bytes-are : {after : List ℕ} → after ≡ sets held q (0 ∷ 0 ∷ 0 ∷ []) → after ≡ padded 327 0 (flatMap findingBytes (findings t f))
-    bytes-are e =
-        let h : q + 3 ≤ length held = omega (arith, p .room, length-replicate {A = ℕ} 327 0) in
-        let l : q ≡ length both = omega (arith, p .place) in
-        e
-        ∙ sets-eq (0 ∷ 0 ∷ 0 ∷ []) held q h
-        ∙ append-assoc (take q held) (0 ∷ 0 ∷ 0 ∷ []) (drop (q + 3) held)
-        ∙ ap₂ (λ (a b : List ℕ). a ++ b) (p .stored) (zeros ∙ ap (λ (n : ℕ). replicate (327 - n) 0) l)
-        ∙ ap (λ (b : List ℕ). padded 327 0 b) both-bytes
-
-    pub found-is :
-        {r : Found} {after : List ℕ} →
-        r .bytes ≡ after →
-        r .count ≡ q / 3 →
-        after ≡ sets held q (0 ∷ 0 ∷ 0 ∷ []) →
-        r ≡ found t f
-    found-is b c e = λ i. record { bytes = (b ∙ bytes-are e) i; count = (c ∙ count-is) i }
+-- no bytes of findings, none found
+pub none-accepted :
+    {t : Sheet} {f : Figures} {before after : List ℕ} {next : ℕ} → PutFindings t f before after next → eqb next 0 ≡ accepted t f
+none-accepted {t} {f} p = rw (p .three) (thrice-none (length (findings t f)))

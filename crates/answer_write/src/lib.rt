@@ -6,12 +6,12 @@ ghost use lib.IntN.{pos};
 ghost use lib.ListN.{length, getD, take};
 ghost use Rattle.arith.specs.Bytes.{bytes4, twos};
 ghost use Rattle.statics.specs.Reported.{Fitting};
+ghost use Rattle.statics.specs.inner.InArrays.{Lengths, figuresIn};
 ghost use Rattle.arith.specs.Lists.{counted};
 ghost use Rattle.answer_write.specs.inner.Encoding.{Wrote, lashBytes, endBytesOf};
 use arith::bytes::write_signed;
 use arith::bytes::write1;
 use arith::bytes::write4;
-use statics::EndFigures;
 
 // A count n and n rackings; the place behind them.
 fn write_rackings(answer: &mut [u8], at: usize, xs: &[i32], n: usize) -> usize
@@ -84,15 +84,34 @@ fn write_lashes<'a>(
     next
 }
 
-// An end of n tiers and m lashes.
-pub fn write_end(answer: &mut [u8], at: usize, n: usize, m: usize, f: EndFigures) -> usize
-    requires { ⌜ (n ≤ 10) × (m ≤ 8) × (at + 8 + 12 * n + 12 * m ≤ length (now answer)) × Fitting f ⌝ }
-    ensures { λ r. ⌜ Wrote (now (answer .entry)) at (endBytesOf n m f) (now (answer .exit)) r × (r ≡ at + 8 + 12 * n + 12 * m) ⌝ }
+// An end of n tiers and m lashes, whose figures stand in three arrays.
+pub fn write_end(
+    answer: &mut [u8],
+    at: usize,
+    n: usize,
+    m: usize,
+    racking: &[i32],
+    levels: &[u64],
+    forces: &[u64],
+) -> usize
+    requires { ⌜ (n ≤ 10) × (m ≤ 8) × (at + 8 + 12 * n + 12 * m ≤ length (now answer)) × Lengths (now racking) (now levels) (now forces)
+        × Fitting (figuresIn (now racking) (now levels) (now forces)) ⌝ }
+    ensures { λ r. ⌜ Wrote (now (answer .entry)) at
+        (endBytesOf n m (figuresIn (now (racking .entry)) (now (levels .entry)) (now (forces .entry)))) (now (answer .exit)) r
+        × (r ≡ at + 8 + 12 * n + 12 * m) ⌝ }
 {
-    let p = write_rackings(answer, at, &f.racking, n);
-    let q = write_figures(answer, p, &f.compression, n + 1);
-    let s = write_figures(answer, q, &f.tension, n);
-    write_lashes(answer, s, &f.pull, &f.athwart, &f.vertical, m)
+    let second = 11;
+    let compression = &levels[..second];
+    let tension = &levels[second..];
+    let middle = 8;
+    let last = 16;
+    let pull = &forces[..middle];
+    let athwart = &forces[middle..last];
+    let vertical = &forces[last..];
+    let p = write_rackings(answer, at, racking, n);
+    let q = write_figures(answer, p, compression, n + 1);
+    let s = write_figures(answer, q, tension, n);
+    write_lashes(answer, s, pull, athwart, vertical, m)
 }
 
 // The first n bytes found, into the answer at `at`.

@@ -20,7 +20,6 @@ pub mod ByteLaws
 pub mod Parts
 pub mod Sizes
 pub mod Quotients
-pub mod Ceilings
 pub mod RationalRounding
 pub mod RoundingLaws
 pub mod WholeLaws

@@ -9,7 +9,8 @@ use lib.Dec.{ltb}
 use lib.IntN.{ℤ, pos, negsuc, natAbs, negℤ, subℕ, _+ℤ_, _-ℤ_, _*ℤ_}
 use lib.Signed.{mag, quotZ}
 use mir.Syntax.{w32, w64}
-use mir.Val.{SFits}
+use mir.Val.{SFits, toZ}
+use mir.ValLaws.{toZ-ofZ}
 use Rattle.arith.specs.inner.Sizes.{Small}
 
 mag-le : (z : ℤ) → mag z ≤ natAbs z
@@ -74,3 +75,7 @@ small-mul {a} {b} {x} {y} s t = record { size = rw (natAbs-mul x y) (mul-le-mul 
 pub natAbs-quot : (z : ℤ) (d : ℕ) → natAbs (quotZ z (pos d)) ≡ natAbs z / d
 natAbs-quot (pos a) d = refl
 natAbs-quot (negsuc a) d = natAbs-neg (pos (suc a / d))
+
+-- a number of 63 bits, as a signed number
+pub divisor : (d : ℕ) → d < 2 ^ 63 → toZ w64 d ≡ pos d
+divisor d h = toZ-ofZ w64 (pos d) (record { sfits = h })

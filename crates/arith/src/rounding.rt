@@ -2,9 +2,7 @@
 
 ghost use mathlib.Core.Path.{_≡_};
 ghost use Prim.Native.Nat.{_+_, _*_, _/_, _<_, _≤_, _^_};
-ghost use lib.IntN.{natAbs};
-ghost use Rattle.arith.specs.inner.Rounding.{scaledDown, roundedUp, roundedUpZ};
-ghost use Rattle.arith.specs.inner.Sizes.{Small};
+ghost use Rattle.arith.specs.inner.Rounding.{scaledDown, roundedUp};
 
 // x * m / c, rounded down: the whole part of x / c and its remainder are scaled apart.
 pub fn scaled(x: u64, m: u64, c: u64) -> u64
@@ -49,17 +47,4 @@ pub fn ceil_div(x: u64, d: u64) -> u64
         return q + 1;
     }
     q
-}
-
-// m / d of a signed m, rounded up: division itself rounds towards zero, which is up where m is below zero.
-pub fn ceil_signed(m: i64, d: u64) -> i64
-    requires { ⌜ (0 < d) × (d < 2 ^ 63) ⌝ }
-    ensures { λ r. ⌜ (r ≡ roundedUpZ m d) × Small (natAbs m / d + 1) r ⌝ }
-{
-    let e = d as i64;
-    let t = m / e;
-    if m % e > 0 {
-        return t + 1;
-    }
-    t
 }

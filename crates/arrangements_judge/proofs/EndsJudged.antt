@@ -17,13 +17,14 @@ use Rattle.sheet.specs.Ends.{End, door, closed, tiersOf, lashesOf}
 use Rattle.sheet.proofs.Bools.{not-true, not-false}
 use Rattle.sheet.proofs.Limits.{lash-wider}
 use Rattle.sheet.proofs.SheetLimits.{sheet-limits}
+use Rattle.springs.specs.inner.Promise.{Solvable}
 use Rattle.springs.specs.inner.Elimination.{solved}
 use Rattle.statics.specs.declared.EndFigures.{EndFigures}
 use Rattle.statics.specs.declared.Figures.{Figures}
 use Rattle.statics.specs.inner.Computed.{springsOf, stiffnessesOf, figuresAt, endFiguresBy, figuresBy, loadRuleOf}
 use Rattle.figures_lashes.specs.inner.Lashes.{LashesMeasured, LevelStiffnesses}
 use Rattle.figures.specs.inner.Ends.{Workable}
-use Rattle.figures.proofs.EndLaws.{workable, springs-long}
+use Rattle.figures.proofs.EndLaws.{each-ten, end-solvable, workable, springs-long}
 use Rattle.limits.specs.declared.PullLimit.{PullLimit}
 use Rattle.answer.specs.Findings.{endCode, figuresOf, named, endFindings}
 use Rattle.answer_findings.proofs.FindingLaws.{end-none, ends-accepted}
@@ -36,28 +37,19 @@ use Rattle.chosen_lashes.proofs.Picked.{levels-long}
 use Rattle.chosen_lashes.proofs.Held.{held-measured, held-levels}
 use Rattle.arrangements_judge.specs.inner.Judged.{lashesIn, EndGiven, noFinding, StackGiven, acceptedWith}
 
--- an end that is given: its lashes are measured
-module _ {n : ℕ} {k : List ℕ} {ts : List Tier} {g : Chosen} {ω vmax vmin : List ℕ} (e : EndGiven n k ts g ω vmax vmin) where
-  count-is : g .count ≡ length (lashesIn g)
-  count-is = ap (λ (x : Chosen). x .count) (e .held)
+-- an end that is given: its shifts can be solved
+module _ {n : ℕ} {k : List ℕ} {ts : List Tier} {m : ℕ} {ls : List Lash} {κ ω vmax vmin : List ℕ}
+    (e : EndGiven n k ts m ls κ ω vmax vmin) where
+  levels : LevelStiffnesses ls κ
+  levels =
+      let few : length ls ≤ 8 = omega (arith, e .counted, e .works .few-lashes) in
+      rw (e .levelled) (held-levels ls few (λ j q. each-ten (e .works) (e .counted) j (omega (arith, e .counted))))
 
-  few : length (lashesIn g) ≤ 8
-  few = omega (arith, count-is, e .works .few-lashes)
-
-  each-ten : (j : ℕ) → j < length (lashesIn g) → LashLimits 10 (getD (lashesIn g) j blankLash)
-  each-ten j q = lash-wider (e .works .few) (e .works .each j q)
-
-  pub given-measured : LashesMeasured (g .count) (lashesIn g) (g .lengths) (g .stiffnesses)
-  given-measured =
-      subst (λ (x : Chosen). LashesMeasured (x .count) (lashesIn g) (x .lengths) (x .stiffnesses)) (sym (e .held))
-      (held-measured (lashesIn g) few each-ten)
-
-  pub given-levels : LevelStiffnesses (lashesIn g) (g .levels)
-  given-levels =
-      subst (λ (x : Chosen). LevelStiffnesses (lashesIn g) (x .levels)) (sym (e .held)) (held-levels (lashesIn g) few each-ten)
-
-  pub given-long : length (g .levels) ≡ 10
-  given-long = ap (λ (x : Chosen). length (x .levels)) (e .held) ∙ levels-long (lashesIn g)
+  pub given-solvable : Solvable n k κ ω × (n ≤ length k) × (n ≤ length κ) × (n ≤ length ω)
+  given-solvable =
+      let few = e .works .few in
+      let held = ap length (e .levelled) ∙ levels-long ls in
+      (end-solvable (e .works) (e .counted) levels, omega (arith, e .long), omega arith, omega (arith, e .long))
 
 -- a stack that is given, with lashes with which it fits
 module _ {t : Sheet} {pull : PullLimit} {k h ω vmax vmin : List ℕ} (given : StackGiven t pull k h ω vmax vmin) {g : Chosen}
@@ -84,18 +76,30 @@ module _ {t : Sheet} {pull : PullLimit} {k h ω vmax vmin : List ℕ} (given : S
   counted : g .count ≡ length (lashesIn g)
   counted = ap (λ (x : Chosen). x .count) held
 
-  pub end-given : (e : End) → EndGiven (t .ntiers) (springs e) (tiersOf t) g ω vmax vmin
+  pub end-given : (e : End) → EndGiven (t .ntiers) (springs e) (tiersOf t) (g .count) (lashesIn g) (g .levels) ω vmax vmin
   end-given e =
       record {
         works = rw (springs-are e, same e) works;
+        counted = sym counted;
+        levelled = ap (λ (x : Chosen). x .levels) held;
         long = (ap length (springs-are e) ∙ springs-long e (tiersOf t), given .long .0, given .long .1, given .long .2);
-        held = held;
       }
     where
       works : Workable (t .ntiers) (springsOf e (tiersOf t)) (tiersOf t) (g .count) (lashesOf e with-them) ω vmax vmin
       works =
           workable (sheet-limits fits) e (loadRuleOf t) (g .count) ω vmax vmin (omega (arith, counted, fits .door .few)) (given .loaded)
           (given .weighed)
+
+  pub given-measured : LashesMeasured (g .count) (lashesIn g) (g .lengths) (g .stiffnesses)
+  given-measured =
+      subst (λ (x : Chosen). LashesMeasured (x .count) (lashesIn g) (x .lengths) (x .stiffnesses)) (sym held)
+      (held-measured (lashesIn g) few (λ j q. lash-wider (works .few) (works .each j q)))
+    where
+      works : Workable (t .ntiers) (springs door) (tiersOf t) (g .count) (lashesIn g) ω vmax vmin
+      works = end-given door .works
+
+      few : length (lashesIn g) ≤ 8
+      few = omega (arith, counted, works .few-lashes)
 
   -- an end's figures by its springs, its lashes and the loads
   abbrev figuresWith : List ℕ → List Lash → List ℕ → EndFigures
@@ -114,7 +118,7 @@ module _ {t : Sheet} {pull : PullLimit} {k h ω vmax vmin : List ℕ} (given : S
 
   pub end-judged :
       (e : End) →
-      noFinding (t .ntiers) (springs e) (tiersOf t) g pull ω ≡ eqb (length (endFindings named with-them figures e)) 0
+      noFinding (t .ntiers) (springs e) (tiersOf t) (g .lashes) (g .count) pull ω ≡ eqb (length (endFindings named with-them figures e)) 0
   end-judged e =
       ap (λ (f : EndFigures). noneFound (t .ntiers) pull (g .lashes) (g .count) f) (end-figures e)
       ∙ sym (none-found (endCode e) (t .ntiers) pull (g .lashes) (g .count) (figuresOf e figures))
@@ -125,18 +129,22 @@ module _ {t : Sheet} {pull : PullLimit} {k h ω vmax vmin : List ℕ} (given : S
   -- accepted where neither end has a finding
   ends-are :
       {a b : Bool} →
-      a ≡ noFinding (t .ntiers) k (tiersOf t) g pull ω →
-      b ≡ noFinding (t .ntiers) h (tiersOf t) g pull ω →
+      a ≡ noFinding (t .ntiers) k (tiersOf t) (g .lashes) (g .count) pull ω →
+      b ≡ noFinding (t .ntiers) h (tiersOf t) (g .lashes) (g .count) pull ω →
       a && b ≡ acceptedWith (lashesIn g) t
   ends-are p q = ap₂ (λ x y. x && y) (p ∙ end-judged door) (q ∙ end-judged closed) ∙ sym (ends-accepted with-them figures)
 
-  pub door-found : {a : Bool} → a ≡ noFinding (t .ntiers) k (tiersOf t) g pull ω → not a ≡ true → false ≡ acceptedWith (lashesIn g) t
+  pub door-found :
+      {a : Bool} →
+      a ≡ noFinding (t .ntiers) k (tiersOf t) (g .lashes) (g .count) pull ω →
+      not a ≡ true →
+      false ≡ acceptedWith (lashesIn g) t
   door-found {a} p e = ends-are (sym (not-true a e) ∙ p) refl
 
   pub door-clear :
       {a b : Bool} →
-      a ≡ noFinding (t .ntiers) k (tiersOf t) g pull ω →
+      a ≡ noFinding (t .ntiers) k (tiersOf t) (g .lashes) (g .count) pull ω →
       not a ≡ false →
-      b ≡ noFinding (t .ntiers) h (tiersOf t) g pull ω →
+      b ≡ noFinding (t .ntiers) h (tiersOf t) (g .lashes) (g .count) pull ω →
       b ≡ acceptedWith (lashesIn g) t
   door-clear {a} p e q = ends-are (sym (not-false a e) ∙ p) q

@@ -3,49 +3,57 @@
 ghost use mathlib.Core.Path.{_≡_};
 ghost use lib.ListN.{take};
 ghost use Rattle.sheet.specs.Fits.{Fits};
+ghost use Rattle.figures_lashes.specs.inner.Lashes.{LashesMeasured};
 ghost use Rattle.gear.specs.Gear.{withLashes};
 ghost use Rattle.chosen_lashes.specs.inner.Gathered.{heldOf};
 ghost use Rattle.arrangements_judge.specs.inner.Judged.{EndGiven, noFinding, StackGiven, acceptedWith};
 use chosen_lashes::Chosen;
 use end_verdict::no_finding;
-use figures::figures_from;
+use figures::figures_at;
 use limits::PullLimit;
+use sheet::Lash;
 use sheet::Sheet;
 use sheet::Tier;
 
-// Whether an end of n tiers with these springs and lashes has no finding.
+// Whether an end has no finding: n tiers with springs k, m lashes of these lengths and stiffnesses, whose sums by level are kappa.
 fn end_without_finding(
     n: usize,
-    k: &[u64],
+    k: &[u64; 10],
     tiers: [Tier; 10],
-    g: Chosen,
+    lashes: [Lash; 8],
+    m: usize,
+    lengths: &[u64; 8],
+    stiffnesses: &[u64; 8],
+    kappa: &[u64; 10],
     pull: PullLimit,
-    loads: &[u64],
-    vmax: &[u64],
-    vmin: &[u64],
+    loads: &[u64; 10],
+    vmax: &[u64; 11],
+    vmin: &[u64; 11],
 ) -> bool
-    requires { ⌜ EndGiven n (now k) (take n tiers) g (now loads) (now vmax) (now vmin) ⌝ }
-    ensures { λ r. ⌜ r ≡ noFinding n (now (k .entry)) (take n tiers) g pull (now (loads .entry)) ⌝ }
+    requires { ⌜ EndGiven n (now k) (take n tiers) m (take m lashes) (now kappa) (now loads) (now vmax) (now vmin) ⌝ }
+    requires { ⌜ LashesMeasured m (take m lashes) (now lengths) (now stiffnesses) ⌝ }
+    ensures { λ r. ⌜ r ≡ noFinding n (now (k .entry)) (take n tiers) lashes m pull (now (loads .entry)) ⌝ }
 {
-    let lashes = g.lashes;
-    let m = g.count;
-    let lengths = g.lengths;
-    let stiffnesses = g.stiffnesses;
-    let levels = g.levels;
-    let f = figures_from(
+    let d = springs_solve::solve(n, k, kappa, loads);
+    let mut racking = [0i32; 10];
+    let mut levels = [0u64; 21];
+    let mut forces = [0u64; 24];
+    figures_at(
         n,
         k,
         tiers,
         lashes,
         m,
-        &lengths,
-        &stiffnesses,
-        &levels,
-        loads,
+        lengths,
+        stiffnesses,
+        &d,
         vmax,
         vmin,
+        &mut racking,
+        &mut levels,
+        &mut forces,
     );
-    no_finding(n, pull, lashes, m, f)
+    no_finding(n, pull, lashes, m, &racking, &levels, &forces)
 }
 
 // Whether a stack with these lashes at both ends is accepted: k and h are the springs of the door end and of the closed end.
@@ -53,11 +61,11 @@ pub fn accepts(
     t: Sheet,
     g: Chosen,
     pull: PullLimit,
-    k: &[u64],
-    h: &[u64],
-    loads: &[u64],
-    vmax: &[u64],
-    vmin: &[u64],
+    k: &[u64; 10],
+    h: &[u64; 10],
+    loads: &[u64; 10],
+    vmax: &[u64; 11],
+    vmin: &[u64; 11],
 ) -> bool
     requires { ⌜ StackGiven t pull (now k) (now h) (now loads) (now vmax) (now vmin) ⌝ }
     requires { ⌜ (g ≡ heldOf (take (g .count) (g .lashes))) × Fits (withLashes (take (g .count) (g .lashes)) t) ⌝ }
@@ -65,8 +73,39 @@ pub fn accepts(
 {
     let n = t.ntiers;
     let tiers = t.tiers;
-    if !end_without_finding(n, k, tiers, g, pull, loads, vmax, vmin) {
+    let lashes = g.lashes;
+    let m = g.count;
+    let lengths = g.lengths;
+    let stiffs = g.stiffnesses;
+    let kappa = g.levels;
+    if !end_without_finding(
+        n,
+        k,
+        tiers,
+        lashes,
+        m,
+        &lengths,
+        &stiffs,
+        &kappa,
+        pull,
+        loads,
+        vmax,
+        vmin,
+    ) {
         return false;
     }
-    end_without_finding(n, h, tiers, g, pull, loads, vmax, vmin)
+    end_without_finding(
+        n,
+        h,
+        tiers,
+        lashes,
+        m,
+        &lengths,
+        &stiffs,
+        &kappa,
+        pull,
+        loads,
+        vmax,
+        vmin,
+    )
 }

@@ -1,5 +1,5 @@
 -- No size exceeds its limit where there is no byte of a finding.
-use Prim.Native.Nat.{ℕ, zero, suc, _+_, _≤_}
+use Prim.Native.Nat.{ℕ, zero, suc, _+_, _-_, _≤_}
 use mathlib.Core.Bool.{Bool, true, false, cond, not, _&&_}
 use mathlib.Core.List.{List, [], _∷_, _++_, flatMap}
 use mathlib.Core.Path.{_≡_, refl, sym, ap, ap₂, _∙_}
@@ -7,11 +7,14 @@ use native.Mathlib.Nat.{zero-add}
 use native.Mathlib.Numerals.{add-one}
 use native.Mathlib.Omega.{arith}
 use lib.Dec.{eqb, ltb}
-use lib.ListN.{length, length-append}
+use lib.IntN.{pos, natAbs}
+use lib.ListN.{length, getD, take, drop, length-append, length-drop}
+use lib.Seq.{take-all}
 use Rattle.arith.specs.Lists.{from, below}
 use Rattle.sheet.specs.declared.Lash.{Lash}
 use Rattle.statics.specs.declared.EndFigures.{EndFigures}
-use Rattle.answer_put.specs.inner.Puts.{findingWhere, findingsOver}
+use Rattle.answer.specs.Limits.{rackingLimit, compressionLimit, lashVerticalLimit, lashAthwartLimit}
+use Rattle.answer_put.specs.inner.Puts.{findingWhere, findingsOver, lashLimit}
 use Rattle.answer_findings.specs.inner.Findings.{tierFindings, lashFindings}
 use Rattle.answer_put.proofs.Entries.{one-more}
 use Rattle.answer_findings.proofs.FindingLaws.{sum-none}
@@ -50,6 +53,19 @@ module _ (end n : ℕ) (pull : PullLimit) (ls : List Lash) (m : ℕ) (f : EndFig
   unfolding tierFindings lashFindings
   none-found = simp (joined-none, over-none, and-assoc) refl
 
+-- kind by kind
+module _ (n : ℕ) (pull : PullLimit) (ls : List Lash) (m : ℕ) (f : EndFigures) where
+  pub kinds-kept :
+      {racking compression tension tensions vertical athwart : Bool} →
+      racking ≡ noneOver (λ i. natAbs (getD (f .racking) (i - 1) (pos 0))) (λ i. rackingLimit) 1 n →
+      compression ≡ noneOver (λ i. getD (f .compression) i 0) (λ i. compressionLimit) 1 n →
+      tension ≡ noneOver (λ i. getD (f .tension) i 0) (λ i. pull .limit) 0 n →
+      tensions ≡ noneOver (λ j. getD (f .pull) j 0) (lashLimit ls) 0 m →
+      vertical ≡ noneOver (λ j. getD (f .vertical) j 0) (λ j. lashVerticalLimit) 0 m →
+      athwart ≡ noneOver (λ j. getD (f .athwart) j 0) (λ j. lashAthwartLimit) 0 m →
+      ((((racking && compression) && tension) && tensions) && vertical) && athwart ≡ noneFound n pull ls m f
+  kinds-kept p q r s t u = cc
+
 -- one more, and all
 module _ (size limit : ℕ → ℕ) (first k : ℕ) {kept : Bool} (e : kept ≡ noneOver size limit first k) where
   pub kept-more : {over : Bool} → over ≡ ltb (limit (first + k)) (size (first + k)) → kept && not over ≡ noneOver size limit first (k + 1)
@@ -68,3 +84,12 @@ kept-none size limit first = refl
 -- the indexes from 0 on
 pub zero-first : (k : ℕ) (size limit : ℕ → ℕ) → ltb (limit k) (size k) ≡ ltb (limit (0 + k)) (size (0 + k))
 zero-first k size limit = ap (λ (i : ℕ). ltb (limit i) (size i)) (sym (zero-add k))
+
+-- a section that goes on to the end of its array
+pub rest-kept :
+    (from : ℕ) (l : List ℕ) (limit : ℕ → ℕ) (first n : ℕ) {kept : Bool} →
+    kept ≡ noneOver (λ i. getD (take (length l - from) (drop from l)) i 0) limit first n →
+    kept ≡ noneOver (λ i. getD (drop from l) i 0) limit first n
+rest-kept from l limit first n e =
+    let whole = take-all (length l - from) (drop from l) (omega (arith, length-drop from l)) in
+    e ∙ ap (λ (xs : List ℕ). noneOver (λ i. getD xs i 0) limit first n) whole

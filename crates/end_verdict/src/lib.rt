@@ -6,13 +6,13 @@ ghost use lib.IntN.{pos, natAbs};
 ghost use lib.ListN.{length, getD};
 ghost use Rattle.answer.specs.Limits.{rackingLimit};
 ghost use Rattle.answer_put.specs.inner.Puts.{lashLimit};
+ghost use Rattle.statics.specs.inner.InArrays.{figuresIn, Lengths};
 ghost use Rattle.end_verdict.specs.inner.NoneOver.{noneOver, noneFound};
 use answer_put::size;
 use limits::Limits;
 use limits::PullLimit;
 use limits::safe_load;
 use sheet::Lash;
-use statics::EndFigures;
 
 // Whether none of n rackings exceeds its limit. No branch on a size: it would often be predicted wrongly.
 fn rackings_kept(xs: &[i32], n: usize) -> bool
@@ -58,15 +58,29 @@ fn pulls_kept(lashes: [Lash; 8], xs: &[u64], m: usize) -> bool
     kept
 }
 
-// Whether an end of n tiers and m lashes has no finding.
-pub fn no_finding(n: usize, pull: PullLimit, lashes: [Lash; 8], m: usize, f: EndFigures) -> bool
+// Whether an end of n tiers and m lashes has no finding: its rackings; its compressions, then its tensions; of its lashes the tensions,
+// then the athwart parts, then the vertical parts.
+pub fn no_finding(
+    n: usize,
+    pull: PullLimit,
+    lashes: [Lash; 8],
+    m: usize,
+    racking: &[i32],
+    levels: &[u64],
+    forces: &[u64],
+) -> bool
     requires { ⌜ (n ≤ 10) × (m ≤ 8) ⌝ }
-    ensures { λ r. ⌜ r ≡ noneFound n pull lashes m f ⌝ }
+    requires { ⌜ Lengths (now racking) (now levels) (now forces) ⌝ }
+    ensures { λ r. ⌜ r ≡ noneFound n pull lashes m (figuresIn (now (racking .entry)) (now (levels .entry)) (now (forces .entry))) ⌝ }
 {
-    rackings_kept(&f.racking, n)
-        & all_kept(1, &f.compression, Limits::COMPRESSION, n)
-        & all_kept(0, &f.tension, pull.limit, n)
-        & pulls_kept(lashes, &f.pull, m)
-        & all_kept(0, &f.vertical, Limits::LASH_VERTICAL, m)
-        & all_kept(0, &f.athwart, Limits::LASH_ATHWART, m)
+    let start = 0;
+    let tension = 11;
+    let athwart = 8;
+    let vertical = 16;
+    rackings_kept(racking, n)
+        & all_kept(1, &levels[start..tension], Limits::COMPRESSION, n)
+        & all_kept(0, &levels[tension..], pull.limit, n)
+        & pulls_kept(lashes, &forces[start..athwart], m)
+        & all_kept(0, &forces[vertical..], Limits::LASH_VERTICAL, m)
+        & all_kept(0, &forces[athwart..vertical], Limits::LASH_ATHWART, m)
 }

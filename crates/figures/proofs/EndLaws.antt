@@ -1,14 +1,15 @@
 -- The figures of an end, put together from the steps that compute them.
-use Prim.Native.Nat.{ℕ, suc, _<_, _≤_}
-use mathlib.Core.List.{List, map}
-use mathlib.Core.Path.{_≡_, refl, sym, _∙_}
+use Prim.Native.Nat.{ℕ, suc, _^_, _<_, _≤_}
+use mathlib.Core.List.{List, [], map}
+use mathlib.Core.Path.{_≡_, refl, sym, ap, _∙_}
 use native.Mathlib.Omega.{arith}
+use lib.Dec.{lit≤}
 use lib.IntN.{ℤ, pos}
 use lib.ListN.{length, getD}
 use lib.Seq.{ext-getD}
 use Rattle.sheet.specs.Layout.{blankLash, blankTier}
 use Rattle.sheet.proofs.Limits.{lash-wider}
-use Rattle.springs.specs.inner.Promise.{Solvable, Promised}
+use Rattle.springs.specs.inner.Promise.{Solvable}
 use Rattle.springs.specs.inner.Elimination.{solved}
 use Rattle.sheet.specs.declared.Tier.{Tier}
 use Rattle.sheet.specs.declared.Lash.{Lash}
@@ -22,7 +23,7 @@ use Rattle.statics.specs.inner.WholeNumbers.{Filled, levelStiffness, leePart, w
 use Rattle.statics.specs.inner.WholeNumbers.{momentPart, compressionFigure, tensionFigure, pullFigure, athwartFigure, verticalFigure}
 use Rattle.statics.specs.inner.Computed.{springsOf, stiffnessesOf, figuresAt}
 use Rattle.figures_tiers.specs.inner.Loads.{Loaded, Weighed}
-use Rattle.figures.specs.inner.Ends.{Workable}
+use Rattle.figures.specs.inner.Ends.{Workable, endFigures}
 use Rattle.figures_levels.specs.inner.Levels.{LevelInputs, LevelsFigured}
 use Rattle.figures_lashes.specs.inner.Lashes.{LevelStiffnesses, LashesFigured, VerticalsOn}
 use Rattle.arith.specs.Lists.{below}
@@ -36,6 +37,23 @@ refilled :
     {A : Type 0} {size : ℕ} {blank : A} {n : ℕ} {P Q : ℕ → A} {r : List A} →
     ((i : ℕ) → i < n → P i ≡ Q i) → Filled size blank n P r → Filled size blank n Q r
 refilled e f = record { long = f .long; each = λ i h. f .each i h ∙ e i h; rest = f .rest }
+
+-- at shifts that are given, the loads do not matter
+pub without-loads :
+    {n : ℕ} {k : List ℕ} {ts : List Tier} {m : ℕ} {ls : List Lash} {ω vmax vmin : List ℕ} →
+    Workable n k ts m ls ω vmax vmin →
+    Workable n k ts m ls [] vmax vmin
+without-loads h =
+    record {
+      few = h .few;
+      springs = h .springs;
+      heights = h .heights;
+      few-lashes = h .few-lashes;
+      each = h .each;
+      at-level = h .at-level;
+      loaded = λ i q. lit≤ tt;
+      weighed = h .weighed;
+    }
 
 module _ {n : ℕ} {k : List ℕ} {ts : List Tier} {m : ℕ} {ls : List Lash} {ω vmax vmin : List ℕ}
     (h : Workable n k ts m ls ω vmax vmin) (counted : length ls ≡ m) where
@@ -52,17 +70,17 @@ module _ {n : ℕ} {k : List ℕ} {ts : List Tier} {m : ℕ} {ls : List Lash} {�
       }
 
   pub end-measured :
-      {κ d lee windward : List ℕ} →
-      Promised n k κ ω d →
+      {d lee windward : List ℕ} →
+      ((i : ℕ) → getD d i 0 ≤ 2 ^ 40) →
       VerticalsOn leePart ls d lee →
       VerticalsOn windwardPart ls d windward →
       LevelInputs n k ts d vmax vmin lee windward
-  end-measured o u v =
+  end-measured far u v =
       record {
         few = h .few;
         springs = λ i q. h .springs i q .1;
         heights = h .heights;
-        shifts = o .far;
+        shifts = far;
         vmax-light = h .weighed .most-light;
         vmin-light = h .weighed .least-light;
         lee-small = u .small;
@@ -117,8 +135,24 @@ stiffnesses-named ls {κ} long s =
     ext-getD 0 κ (map (λ i. levelStiffness ls (suc i)) (below 10)) (long ∙ sym (length-entries (λ i. levelStiffness ls (suc i)) 0 10))
     (λ i q. s i ∙ sym (entry-at (λ i. levelStiffness ls (suc i)) 0 10 i (omega (arith, q, long))))
 
+-- the figures at shifts that were solved from the stiffnesses κ by level
+pub end-solved :
+    (e : End) (t : Sheet) (k κ ω : List ℕ) {d : List ℕ} {f : EndFigures} →
+    length κ ≡ 10 →
+    LevelStiffnesses (lashesOf e t) κ →
+    d ≡ solved (t .ntiers) k κ ω →
+    f ≡ figuresAt (t .ntiers) k (tiersOf t) (lashesOf e t) d →
+    f ≡ endFigures e t k ω
+end-solved e t k κ ω long levels ed ef =
+    ef
+    ∙ ap (λ (d : List ℕ). figuresAt (t .ntiers) k (tiersOf t) (lashesOf e t) d)
+    (ed ∙ ap (λ (κ : List ℕ). solved (t .ntiers) k κ ω) (stiffnesses-named (lashesOf e t) long levels))
+
 -- an end's figures may be computed
 module _ {t : Sheet} (f : SheetLimits t) (e : End) where
+  pub each-lash : {m : ℕ} → length (lashesOf e t) ≡ m → (j : ℕ) → j < m → LashLimits 10 (getD (lashesOf e t) j blankLash)
+  each-lash counted j q = lash-wider (f .few) (f .ends e .each j (omega arith))
+
   pub workable :
       (rule : LoadRule) (m : ℕ) (ω vmax vmin : List ℕ) →
       m ≤ 8 →
@@ -145,8 +179,3 @@ module _ {t : Sheet} (f : SheetLimits t) (e : End) where
 
 pub springs-long : (e : End) (ts : List Tier) → length (springsOf e ts) ≡ 10
 springs-long e ts = length-entries (λ i. springOf e (getD ts i blankTier)) 0 10
-
--- the figures of an end of a sheet, from its springs and loads
-abbrev pub endFigures : End → Sheet → List ℕ → List ℕ → EndFigures
-endFigures e t k ω =
-    figuresAt (t .ntiers) k (tiersOf t) (lashesOf e t) (solved (t .ntiers) k (stiffnessesOf (lashesOf e t)) ω)

@@ -1,13 +1,16 @@
 // Every reported force of a stack: rackings, posts and lashes of both ends.
 
-ghost use Prim.Native.Nat.{_≤_};
+ghost use Prim.Native.Nat.{ℕ, _^_, _≤_};
+ghost use mathlib.Core.List.{[]};
 ghost use mathlib.Core.Path.{_≡_};
-ghost use lib.ListN.{length, take};
+ghost use lib.IntN.{pos};
+ghost use lib.ListN.{getD, length, replicate, take};
+ghost use Rattle.sheet.specs.Ends.{door, closed, tiersOf, lashesOf};
 ghost use Rattle.sheet.specs.Fits.{Fits};
-ghost use Rattle.springs.specs.inner.Elimination.{solved};
-ghost use Rattle.statics.specs.inner.Computed.{stiffnessesOf, figuresAt, figuresBy};
+ghost use Rattle.statics.specs.inner.Computed.{figuresAt, figuresBy};
+ghost use Rattle.statics.specs.inner.InArrays.{figuresIn, Lengths};
 ghost use Rattle.figures_lashes.specs.inner.Lashes.{LashesMeasured, LevelStiffnesses};
-ghost use Rattle.figures.specs.inner.Ends.{Workable};
+ghost use Rattle.figures.specs.inner.Ends.{Workable, endFigures};
 use figures_lashes::lash_figures;
 use figures_lashes::lash_stiffnesses;
 use figures_levels::level_figures;
@@ -15,16 +18,15 @@ use figures_tiers::loads_of;
 use sheet::Lash;
 use sheet::Sheet;
 use sheet::Tier;
-use statics::EndFigures;
-use statics::Figures;
+use springs_solve::solve_both;
 use statics::LoadRule;
 use tier_springs::CLOSED_SPRING;
 use tier_springs::DOOR_SPRING;
 use tier_springs::springs_of;
 
-// The figures of one end: n tiers with a spring for each, m lashes of these lengths and stiffnesses, the sums of the stiffnesses by level,
-// and the loads and weights that both ends share.
-pub fn figures_from(
+// The figures of one end at the shifts d of its levels: n tiers with a spring for each, m lashes of these lengths and stiffnesses, and half
+// of the weights above the levels. The loads are in the shifts.
+pub fn figures_at(
     n: usize,
     k: &[u64],
     tiers: [Tier; 10],
@@ -32,78 +34,134 @@ pub fn figures_from(
     m: usize,
     lengths: &[u64],
     stiffnesses: &[u64],
-    kappa: &[u64],
-    loads: &[u64],
+    d: &[u64],
     vmax: &[u64],
     vmin: &[u64],
-) -> EndFigures
-    requires { ⌜ Workable n (now k) (take n tiers) m (take m lashes) (now loads) (now vmax) (now vmin) ⌝ }
-    requires { ⌜ (length (now k) ≡ 10) × (length (now loads) ≡ 10) × (length (now vmax) ≡ 11) × (length (now vmin) ≡ 11) ⌝ }
-    requires { ⌜ LashesMeasured m (take m lashes) (now lengths) (now stiffnesses) × LevelStiffnesses (take m lashes) (now kappa) ⌝ }
-    requires { ⌜ (length (now lengths) ≡ 8) × (length (now stiffnesses) ≡ 8) × (length (now kappa) ≡ 10) ⌝ }
-    ensures { λ r. ⌜ r ≡ figuresAt n (now (k .entry)) (take n tiers) (take m lashes)
-        (solved n (now (k .entry)) (stiffnessesOf (take m lashes)) (now (loads .entry))) ⌝ }
+    racking: &mut [i32],
+    levels: &mut [u64],
+    forces: &mut [u64],
+)
+    requires { ⌜ Workable n (now k) (take n tiers) m (take m lashes) [] (now vmax) (now vmin) ⌝ }
+    requires { ⌜ (length (now k) ≡ 10) × (length (now d) ≡ 11) × (length (now vmax) ≡ 11) × (length (now vmin) ≡ 11) ⌝ }
+    requires { ⌜ LashesMeasured m (take m lashes) (now lengths) (now stiffnesses) × ((i : ℕ) → getD (now d) i 0 ≤ 2 ^ 40) ⌝ }
+    requires { ⌜ (length (now lengths) ≡ 8) × (length (now stiffnesses) ≡ 8) ⌝ }
+    requires { ⌜ (now racking ≡ replicate 10 (pos 0)) × (now levels ≡ replicate 21 0) × (now forces ≡ replicate 24 0) ⌝ }
+    ensures { λ _. ⌜ (figuresIn (now (racking .exit)) (now (levels .exit)) (now (forces .exit))
+        ≡ figuresAt n (now (k .entry)) (take n tiers) (take m lashes) (now (d .entry)))
+        × Lengths (now (racking .exit)) (now (levels .exit)) (now (forces .exit)) ⌝ }
 {
-    let d = springs_solve::solve(n, k, kappa, loads);
     let mut lee = [0u64; 22];
     let mut windward = [0u64; 22];
-    let forces = lash_figures(lashes, m, lengths, stiffnesses, &d, &mut lee, &mut windward);
-    let levels = level_figures(n, k, tiers, &d, vmax, vmin, &lee, &windward);
-    let racking = levels.racking;
-    let compression = levels.compression;
-    let tension = levels.tension;
-    let pull = forces.tension;
-    let athwart = forces.athwart;
-    let vertical = forces.vertical;
-    EndFigures {
-        racking,
-        compression,
-        tension,
-        pull,
-        athwart,
-        vertical,
-    }
+    lash_figures(
+        lashes,
+        m,
+        lengths,
+        stiffnesses,
+        d,
+        &mut lee,
+        &mut windward,
+        forces,
+    );
+    level_figures(n, k, tiers, d, vmax, vmin, &lee, &windward, racking, levels);
 }
 
-// The figures of one end whose lashes are not measured yet.
-fn end_figures(
-    n: usize,
+// The figures of both ends, whose lashes are measured, under the loads that they share: springs k and stiffnesses kappa by level are the
+// door end's, h and eta the closed end's.
+fn figures_both(
+    s: Sheet,
     k: &[u64],
-    tiers: [Tier; 10],
-    lashes: [Lash; 8],
-    m: usize,
+    h: &[u64],
+    doorLengths: &[u64],
+    doorStiffs: &[u64],
+    closedLengths: &[u64],
+    closedStiffs: &[u64],
+    kappa: &[u64],
+    eta: &[u64],
     loads: &[u64],
     vmax: &[u64],
     vmin: &[u64],
-) -> EndFigures
-    requires { ⌜ Workable n (now k) (take n tiers) m (take m lashes) (now loads) (now vmax) (now vmin) ⌝ }
-    requires { ⌜ (length (now k) ≡ 10) × (length (now loads) ≡ 10) × (length (now vmax) ≡ 11) × (length (now vmin) ≡ 11) ⌝ }
-    ensures { λ r. ⌜ r ≡ figuresAt n (now (k .entry)) (take n tiers) (take m lashes)
-        (solved n (now (k .entry)) (stiffnessesOf (take m lashes)) (now (loads .entry))) ⌝ }
+    doorRacking: &mut [i32],
+    doorLevels: &mut [u64],
+    doorForces: &mut [u64],
+    closedRacking: &mut [i32],
+    closedLevels: &mut [u64],
+    closedForces: &mut [u64],
+)
+    requires { ⌜ Workable (s .ntiers) (now k) (tiersOf s) (s .ndoor) (lashesOf door s) (now loads) (now vmax) (now vmin) ⌝ }
+    requires { ⌜ Workable (s .ntiers) (now h) (tiersOf s) (s .nclosed) (lashesOf closed s) (now loads) (now vmax) (now vmin) ⌝ }
+    requires { ⌜ LashesMeasured (s .ndoor) (lashesOf door s) (now doorLengths) (now doorStiffs)
+        × LashesMeasured (s .nclosed) (lashesOf closed s) (now closedLengths) (now closedStiffs) ⌝ }
+    requires { ⌜ LevelStiffnesses (lashesOf door s) (now kappa) × LevelStiffnesses (lashesOf closed s) (now eta) ⌝ }
+    requires { ⌜ (length (now k) ≡ 10) × (length (now h) ≡ 10) × (length (now kappa) ≡ 10) × (length (now eta) ≡ 10)
+        × (length (now loads) ≡ 10) × (length (now vmax) ≡ 11) × (length (now vmin) ≡ 11) ⌝ }
+    requires { ⌜ (now doorRacking ≡ replicate 10 (pos 0)) × (now doorLevels ≡ replicate 21 0) × (now doorForces ≡ replicate 24 0) ⌝ }
+    requires { ⌜ (now closedRacking ≡ replicate 10 (pos 0)) × (now closedLevels ≡ replicate 21 0) × (now closedForces ≡ replicate 24 0) ⌝ }
+    ensures { λ _. ⌜ (figuresIn (now (doorRacking .exit)) (now (doorLevels .exit)) (now (doorForces .exit))
+        ≡ endFigures door s (now (k .entry)) (now (loads .entry)))
+        × Lengths (now (doorRacking .exit)) (now (doorLevels .exit)) (now (doorForces .exit)) ⌝ }
+    ensures { λ _. ⌜ (figuresIn (now (closedRacking .exit)) (now (closedLevels .exit)) (now (closedForces .exit))
+        ≡ endFigures closed s (now (h .entry)) (now (loads .entry)))
+        × Lengths (now (closedRacking .exit)) (now (closedLevels .exit)) (now (closedForces .exit)) ⌝ }
 {
-    let mut lengths = [0u64; 8];
-    let mut stiffnesses = [0u64; 8];
-    let mut kappa = [0u64; 10];
-    lash_stiffnesses(lashes, m, &mut lengths, &mut stiffnesses, &mut kappa);
-    figures_from(
+    let n = s.ntiers;
+    let tiers = s.tiers;
+    let door = s.door;
+    let closed = s.closed;
+    let mut d = [0u64; 11];
+    let mut e = [0u64; 11];
+    solve_both(n, k, h, kappa, eta, loads, &mut d, &mut e);
+    figures_at(
         n,
         k,
         tiers,
-        lashes,
-        m,
-        &lengths,
-        &stiffnesses,
-        &kappa,
-        loads,
+        door,
+        s.ndoor,
+        doorLengths,
+        doorStiffs,
+        &d,
         vmax,
         vmin,
-    )
+        doorRacking,
+        doorLevels,
+        doorForces,
+    );
+    figures_at(
+        n,
+        h,
+        tiers,
+        closed,
+        s.nclosed,
+        closedLengths,
+        closedStiffs,
+        &e,
+        vmax,
+        vmin,
+        closedRacking,
+        closedLevels,
+        closedForces,
+    );
 }
 
-// The figures of both ends, with what the loads go by.
-pub fn figures_by(s: Sheet, rule: LoadRule) -> Figures
+// The figures of both ends, with what the loads go by. What has _h belongs to the closed end, whose springs are h.
+pub fn figures_by(
+    s: Sheet,
+    rule: LoadRule,
+    doorRacking: &mut [i32],
+    doorLevels: &mut [u64],
+    doorForces: &mut [u64],
+    closedRacking: &mut [i32],
+    closedLevels: &mut [u64],
+    closedForces: &mut [u64],
+)
     requires { ⌜ Fits s × (rule .share ≤ 20) × (rule .factor ≤ 1000) ⌝ }
-    ensures { λ r. ⌜ r ≡ figuresBy rule s ⌝ }
+    requires { ⌜ (now doorRacking ≡ replicate 10 (pos 0)) × (now doorLevels ≡ replicate 21 0) × (now doorForces ≡ replicate 24 0) ⌝ }
+    requires { ⌜ (now closedRacking ≡ replicate 10 (pos 0)) × (now closedLevels ≡ replicate 21 0) × (now closedForces ≡ replicate 24 0) ⌝ }
+    ensures { λ _. ⌜ (figuresIn (now (doorRacking .exit)) (now (doorLevels .exit)) (now (doorForces .exit))
+        ≡ figuresBy rule s .door)
+        × Lengths (now (doorRacking .exit)) (now (doorLevels .exit)) (now (doorForces .exit)) ⌝ }
+    ensures { λ _. ⌜ (figuresIn (now (closedRacking .exit)) (now (closedLevels .exit)) (now (closedForces .exit))
+        ≡ figuresBy rule s .closed)
+        × Lengths (now (closedRacking .exit)) (now (closedLevels .exit)) (now (closedForces .exit)) ⌝ }
 {
     let n = s.ntiers;
     let tiers = s.tiers;
@@ -116,8 +174,32 @@ pub fn figures_by(s: Sheet, rule: LoadRule) -> Figures
     let mut k = [DOOR_SPRING; 10];
     let mut h = [CLOSED_SPRING; 10];
     springs_of(n, tiers, &mut k, &mut h);
-    Figures {
-        door: end_figures(n, &k, tiers, door, s.ndoor, &loads, &vmax, &vmin),
-        closed: end_figures(n, &h, tiers, closed, s.nclosed, &loads, &vmax, &vmin),
-    }
+    let mut lengths = [0u64; 8];
+    let mut stiffs = [0u64; 8];
+    let mut kappa = [0u64; 10];
+    lash_stiffnesses(door, s.ndoor, &mut lengths, &mut stiffs, &mut kappa);
+    let mut lengths_h = [0u64; 8];
+    let mut stiffs_h = [0u64; 8];
+    let mut eta = [0u64; 10];
+    lash_stiffnesses(closed, s.nclosed, &mut lengths_h, &mut stiffs_h, &mut eta);
+    figures_both(
+        s,
+        &k,
+        &h,
+        &lengths,
+        &stiffs,
+        &lengths_h,
+        &stiffs_h,
+        &kappa,
+        &eta,
+        &loads,
+        &vmax,
+        &vmin,
+        doorRacking,
+        doorLevels,
+        doorForces,
+        closedRacking,
+        closedLevels,
+        closedForces,
+    );
 }

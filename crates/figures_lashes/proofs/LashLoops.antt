@@ -6,8 +6,8 @@ use mathlib.Core.Path.{_≡_, refl, sym, _∙_}
 use native.Mathlib.Omega.{arith}
 use borrow.Author.Tests.{eq-eqb, ne-eqb}
 use lib.Dec.{eqb}
-use lib.ListN.{length, getD, set, take, drop, replicate}
-use lib.Seq.{drop-cons, length-take-le}
+use lib.ListN.{length, getD, set, take, drop, replicate, length-set}
+use lib.Seq.{drop-cons, length-take-le, take-set-le, take-set-lt, drop-set-lt, drop-set-add}
 use Rattle.arith.specs.inner.Rounding.{roundedUp}
 use Rattle.sheet.specs.Layout.{_is_, blankLash}
 use Rattle.sheet.specs.declared.Lash.{Lash}
@@ -129,24 +129,66 @@ windward-kept (Side l) x = omega arith
 abbrev on : (Lashing → ℕ → ℕ) → List ℕ → Lash → ℕ
 on post d l = post (lashingOf l) (upward d l)
 
+-- the array of forces: tensions, athwart parts and vertical parts
+abbrev pulls : List ℕ → List ℕ
+pulls forces = take 8 forces
+
+abbrev athwarts : List ℕ → List ℕ
+athwarts forces = take 8 (drop 8 forces)
+
+abbrev verticals : List ℕ → List ℕ
+verticals forces = drop 16 forces
+
+-- .. in which a turn sets an entry of each section
+abbrev all-set : List ℕ → ℕ → ℕ → ℕ → ℕ → List ℕ
+all-set forces j p a v = set (set (set forces j p) (8 + j) a) (16 + j) v
+
+module _ (forces : List ℕ) {j : ℕ} (h : j < 8) (p a v : ℕ) where
+  pulls-set : pulls (all-set forces j p a v) ≡ set (pulls forces) j p
+  pulls-set =
+      take-set-le 8 (set (set forces j p) (8 + j) a) (16 + j) v (omega arith)
+      ∙ take-set-le 8 (set forces j p) (8 + j) a (omega arith)
+      ∙ take-set-lt 8 forces j p h
+
+  athwarts-set : athwarts (all-set forces j p a v) ≡ set (athwarts forces) j a
+  athwarts-set =
+      let behind : 16 + j ≡ 8 + (8 + j) = omega arith in
+      rw (
+        behind,
+        drop-set-add 8 (set (set forces j p) (8 + j) a) (8 + j) v,
+        take-set-le 8 (drop 8 (set (set forces j p) (8 + j) a)) (8 + j) v (omega arith),
+        drop-set-add 8 (set forces j p) j a,
+        drop-set-lt 8 forces j p h,
+      ) (take-set-lt 8 (drop 8 forces) j a h)
+
+  verticals-set : verticals (all-set forces j p a v) ≡ set (verticals forces) j v
+  verticals-set =
+      rw (
+        drop-set-add 16 (set (set forces j p) (8 + j) a) j v,
+        drop-set-lt 16 (set forces j p) (8 + j) a (omega arith),
+        drop-set-lt 16 forces j p (omega arith),
+      ) refl
+
 -- the second loop
-pub record FiguredTo (m : ℕ) (ls : List Lash) (d tension athwart vertical lee windward : List ℕ) (j : ℕ) : Type 0 where
+pub record FiguredTo (m : ℕ) (ls : List Lash) (d lee windward forces : List ℕ) (j : ℕ) : Type 0 where
   pub within : j ≤ m
-  pub tensions : Between 0 (λ k x. x ≡ pullFigure d (getD ls k blankLash)) 8 0 j tension
-  pub athwarts : Between 0 (λ k x. x ≡ athwartFigure d (getD ls k blankLash)) 8 0 j athwart
-  pub verticals : Between 0 (λ k x. x ≡ verticalFigure d (getD ls k blankLash)) 8 0 j vertical
+  pub tensions : Between 0 (λ k x. x ≡ pullFigure d (getD ls k blankLash)) 8 0 j (take 8 forces)
+  pub athwart-parts : Between 0 (λ k x. x ≡ athwartFigure d (getD ls k blankLash)) 8 0 j (take 8 (drop 8 forces))
+  pub vertical-parts : Between 0 (λ k x. x ≡ verticalFigure d (getD ls k blankLash)) 8 0 j (drop 16 forces)
+  pub forces-long : length forces ≡ 24
   pub lees : Tallied at-corner (on leePart d) ls 22 j lee
   pub windwards : Tallied at-corner (on windwardPart d) ls 22 j windward
 
 pub figured-none :
     {m : ℕ} {ls : List Lash} {d : List ℕ} →
-    FiguredTo m ls d (replicate 8 0) (replicate 8 0) (replicate 8 0) (replicate 22 0) (replicate 22 0) 0
+    FiguredTo m ls d (replicate 22 0) (replicate 22 0) (replicate 24 0) 0
 figured-none =
     record {
       within = omega arith;
       tensions = between-none 0 _ 8 0;
-      athwarts = between-none 0 _ 8 0;
-      verticals = between-none 0 _ 8 0;
+      athwart-parts = between-none 0 _ 8 0;
+      vertical-parts = between-none 0 _ 8 0;
+      forces-long = refl;
       lees = tallied-none 22;
       windwards = tallied-none 22;
     }
@@ -189,8 +231,8 @@ post-le {ls = ls} d g small post kept i =
         omega (arith, kept (lashingOf l) (upward d l), upward-small d l (small (levelOf l)) (g .each k (omega (arith, g .counted))))
 
 module _ {m : ℕ} {ls : List Lash} {d : List ℕ} (g : Listed m ls) (small : (i : ℕ) → getD d i 0 ≤ 2 ^ 40) where
-  module _ {tension athwart vertical lee windward : List ℕ} {j : ℕ}
-      (s : FiguredTo m ls d tension athwart vertical lee windward j) (h : j < m) {l : Lash} (own : getD ls j blankLash ≡ l)
+  module _ {lee windward forces : List ℕ} {j : ℕ}
+      (s : FiguredTo m ls d lee windward forces j) (h : j < m) {l : Lash} (own : getD ls j blankLash ≡ l)
       {at corner x : ℕ}
       (ea : at ≡ levelOf l)
       (ec : corner ≡ cornerOf l)
@@ -233,22 +275,29 @@ module _ {m : ℕ} {ls : List Lash} {d : List ℕ} (g : Listed m ls) (small : (i
         m
         ls
         d
-        (set tension j p)
-        (set athwart j a)
-        (set vertical j v)
         (set lee corner (getD lee corner 0 + leePart (lashingOf l) up))
         (set windward corner (getD windward corner 0 + windwardPart (lashingOf l) up))
+        (set (set (set forces j p) (8 + j) a) (16 + j) v)
         (suc j)
     unfolding pullFigure athwartFigure verticalFigure part
     figured-more {p} {a} {v} low ep eq ev =
         record {
           within = h;
-          tensions = fill-above 0 _ 8 0 j tension p (omega (arith, g .few)) (rw (own, ← ea, ← ex) ep) (s .tensions);
-          athwarts = fill-above 0 _ 8 0 j athwart a (omega (arith, g .few)) (rw (own, ← ea, ← ex) eq) (s .athwarts);
-          verticals = fill-above 0 _ 8 0 j vertical v (omega (arith, g .few)) (rw (own, ← ea, ← ex) ev) (s .verticals);
+          tensions =
+              rw (pulls-set forces room p a v) (fill-above 0 _ 8 0 j (pulls forces) p room (rw (own, ← ea, ← ex) ep) (s .tensions));
+          athwart-parts =
+              rw (athwarts-set forces room p a v)
+              (fill-above 0 _ 8 0 j (athwarts forces) a room (rw (own, ← ea, ← ex) eq) (s .athwart-parts));
+          vertical-parts =
+              rw (verticals-set forces room p a v)
+              (fill-above 0 _ 8 0 j (verticals forces) v room (rw (own, ← ea, ← ex) ev) (s .vertical-parts));
+          forces-long = simp length-set (s .forces-long);
           lees = post-more leePart low (s .lees);
           windwards = post-more windwardPart low (s .windwards);
         }
+      where
+        room : j < 8
+        room = omega (arith, g .few)
 
   verticals-on :
       (post : Lashing → ℕ → ℕ) →
@@ -266,16 +315,18 @@ module _ {m : ℕ} {ls : List Lash} {d : List ℕ} (g : Listed m ls) (small : (i
       }
 
   pub figured-all :
-      {tension athwart vertical lee windward : List ℕ} {j : ℕ} →
+      {lee windward forces : List ℕ} {j : ℕ} →
       m ≤ j →
-      FiguredTo m ls d tension athwart vertical lee windward j →
-      LashesFigured m ls d tension athwart vertical × VerticalsOn leePart ls d lee × VerticalsOn windwardPart ls d windward
+      FiguredTo m ls d lee windward forces j →
+      LashesFigured m ls d (take 8 forces) (take 8 (drop 8 forces)) (drop 16 forces)
+      × VerticalsOn leePart ls d lee
+      × VerticalsOn windwardPart ls d windward
   figured-all {j = j} h s =
       let e : j ≡ m = omega (arith, s .within) in (
         record {
           lash-tension-is = filled (rw e at (s .tensions));
-          athwart-is = filled (rw e at (s .athwarts));
-          vertical-is = filled (rw e at (s .verticals));
+          athwart-is = filled (rw e at (s .athwart-parts));
+          vertical-is = filled (rw e at (s .vertical-parts));
         },
         verticals-on leePart lee-kept h (s .lees),
         verticals-on windwardPart windward-kept h (s .windwards),

@@ -2,7 +2,7 @@
 
 ghost use mathlib.Core.Path.{_≡_};
 ghost use Prim.Native.Nat.{ℕ, _<_, _≤_, _^_};
-ghost use lib.ListN.{take, getD, length, replicate};
+ghost use lib.ListN.{take, drop, getD, length, replicate};
 ghost use Rattle.sheet.specs.Layout.{blankLash};
 ghost use Rattle.sheet.specs.inner.Limits.{LashLimits};
 ghost use Rattle.statics.specs.inner.WholeNumbers.{leePart, windwardPart};
@@ -43,14 +43,8 @@ pub fn lash_stiffnesses(
     }
 }
 
-// The figures of an end's lashes.
-pub struct LashFigures {
-    pub tension: [u64; 8],
-    pub athwart: [u64; 8],
-    pub vertical: [u64; 8],
-}
-
-// The figures of an end's lashes, and the sums of the vertical parts by corner on each post.
+// The figures of an end's lashes: tensions, then athwart parts, then vertical parts, eight of each; and the sums of the vertical parts by
+// corner on each post.
 pub fn lash_figures(
     lashes: [Lash; 8],
     m: usize,
@@ -59,18 +53,17 @@ pub fn lash_figures(
     d: &[u64],
     lee: &mut [u64],
     windward: &mut [u64],
-) -> LashFigures
+    forces: &mut [u64],
+)
     requires { ⌜ (m ≤ 8) × ((j : ℕ) → j < m → LashLimits 10 (getD (take m lashes) j blankLash)) ⌝ }
     requires { ⌜ LashesMeasured m (take m lashes) (now lengths) (now stiffnesses) × ((i : ℕ) → getD (now d) i 0 ≤ 2 ^ 40) ⌝ }
     requires { ⌜ (length (now lengths) ≡ 8) × (length (now stiffnesses) ≡ 8) × (length (now d) ≡ 11) ⌝ }
-    requires { ⌜ (now lee ≡ replicate 22 0) × (now windward ≡ replicate 22 0) ⌝ }
-    ensures { λ r. ⌜ LashesFigured m (take m lashes) (now (d .entry)) (r .tension) (r .athwart) (r .vertical) ⌝ }
-    ensures { λ r. ⌜ VerticalsOn leePart (take m lashes) (now (d .entry)) (now (lee .exit)) ⌝ }
-    ensures { λ r. ⌜ VerticalsOn windwardPart (take m lashes) (now (d .entry)) (now (windward .exit)) ⌝ }
+    requires { ⌜ (now lee ≡ replicate 22 0) × (now windward ≡ replicate 22 0) × (now forces ≡ replicate 24 0) ⌝ }
+    ensures { λ _. ⌜ LashesFigured m (take m lashes) (now (d .entry)) (take 8 (now (forces .exit))) (take 8 (drop 8 (now (forces .exit))))
+        (drop 16 (now (forces .exit))) × (length (now (forces .exit)) ≡ 24) ⌝ }
+    ensures { λ _. ⌜ VerticalsOn leePart (take m lashes) (now (d .entry)) (now (lee .exit)) ⌝ }
+    ensures { λ _. ⌜ VerticalsOn windwardPart (take m lashes) (now (d .entry)) (now (windward .exit)) ⌝ }
 {
-    let mut tension = [0u64; 8];
-    let mut athwart = [0u64; 8];
-    let mut vertical = [0u64; 8];
     let mut j = 0;
     while j < m {
         let l = lashes[j];
@@ -79,16 +72,11 @@ pub fn lash_figures(
         let part = athwart_part(stiffnesses[j], d[at]);
         let f = forces_of(l, lengths[j], part);
         let u = on_posts(lashing_of(l), part);
-        tension[j] = f.tension;
-        athwart[j] = f.athwart;
-        vertical[j] = f.vertical;
+        forces[j] = f.tension;
+        forces[8 + j] = f.athwart;
+        forces[16 + j] = f.vertical;
         lee[corner] = lee[corner] + u.lee;
         windward[corner] = windward[corner] + u.windward;
         j += 1;
-    }
-    LashFigures {
-        tension,
-        athwart,
-        vertical,
     }
 }

@@ -4,8 +4,8 @@ use mathlib.Core.Path.{_≡_, refl, sym, ap, _∙_, subst}
 use mathlib.Core.List.{List}
 use native.Mathlib.Omega.{arith}
 use lib.IntN.{ℤ, pos, _+ℤ_, _-ℤ_, _*ℤ_}
-use lib.ListN.{length, getD, set, take, drop, replicate}
-use lib.Seq.{drop-cons, drop-length}
+use lib.ListN.{length, getD, set, take, drop, replicate, length-set}
+use lib.Seq.{drop-cons, drop-length, take-set-le, take-set-lt, drop-set-lt, drop-set-add}
 use lib.Signed.{quotZ}
 use Rattle.sheet.specs.Layout.{blankTier}
 use Rattle.arith.specs.inner.Sizes.{Small}
@@ -58,13 +58,26 @@ most-turn = 2896 * 2 ^ 45
 abbrev from-corner : ℕ → List ℕ → ℕ → ℕ
 from-corner n v c = total (drop c (take (suc (2 * n)) v))
 
+-- the array of the levels: compressions, then tensions; a turn sets an entry of each section
+abbrev both-set : List ℕ → ℕ → ℕ → ℕ → List ℕ
+both-set levels j compression tension = set (set levels j compression) (11 + j) tension
+
+module _ (levels : List ℕ) {j : ℕ} (h : j < 11) (compression tension : ℕ) where
+  compressions-set : take 11 (both-set levels j compression tension) ≡ set (take 11 levels) j compression
+  compressions-set =
+      take-set-le 11 (set levels j compression) (11 + j) tension (omega arith) ∙ take-set-lt 11 levels j compression h
+
+  tensions-set : drop 11 (both-set levels j compression tension) ≡ set (drop 11 levels) j tension
+  tensions-set = rw (drop-set-add 11 (set levels j compression) j tension, drop-set-lt 11 levels j compression h) refl
+
 pub record FiguredFrom
     (n : ℕ) (k : List ℕ) (ts : List Tier) (d vmax vmin lee windward : List ℕ)
-    (racking : List ℤ) (compressions tensions : List ℕ) (moment : ℤ) (lees windwards i : ℕ) : Type 0 where
+    (racking : List ℤ) (levels : List ℕ) (moment : ℤ) (lees windwards i : ℕ) : Type 0 where
   pub within : i ≤ n
   pub racked : Between (pos 0) (λ j x. x ≡ rackingFigure (rackingPart (getD k j 0) d j)) 10 i n racking
-  pub pressed : Between 0 (λ j x. x ≡ compressionAt n k ts d vmax vmin lee windward j) 11 i (suc n) compressions
-  pub tensed : Between 0 (λ j x. x ≡ tensionAt n k ts d vmax vmin lee windward j) 10 i n tensions
+  pub pressed : Between 0 (λ j x. x ≡ compressionAt n k ts d vmax vmin lee windward j) 11 i (suc n) (take 11 levels)
+  pub tensed : Between 0 (λ j x. x ≡ tensionAt n k ts d vmax vmin lee windward j) 10 i n (drop 11 levels)
+  pub levels-long : length levels ≡ 21
   pub moment-is : moment ≡ momentPart k d (drop i ts) i
   pub lees-are : lees ≡ from-corner n lee (2 * i)
   pub windwards-are : windwards ≡ from-corner n windward (2 * i)
@@ -87,21 +100,24 @@ module _ {n : ℕ} {k : List ℕ} {ts : List Tier} {d vmax vmin lee windward : L
       lee
       windward
       (replicate 10 (pos 0))
-      (set (replicate 11 0) n v)
-      (replicate 10 0)
+      (set (replicate 21 0) n v)
       (pos 0)
       (getD lee (2 * n) 0)
       (getD windward (2 * n) 0)
       n
   at-top {v} e =
+      let low : n < 11 = omega (arith, m .few) in
       let no-moment = moment-off k d ts n stacked in
       let top-lee = total-top lee (2 * n) (omega (arith, m .few, m .lee-long)) in
       let top-windward = total-top windward (2 * n) (omega (arith, m .few, m .windward-long)) in
       record {
         within = omega arith;
         racked = between-none _ _ 10 n;
-        pressed = fill-above _ _ 11 n n _ v (omega (arith, m .few)) (rw (no-moment, ← top-lee, ← top-windward) e) (between-none _ _ 11 n);
-        tensed = between-none _ _ 10 n;
+        pressed =
+            rw (take-set-lt 11 (replicate 21 0) n v low)
+            (fill-above _ _ 11 n n _ v low (rw (no-moment, ← top-lee, ← top-windward) e) (between-none _ _ 11 n));
+        tensed = rw (drop-set-lt 11 (replicate 21 0) n v low) (between-none _ _ 10 n);
+        levels-long = length-set (replicate 21 0) n v;
         moment-is = sym no-moment;
         lees-are = top-lee;
         windwards-are = top-windward;
@@ -111,43 +127,45 @@ module _ {n : ℕ} {k : List ℕ} {ts : List Tier} {d vmax vmin lee windward : L
       }
 
   -- the parts on a post that count in the tension at level j, and in the compression, from those at the level over it
-  abbrev Both : List ℕ → ℕ → ℕ → Type 0
-  Both v above j =
-      (above + getD v (2 * j + 1) 0 ≡ from-corner n v (suc (2 * j)))
-      × (above + getD v (2 * j + 1) 0 + getD v (2 * j) 0 ≡ from-corner n v (2 * j))
+  abbrev Both : List ℕ → ℕ → ℕ → ℕ → ℕ → Type 0
+  Both v above bottom top j =
+      (above + bottom ≡ from-corner n v (suc (2 * j))) × (above + bottom + top ≡ from-corner n v (2 * j))
 
-  both : (v : List ℕ) {above j : ℕ} → j < n → suc (2 * n) ≤ length v → above ≡ from-corner n v (2 * suc j) → Both v above j
-  both v {above} {j} h room e =
+  both :
+      (v : List ℕ) {above bottom top j : ℕ} →
+      j < n →
+      suc (2 * n) ≤ length v →
+      above ≡ from-corner n v (2 * suc j) →
+      bottom ≡ getD v (2 * j + 1) 0 →
+      top ≡ getD v (2 * j) 0 →
+      Both v above bottom top j
+  both v {above} {bottom} {top} {j} h room e eb et =
       let twice : 2 * suc j ≡ suc (suc (2 * j)) = omega arith in
       let next : 2 * j + 1 ≡ suc (2 * j) = omega arith in
-      let bottom = total-peel v (suc (2 * n)) (suc (2 * j)) (omega arith) room in
-      let top = total-peel v (suc (2 * n)) (2 * j) (omega arith) room in
+      let low = total-peel v (suc (2 * n)) (suc (2 * j)) (omega arith) room in
+      let high = total-peel v (suc (2 * n)) (2 * j) (omega arith) room in
       let over : above ≡ from-corner n v (suc (suc (2 * j))) = rw twice at e in
-      rw next (omega (arith, over, bottom), omega (arith, over, bottom, top))
+      let under : bottom ≡ getD v (suc (2 * j)) 0 = rw next at eb in
+      (omega (arith, over, under, low), omega (arith, over, under, low, high))
 
-  module _ {racking : List ℤ} {compressions tensions : List ℕ} {moment : ℤ} {lees windwards : ℕ} where
-    -- to the level under tier j, with the values that the code has there
+  module _ {racking : List ℤ} {levels : List ℕ} {moment : ℤ} {lees windwards : ℕ} where
+    -- to the level under tier j, with the values that the code has there: bl and bw are the parts of the bottom hooks at the level, on the
+    -- lee post and on the windward one, tl and tw those of the top hooks
     to-under :
-        {j : ℕ} {p : ℤ} {h : ℕ} {r moment′ : ℤ} {lees′ windwards′ compression tension : ℕ} →
-        FiguredFrom n k ts d vmax vmin lee windward racking compressions tensions moment lees windwards (suc j) →
+        {j : ℕ} {p : ℤ} {h : ℕ} {r : ℤ} {bl bw tl tw compression tension : ℕ} {moment′ : ℤ} {lees′ windwards′ : ℕ} →
+        FiguredFrom n k ts d vmax vmin lee windward racking levels moment lees windwards (suc j) →
         p ≡ rackingPart (getD k j 0) d j →
         h ≡ getD ts j blankTier .height →
         r ≡ rackingFigure p →
+        bl ≡ getD lee (2 * j + 1) 0 →
+        bw ≡ getD windward (2 * j + 1) 0 →
+        tl ≡ getD lee (2 * j) 0 →
+        tw ≡ getD windward (2 * j) 0 →
         moment′ ≡ pos h *ℤ p +ℤ moment →
-        lees′ ≡ lees + getD lee (2 * j + 1) 0 + getD lee (2 * j) 0 →
-        windwards′ ≡ windwards + getD windward (2 * j + 1) 0 + getD windward (2 * j) 0 →
-        compression
-        ≡ compressionFrom
-        (getD vmax j 0)
-        (pos h *ℤ p +ℤ moment)
-        (lees + getD lee (2 * j + 1) 0 + getD lee (2 * j) 0)
-        (windwards + getD windward (2 * j + 1) 0 + getD windward (2 * j) 0) →
-        tension
-        ≡ tensionFrom
-        (getD vmin j 0)
-        (pos h *ℤ p +ℤ moment)
-        (lees + getD lee (2 * j + 1) 0)
-        (windwards + getD windward (2 * j + 1) 0) →
+        lees′ ≡ lees + bl + tl →
+        windwards′ ≡ windwards + bw + tw →
+        compression ≡ compressionFrom (getD vmax j 0) (pos h *ℤ p +ℤ moment) (lees + bl + tl) (windwards + bw + tw) →
+        tension ≡ tensionFrom (getD vmin j 0) (pos h *ℤ p +ℤ moment) (lees + bl) (windwards + bw) →
         FiguredFrom
         n
         k
@@ -158,22 +176,24 @@ module _ {n : ℕ} {k : List ℕ} {ts : List Tier} {d vmax vmin lee windward : L
         lee
         windward
         (set racking j r)
-        (set compressions j compression)
-        (set tensions j tension)
+        (both-set levels j compression tension)
         moment′
         lees′
         windwards′
         j
-    to-under {j} {p} {h} {r} {moment′} {lees′} {windwards′} {compression} {tension} s ep eh er em el ew ec et =
+    to-under {j} {p} {h} {r} {bl} {bw} {tl} {tw} {compression} {tension} s ep eh er ebl ebw etl etw em el ew ec et =
         record {
           within = omega (arith, s .within);
           racked = fill-below _ _ 10 j n racking r (s .within) (omega (arith, m .few, s .within)) (rw ep at er) (s .racked);
           pressed =
-              fill-below _ _ 11 j (suc n) compressions compression (omega (arith, s .within)) (omega (arith, m .few, s .within))
-              (rw (← moment-under, ← lee-under .1, ← windward-under .1) ec) (s .pressed);
+              rw (compressions-set levels low compression tension)
+              (fill-below _ _ 11 j (suc n) (take 11 levels) compression (omega (arith, s .within)) low
+              (rw (← moment-under, ← lee-under .1, ← windward-under .1) ec) (s .pressed));
           tensed =
-              fill-below _ _ 10 j n tensions tension (s .within) (omega (arith, m .few, s .within))
-              (rw (← moment-under, ← lee-under .0, ← windward-under .0) et) (s .tensed);
+              rw (tensions-set levels low compression tension)
+              (fill-below _ _ 10 j n (drop 11 levels) tension (s .within) (omega (arith, m .few, s .within))
+              (rw (← moment-under, ← lee-under .0, ← windward-under .0) et) (s .tensed));
+          levels-long = simp length-set (s .levels-long);
           moment-is = em ∙ moment-under;
           lees-are = el ∙ lee-under .1;
           windwards-are = ew ∙ windward-under .1;
@@ -182,15 +202,18 @@ module _ {n : ℕ} {k : List ℕ} {ts : List Tier} {d vmax vmin lee windward : L
           windwards-small = omega (arith, s .within, s .windwards-small, m .windward-small (2 * j + 1), m .windward-small (2 * j));
         }
       where
+        low : j < 11
+        low = omega (arith, m .few, s .within)
+
         moment-under : pos h *ℤ p +ℤ moment ≡ momentPart k d (drop j ts) j
         moment-under =
             rw (ep, eh, s .moment-is) (sym (moment-peel k d ts j (omega (arith, s .within))))
 
-        lee-under : Both lee lees j
-        lee-under = both lee (s .within) (omega (arith, m .few, m .lee-long)) (s .lees-are)
+        lee-under : Both lee lees bl tl j
+        lee-under = both lee (s .within) (omega (arith, m .few, m .lee-long)) (s .lees-are) ebl etl
 
-        windward-under : Both windward windwards j
-        windward-under = both windward (s .within) (omega (arith, m .few, m .windward-long)) (s .windwards-are)
+        windward-under : Both windward windwards bw tw j
+        windward-under = both windward (s .within) (omega (arith, m .few, m .windward-long)) (s .windwards-are) ebw etw
 
         small : Small ((n - j) * most-turn) (pos h *ℤ p +ℤ moment)
         small =
@@ -199,27 +222,21 @@ module _ {n : ℕ} {k : List ℕ} {ts : List Tier} {d vmax vmin lee windward : L
 
     -- the same at the code's own index
     pub turned-once :
-        {i : ℕ} {p : ℤ} {h : ℕ} {r moment′ : ℤ} {lees′ windwards′ compression tension : ℕ} →
+        {i : ℕ} {p : ℤ} {h : ℕ} {r : ℤ} {bl bw tl tw compression tension : ℕ} {moment′ : ℤ} {lees′ windwards′ : ℕ} →
         0 < i →
-        FiguredFrom n k ts d vmax vmin lee windward racking compressions tensions moment lees windwards i →
+        FiguredFrom n k ts d vmax vmin lee windward racking levels moment lees windwards i →
         p ≡ quotZ (pos (getD k (i - 1) 0 * getD d i 0) -ℤ pos (getD k (i - 1) 0 * getD d (i - 1) 0)) (pos 1024) →
         h ≡ getD ts (i - 1) blankTier .height →
         r ≡ rackingFigure p →
+        bl ≡ getD lee (2 * (i - 1) + 1) 0 →
+        bw ≡ getD windward (2 * (i - 1) + 1) 0 →
+        tl ≡ getD lee (2 * (i - 1)) 0 →
+        tw ≡ getD windward (2 * (i - 1)) 0 →
         moment′ ≡ pos h *ℤ p +ℤ moment →
-        lees′ ≡ lees + getD lee (2 * (i - 1) + 1) 0 + getD lee (2 * (i - 1)) 0 →
-        windwards′ ≡ windwards + getD windward (2 * (i - 1) + 1) 0 + getD windward (2 * (i - 1)) 0 →
-        compression
-        ≡ compressionFrom
-        (getD vmax (i - 1) 0)
-        (pos h *ℤ p +ℤ moment)
-        (lees + getD lee (2 * (i - 1) + 1) 0 + getD lee (2 * (i - 1)) 0)
-        (windwards + getD windward (2 * (i - 1) + 1) 0 + getD windward (2 * (i - 1)) 0) →
-        tension
-        ≡ tensionFrom
-        (getD vmin (i - 1) 0)
-        (pos h *ℤ p +ℤ moment)
-        (lees + getD lee (2 * (i - 1) + 1) 0)
-        (windwards + getD windward (2 * (i - 1) + 1) 0) →
+        lees′ ≡ lees + bl + tl →
+        windwards′ ≡ windwards + bw + tw →
+        compression ≡ compressionFrom (getD vmax (i - 1) 0) (pos h *ℤ p +ℤ moment) (lees + bl + tl) (windwards + bw + tw) →
+        tension ≡ tensionFrom (getD vmin (i - 1) 0) (pos h *ℤ p +ℤ moment) (lees + bl) (windwards + bw) →
         FiguredFrom
         n
         k
@@ -230,8 +247,7 @@ module _ {n : ℕ} {k : List ℕ} {ts : List Tier} {d vmax vmin lee windward : L
         lee
         windward
         (set racking (i - 1) r)
-        (set compressions (i - 1) compression)
-        (set tensions (i - 1) tension)
+        (set (set levels (i - 1) compression) (11 + (i - 1)) tension)
         moment′
         lees′
         windwards′
@@ -240,15 +256,15 @@ module _ {n : ℕ} {k : List ℕ} {ts : List Tier} {d vmax vmin lee windward : L
     turned-once {i} up s ep =
         let e : i ≡ suc (i - 1) = omega arith in
         to-under
-        (subst (λ (z : ℕ). FiguredFrom n k ts d vmax vmin lee windward racking compressions tensions moment lees windwards z) e s)
+        (subst (λ (z : ℕ). FiguredFrom n k ts d vmax vmin lee windward racking levels moment lees windwards z) e s)
         (ep ∙ ap (λ (z : ℕ). quotZ (pos (getD k (i - 1) 0 * getD d z 0) -ℤ pos (getD k (i - 1) 0 * getD d (i - 1) 0)) (pos 1024)) e)
 
     pub at-foot :
         {i : ℕ} →
         i ≤ 0 →
-        FiguredFrom n k ts d vmax vmin lee windward racking compressions tensions moment lees windwards i →
-        LevelsFigured n k ts d vmax vmin lee windward racking compressions tensions
+        FiguredFrom n k ts d vmax vmin lee windward racking levels moment lees windwards i →
+        LevelsFigured n k ts d vmax vmin lee windward racking (take 11 levels) (drop 11 levels)
     at-foot {i} h s =
         let e : i ≡ 0 = omega arith in
-        let f = subst (λ (z : ℕ). FiguredFrom n k ts d vmax vmin lee windward racking compressions tensions moment lees windwards z) e s in
+        let f = subst (λ (z : ℕ). FiguredFrom n k ts d vmax vmin lee windward racking levels moment lees windwards z) e s in
         record { racking-is = filled (f .racked); compression-is = filled (f .pressed); tension-is = filled (f .tensed) }

@@ -2,7 +2,8 @@
 
 ghost use mathlib.Core.Path.{_≡_};
 ghost use Prim.Native.Nat.{_<_};
-ghost use lib.ListN.{length, take, getD};
+ghost use lib.IntN.{pos};
+ghost use lib.ListN.{length, take, drop, getD, replicate};
 ghost use Rattle.figures_levels.specs.inner.Levels.{LevelInputs, LevelsFigured};
 use figures_posts::compression_of;
 use figures_posts::racking_figure;
@@ -23,14 +24,8 @@ fn parts_at(lee: &[u64], windward: &[u64], corner: usize) -> PostParts
     }
 }
 
-// Of each level: racking of the tier over it, compression and tension.
-pub struct LevelFigures {
-    pub racking: [i32; 10],
-    pub compression: [u64; 11],
-    pub tension: [u64; 10],
-}
-
-// The figures of all levels and tiers, with the sums of what stands above carried down.
+// The figures of all levels and tiers, with the sums of what stands above carried down: of each level the racking of the tier over it, the
+// compression, and behind the eleven compressions the tension.
 pub fn level_figures(
     n: usize,
     k: &[u64],
@@ -40,17 +35,18 @@ pub fn level_figures(
     vmin: &[u64],
     lee: &[u64],
     windward: &[u64],
-) -> LevelFigures
+    racking: &mut [i32],
+    levels: &mut [u64],
+)
     requires { ⌜ LevelInputs n (now k) (take n tiers) (now d) (now vmax) (now vmin) (now lee) (now windward) ⌝ }
     requires { ⌜ (length (now k) ≡ 10) × (length (now d) ≡ 11) × (length (now vmax) ≡ 11) × (length (now vmin) ≡ 11) ⌝ }
-    ensures { λ r. ⌜ LevelsFigured n (now (k .entry)) (take n tiers) (now (d .entry)) (now (vmax .entry)) (now (vmin .entry))
-        (now (lee .entry)) (now (windward .entry)) (r .racking) (r .compression) (r .tension) ⌝ }
+    requires { ⌜ (now racking ≡ replicate 10 (pos 0)) × (now levels ≡ replicate 21 0) ⌝ }
+    ensures { λ _. ⌜ LevelsFigured n (now (k .entry)) (take n tiers) (now (d .entry)) (now (vmax .entry)) (now (vmin .entry))
+        (now (lee .entry)) (now (windward .entry)) (now (racking .exit)) (take 11 (now (levels .exit))) (drop 11 (now (levels .exit))) ⌝ }
+    ensures { λ _. ⌜ (length (now (racking .exit)) ≡ 10) × (length (now (levels .exit)) ≡ 21) ⌝ }
 {
-    let mut racking = [0i32; 10];
-    let mut compression = [0u64; 11];
-    let mut tension = [0u64; 10];
     let highest = parts_at(lee, windward, 2 * n);
-    compression[n] = compression_of(vmax[n], 0, highest);
+    levels[n] = compression_of(vmax[n], 0, highest);
     let mut above = Above {
         moment: 0,
         parts: highest,
@@ -64,14 +60,10 @@ pub fn level_figures(
         let bottom = parts_at(lee, windward, 2 * i + 1);
         let top = parts_at(lee, windward, 2 * i);
         let l = level_under(above, part, t.height, bottom, top, vmax[i], vmin[i]);
-        racking[i] = racking_figure(part);
-        compression[i] = l.compression;
-        tension[i] = l.tension;
+        let force = racking_figure(part);
+        racking[i] = force;
+        levels[i] = l.compression;
+        levels[11 + i] = l.tension;
         above = l.above;
-    }
-    LevelFigures {
-        racking,
-        compression,
-        tension,
     }
 }

@@ -1,16 +1,15 @@
 // A tier's racking and the forces on the posts of one level. Scales are those of statics/specs/inner/WholeNumbers.
 
 ghost use mathlib.Core.Path.{_≡_};
-ghost use Prim.Native.Nat.{_*_, _≤_, _^_};
+ghost use Prim.Native.Nat.{_+_, _*_, _/_, _≤_, _^_};
 ghost use lib.IntN.{pos, natAbs, negℤ, _+ℤ_, _-ℤ_, _*ℤ_};
-ghost use lib.Signed.{quotZ};
+ghost use lib.Signed.{quotZ, shrZ};
+ghost use Rattle.arith.specs.inner.Rounding.{roundedUpZ};
 ghost use Rattle.arith.specs.inner.Sizes.{Small};
 ghost use Rattle.springs.specs.Equations.{closedSpring};
 ghost use Rattle.statics.specs.Posts.{postSpacing};
 ghost use Rattle.statics.specs.inner.WholeNumbers.{rackingFigure, postFigure, notBelow};
 ghost use Rattle.figures_posts.specs.inner.Posts.{greaterOf, leeOf, windwardOf};
-use arith::rounding::ceil_signed;
-use statics::NEWTON;
 use statics::PostParts;
 
 // What a racking and a post sum may lack: 0.06 N and 3.09 N.
@@ -30,7 +29,7 @@ pub fn racking_part(k: u64, upper: u64, lower: u64) -> i64
 }
 
 fn negative(x: i64) -> i64
-    requires { ⌜ Small (3 * 2 ^ 61) x ⌝ }
+    requires { ⌜ Small (7 * 2 ^ 60) x ⌝ }
     ensures { λ r. ⌜ r ≡ negℤ x ⌝ }
 {
     -x
@@ -47,12 +46,27 @@ fn size(x: i64) -> i64
     x
 }
 
+// A force in 2^-18 N, in N downwards.
+fn newtons_down(x: i64) -> i64
+    ensures { λ r. ⌜ r ≡ shrZ x (2 ^ 18) ⌝ }
+{
+    x >> 18
+}
+
+// A force in 2^-18 N, in N upwards: its opposite downwards. A shift takes fewer steps than a quotient and its remainder.
+fn newtons_up(m: i64) -> i64
+    requires { ⌜ Small (7 * 2 ^ 60) m ⌝ }
+    ensures { λ r. ⌜ (r ≡ roundedUpZ m (2 ^ 18)) × Small (natAbs m / 2 ^ 18 + 1) r ⌝ }
+{
+    negative(newtons_down(negative(m)))
+}
+
 // The figure of a racking: its padded size, in N upwards, with the sign kept.
 pub fn racking_figure(part: i64) -> i32
     requires { ⌜ Small (2 ^ 45) part ⌝ }
     ensures { λ r. ⌜ r ≡ rackingFigure part ⌝ }
 {
-    let newtons = ceil_signed(size(part) + RACKING_PAD, NEWTON) as i32;
+    let newtons = newtons_up(size(part) + RACKING_PAD) as i32;
     if part < 0 {
         return -newtons;
     }
@@ -83,7 +97,7 @@ fn post_figure(x: i64, y: i64) -> u64
     requires { ⌜ Small (3 * 2 ^ 61) x × Small (3 * 2 ^ 61) y ⌝ }
     ensures { λ r. ⌜ r ≡ postFigure x y ⌝ }
 {
-    not_below(ceil_signed(greater(x, y) + POST_PAD, NEWTON))
+    not_below(newtons_up(greater(x, y) + POST_PAD))
 }
 
 // The sum of a post: half the weight above, what the moment adds, and the vertical parts.

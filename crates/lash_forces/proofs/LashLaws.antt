@@ -17,28 +17,19 @@ module _ {n : ℕ} {l : Lash} (f : LashLimits n l) where
 
   -- the steps to the stiffness
   module _ {L : ℕ} (e : L ≡ lashLength l) where
-    pub force-le : l .modulus * l .area ≤ 200000 * 1000
-    force-le = mul-le-mul (f .modulus-most) (f .area-most)
+    pub load-le : l .modulus * l .area ≤ 200000 * 1000
+    load-le = mul-le-mul (f .modulus-most) (f .area-most)
 
     pub side-le : l .ly * l .ly ≤ 10000 * 10000
     side-le = mul-le-mul (f .ly-most) (f .ly-most)
 
-    pub top-le : l .modulus * l .area * (l .ly * l .ly) ≤ 200000 * 1000 * (10000 * 10000)
-    top-le = mul-le-mul force-le side-le
-
-    L-most : L ≤ 22913
-    L-most = omega (arith, length-most f)
+    pub long-le : L ≤ 22913
+    long-le = omega (arith, length-most f)
 
     L-least : l .ly ≤ L
     L-least = omega (arith, length-ly)
 
-    pub square-le : L * L ≤ 22913 * 22913
-    square-le = mul-le-mul L-most L-most
-
-    pub cube-le : L * L * L ≤ 22913 * 22913 * 22913
-    cube-le = mul-le-mul square-le L-most
-
-    -- c is at least 500 L², and 500 L² at least 1
+    -- the cube is at least 500 L², and 500 L² at least 1
     cube-least : L * L * 500 ≤ L * L * L
     cube-least = mul-le-mul-left (L * L) (omega (arith, f .ly, L-least))
 
@@ -47,7 +38,7 @@ module _ {n : ℕ} {l : Lash} (f : LashLimits n l) where
 
     pub quotient-le : l .modulus * l .area * (l .ly * l .ly) / (L * L * L) ≤ 400000
     quotient-le =
-        let h : l .modulus * l .area * (l .ly * l .ly) ≤ 200000 * 1000 * (L * L) = mul-le-mul force-le (mul-le-mul L-least L-least) in
+        let h : l .modulus * l .area * (l .ly * l .ly) ≤ 200000 * 1000 * (L * L) = mul-le-mul load-le (mul-le-mul L-least L-least) in
         div-le-of-le-mul (L * L * L) (omega (arith, h, cube-least))
 
 -- the athwart part

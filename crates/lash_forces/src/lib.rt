@@ -9,9 +9,8 @@ ghost use Rattle.statics.specs.Lashes.{lashLength};
 ghost use Rattle.statics.specs.inner.WholeNumbers.{lashPad, stiffnessOf, leePart, windwardPart};
 ghost use Rattle.lash_forces.specs.inner.OneLash.{carriedLash, verticalFrom, cornerOf};
 use arith::rounding::ceil_div;
-use arith::rounding::scaled;
-use arith::rounding::scaled_twice;
 use arith::rounding::split_product;
+use lash_stiffness::stiffness;
 use sheet::Lash;
 use sheet::Lashing;
 use statics::NEWTON;
@@ -36,27 +35,13 @@ pub fn hook_corner(l: Lash) -> usize
     (2 * l.tier - l.hook) as usize
 }
 
-// What a lash's force over its length's cube gives, in 2^-22 N/mm. A lash under 16,384 mm takes a division less.
-fn over_cube(force: u64, cube: u64) -> u64
-    requires { ⌜ (0 < cube) × (cube ≤ 22913 * 22913 * 22913) × (force / cube ≤ 400000) ⌝ }
-    ensures { λ r. ⌜ r ≡ force * 2 ^ 22 / cube ⌝ }
-{
-    if cube < 4398046511104 {
-        return scaled(force, 4194304, cube);
-    }
-    scaled_twice(force, 1048576, 4, cube)
-}
-
 // The athwart stiffness of a lash of this length.
 pub fn stiffness_of(l: Lash, long: u64) -> u64
     requires { ⌜ LashLimits 10 l × (long ≡ lashLength l) ⌝ }
     ensures { λ r. ⌜ r ≡ stiffnessOf l ⌝ }
 {
     let ly = l.ly as u64;
-    over_cube(
-        (l.modulus as u64) * (l.area as u64) * (ly * ly),
-        long * long * long,
-    )
+    stiffness((l.modulus as u64) * (l.area as u64), ly * ly, long)
 }
 
 // The athwart part of a lash at a shift of its hook.

@@ -41,7 +41,8 @@ use Rattle.arith.proofs.FractionsInRationals.{sumℚ, mk-int, mk-div, mk-sum, o
 use Rattle.springs.specs.Equations.{Tier, Lash, tierAt, shift, stiffnessAt, loadAt, racking, Solves}
 use Rattle.springs.specs.inner.Promise.{stiffnessScale, loadScale, shiftScale, Near}
 use Rattle.springs.specs.inner.Elimination.{divisor, shiftUp}
-use Rattle.springs.specs.inner.Bound.{springAt, levelError, summedError, shiftBy, SummedBound}
+use Rattle.springs.specs.inner.Balance.{springAt}
+use Rattle.springs.specs.inner.Bound.{levelError, summedError, shiftBy, SummedBound}
 use Rattle.springs.proofs.Chain.{natℚ, force, load}
 use Rattle.springs.proofs.Levels.{springs, lashes, loads, shifts, mk-stiffness, mk-load, mk-racking, no-spring, spring-pos}
 use Rattle.springs.proofs.Stability.{lash-errors, racking-errors, mk-errors}

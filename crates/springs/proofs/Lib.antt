@@ -10,5 +10,9 @@ pub mod Ranges
 pub mod Inputs
 pub mod Residuals
 pub mod Bound
+pub mod Candidates
+pub mod Balance
+pub mod Certified
 pub mod Solved
 pub mod Examples
+pub mod Solutions

@@ -1,4 +1,4 @@
--- The solver's recursion level by level: what is handed down to a level and its shift, of those next to it; and the entries of `solved`.
+-- Elimination's recursion level by level: what is handed down to a level and its shift, of those next to it; the entries of `eliminated`.
 use mathlib.Core.Path.{_≡_, refl, sym, ap, _∙_}
 use mathlib.Core.Bool.{cond}
 use mathlib.Core.List.{List}
@@ -10,7 +10,7 @@ use lib.ListN.{length, getD, List·getD-eq-default}
 use lib.Seq.{ext-getD}
 use borrow.Author.Tests.{lt-ltb, le-ltb}
 use Rattle.arith.proofs.Arrays.{length-entries, entry}
-use Rattle.springs.specs.inner.Elimination.{stiffnessDown, loadDown, shiftUp, stiffnessTo, loadTo, shiftAt, solved}
+use Rattle.springs.specs.inner.Elimination.{stiffnessDown, loadDown, shiftUp, stiffnessTo, loadTo, shiftAt, eliminated}
 
 module _ (n : ℕ) (k κ ω : List ℕ) where
   -- what is handed down to level j, and its shift
@@ -61,23 +61,23 @@ module _ (n : ℕ) (k κ ω : List ℕ) where
       ap (λ b. cond b up 0) (le-ltb j n (omega arith))
 
   -- entries
-  pub length-solved : length (solved n k κ ω) ≡ 11
-  unfolding solved
-  length-solved = length-entries d 0 11
+  pub length-eliminated : length (eliminated n k κ ω) ≡ 11
+  unfolding eliminated
+  length-eliminated = length-entries d 0 11
 
-  pub entry-solved : (j : ℕ) → j < 11 → getD (solved n k κ ω) j 0 ≡ d j
-  unfolding solved
-  entry-solved j h = entry d 0 0 11 j h ∙ ap d (zero-add j)
+  pub entry-eliminated : (j : ℕ) → j < 11 → getD (eliminated n k κ ω) j 0 ≡ d j
+  unfolding eliminated
+  entry-eliminated j h = entry d 0 0 11 j h ∙ ap d (zero-add j)
 
   -- of at most ten tiers, at every level
-  pub shift-solved : n ≤ 10 → (j : ℕ) → getD (solved n k κ ω) j 0 ≡ d j
-  shift-solved few j = go (decLe (suc j) 11)
+  pub shift-eliminated : n ≤ 10 → (j : ℕ) → getD (eliminated n k κ ω) j 0 ≡ d j
+  shift-eliminated few j = go (decLe (suc j) 11)
     where
-      go : Dec (suc j ≤ 11) → getD (solved n k κ ω) j 0 ≡ d j
-      go (yes h) = entry-solved j h
-      go (no h) = List·getD-eq-default (solved n k κ ω) 0 (omega (arith, length-solved)) ∙ sym (shift-behind j (omega arith))
+      go : Dec (suc j ≤ 11) → getD (eliminated n k κ ω) j 0 ≡ d j
+      go (yes h) = entry-eliminated j h
+      go (no h) = List·getD-eq-default (eliminated n k κ ω) 0 (omega (arith, length-eliminated)) ∙ sym (shift-behind j (omega arith))
 
-  -- an array of the shifts is `solved`
-  pub is-solved : (l : List ℕ) → length l ≡ 11 → ((j : ℕ) → getD l j 0 ≡ d j) → l ≡ solved n k κ ω
-  is-solved l e h =
-      ext-getD 0 l (solved n k κ ω) (e ∙ sym length-solved) (λ j b. h j ∙ sym (entry-solved j (omega (arith, e))))
+  -- an array of the shifts is `eliminated`
+  pub is-eliminated : (l : List ℕ) → length l ≡ 11 → ((j : ℕ) → getD l j 0 ≡ d j) → l ≡ eliminated n k κ ω
+  is-eliminated l e h =
+      ext-getD 0 l (eliminated n k κ ω) (e ∙ sym length-eliminated) (λ j b. h j ∙ sym (entry-eliminated j (omega (arith, e))))

@@ -1,6 +1,7 @@
--- What the solver returns, by its name `solved`: it is as near to the exact shifts as specs/Promise says, has 11 entries, and depends on
--- the first n springs, lashes and loads alone.
+-- What elimination gives, by its name `eliminated`, is as near to the exact shifts as specs/Promise says; so is what the solver returns,
+-- `solved`.
 use mathlib.Core.Path.{_≡_, refl, sym, ap, subst, fun-ext, _∙_}
+use mathlib.Core.Bool.{Bool, true, false, cond}
 use mathlib.Core.List.{List}
 use Prim.Native.Nat.{ℕ, zero, suc, _+_, _*_, _-_, _≤_, _<_}
 use native.Mathlib.Nat.{max-le}
@@ -22,11 +23,16 @@ use Rattle.arith.proofs.FractionLaws.{⊑-trans}
 use Rattle.springs.specs.Equations.{closedSpring, Tier, Lash, tierAt, shift, racking, Solves}
 use Rattle.springs.specs.inner.Promise.{stiffnessScale, farthest, shiftScale, found, Near}
 use Rattle.springs.specs.inner.Promise.{Solvable, errorHundredths, lashError, rackingError, Promised}
-use Rattle.springs.specs.inner.Elimination.{solved}
-use Rattle.springs.specs.inner.Bound.{springAt, levelError, summedError, shiftBy}
+use Rattle.springs.specs.inner.Elimination.{eliminated, solved}
+use Rattle.springs.specs.inner.Candidate.{candidate}
+use Rattle.springs.specs.inner.Balance.{springAt, inBalance}
+use Rattle.springs.specs.inner.Bound.{levelError, summedError, shiftBy}
 use Rattle.springs.proofs.Chain.{natℚ}
 use Rattle.springs.proofs.Recursion as R
 use Rattle.springs.proofs.Ranges.{in-range, far-at}
+use Rattle.springs.proofs.Candidates as C
+use Rattle.springs.proofs.Balance.{all-levels}
+use Rattle.springs.proofs.Certified.{certified}
 use Rattle.springs.proofs.Bound.{unit, errors, mk-summed, summed-bound}
 
 -- the most that a level may be out of balance by under document 01's limits, in 2^-50 N: less than 0.00495 N
@@ -111,13 +117,13 @@ module _ (n : ℕ) (k κ ω : List ℕ) (s : Solvable n k κ ω) where
           tt
 
   -- the shift found of each level, in mm
-  found-is : found (solved n k κ ω) ≡ shiftBy n k κ ω
-  found-is = fun-ext (λ i. ap (λ (a : ℕ). nat a /q nat shiftScale) (R.shift-solved n k κ ω (s .few) i))
+  found-is : found (eliminated n k κ ω) ≡ shiftBy n k κ ω
+  found-is = fun-ext (λ i. ap (λ (a : ℕ). nat a /q nat shiftScale) (R.shift-eliminated n k κ ω (s .few) i))
 
-  pub solved-promised : Promised n k κ ω (solved n k κ ω)
-  solved-promised = record {
-    deck = R.shift-solved n k κ ω (s .few) 0 ∙ R.shift-deck n k κ ω;
-    far = λ i. rw (R.shift-solved n k κ ω (s .few) i) (far-at n k κ ω s i);
+  pub eliminated-promised : Promised n k κ ω (eliminated n k κ ω)
+  eliminated-promised = record {
+    deck = R.shift-eliminated n k κ ω (s .few) 0 ∙ R.shift-deck n k κ ω;
+    far = λ i. rw (R.shift-eliminated n k κ ω (s .few) i) (far-at n k κ ω s i);
     lashes = lashes;
     rackings = rackings;
   }
@@ -126,7 +132,7 @@ module _ (n : ℕ) (k κ ω : List ℕ) (s : Solvable n k κ ω) where
           (ts : List Tier) (ls : List Lash) (Ds : List Frac) →
           Near n k κ ω ts ls →
           Solves ts ls Ds →
-          lashErrors (found (solved n k κ ω)) ls Ds ⊑ lashError
+          lashErrors (found (eliminated n k κ ω)) ls Ds ⊑ lashError
       lashes ts ls Ds near sol =
           subst (λ g. lashErrors g ls Ds ⊑ lashError) (sym found-is)
           (⊑-trans (lashErrors (shiftBy n k κ ω) ls Ds) (summedError n k κ ω) lashError
@@ -139,9 +145,37 @@ module _ (n : ℕ) (k κ ω : List ℕ) (s : Solvable n k κ ω) where
           Solves ts ls Ds →
           (i : ℕ) →
           i < n →
-          rackingErrorAt (found (solved n k κ ω)) ts Ds i ⊑ rackingError
+          rackingErrorAt (found (eliminated n k κ ω)) ts Ds i ⊑ rackingError
       rackings ts ls Ds near sol i h =
           subst (λ g. rackingErrorAt g ts Ds i ⊑ rackingError) (sym found-is)
           (⊑-trans (rackingErrorAt (shiftBy n k κ ω) ts Ds i) (summedError n k κ ω) rackingError
           (summed-bound n k κ ω ts ls Ds near sol .rackings i h)
           summed-most)
+
+  -- the candidate keeps the promise where each level is in balance under it
+  candidate-promised : inBalance n k κ ω (candidate n k κ ω) ≡ true → Promised n k κ ω (candidate n k κ ω)
+  candidate-promised e =
+      certified n k κ ω (candidate n k κ ω) (s .few)
+      (record {
+        deck = C.guess-candidate n k κ ω (s .few) 0 ∙ C.guess-deck n k κ ω;
+        over = λ j h. C.guess-candidate n k κ ω (s .few) j ∙ C.guess-behind n k κ ω j h;
+        far = C.candidate-far n k κ ω (s .few);
+      })
+      (all-levels n k κ ω (candidate n k κ ω) e)
+
+  pub solved-promised : Promised n k κ ω (solved n k κ ω)
+  unfolding solved
+  solved-promised = go (inBalance n k κ ω (candidate n k κ ω)) refl
+    where
+      go : (b : Bool) → inBalance n k κ ω (candidate n k κ ω) ≡ b → Promised n k κ ω (cond b (candidate n k κ ω) (eliminated n k κ ω))
+      go true e = candidate-promised e
+      go false e = eliminated-promised
+
+  -- either way
+  pub solved-candidate : inBalance n k κ ω (candidate n k κ ω) ≡ true → solved n k κ ω ≡ candidate n k κ ω
+  unfolding solved
+  solved-candidate e = ap (λ b. cond b (candidate n k κ ω) (eliminated n k κ ω)) e
+
+  pub solved-eliminated : inBalance n k κ ω (candidate n k κ ω) ≡ false → solved n k κ ω ≡ eliminated n k κ ω
+  unfolding solved
+  solved-eliminated e = ap (λ b. cond b (candidate n k κ ω) (eliminated n k κ ω)) e

@@ -1,2 +1,2 @@
--- Laws of the loops.
-pub mod Loops
+-- Laws of the solver.
+pub mod Laws

@@ -1,46 +1,26 @@
-// One end of a stack as a chain of springs: the shifts of its levels, in whole numbers. From the top down, each level learns what stiffness
-// and load the tiers over it hand down to it; then, from the deck up, each level's shift follows from the one under it.
+// One end of a stack as a chain of springs: the shifts of its levels, in whole numbers. They are found in floats and tested in whole
+// numbers; where a level is out of balance under them, they are found by elimination, which takes longer.
 // Arrays are lent as slices, so that no call copies them.
 ghost use mathlib.Core.Path.{_≡_};
-ghost use Prim.Native.Nat.{_<_, _≤_};
-ghost use lib.ListN.{length, getD};
+ghost use Prim.Native.Nat.{_≤_};
+ghost use lib.ListN.{length, replicate};
 ghost use Rattle.springs.specs.inner.Promise.{Solvable, Promised};
-ghost use Rattle.springs.specs.inner.Elimination.{solved, HandedDown};
-use springs_steps::load_down;
-use springs_steps::shift_up;
-use springs_steps::stiffness_down;
+ghost use Rattle.springs.specs.inner.Candidate.{candidate};
+ghost use Rattle.springs.specs.inner.Elimination.{solved};
+use springs_balance::balanced;
+use springs_eliminate::eliminate;
+use springs_guess::guess;
+use springs_guess_both::guess_both;
 
-// What is handed down to each level, 1 to n: stiffness to x, load to y, where level n gets nothing. The deck needs nothing.
-fn hand_down(n: usize, k: &[u64], kappa: &[u64], omega: &[u64], x: &mut [u64], y: &mut [u64])
+// Shifts that are a candidate, kept if they pass the test, else replaced.
+fn settle(n: usize, k: &[u64], kappa: &[u64], omega: &[u64], d: &mut [u64])
     requires { ⌜ Solvable n (now k) (now kappa) (now omega) × (n ≤ length (now k)) × (n ≤ length (now kappa)) × (n ≤ length (now omega)) ⌝ }
-    requires { ⌜ (length (now x) ≡ 11) × (length (now y) ≡ 11) × (getD (now x) n 0 ≡ 0) × (getD (now y) n 0 ≡ 0) ⌝ }
-    ensures { λ _. ⌜ HandedDown 1 n (now (k .entry)) (now (kappa .entry)) (now (omega .entry)) (now (x .exit)) (now (y .exit)) ⌝ }
+    requires { ⌜ now d ≡ candidate n (now k) (now kappa) (now omega) ⌝ }
+    ensures { λ _. ⌜ now (d .exit) ≡ solved n (now (k .entry)) (now (kappa .entry)) (now (omega .entry)) ⌝ }
 {
-    let mut i = n;
-    while 1 < i {
-        let j = i - 1;
-        let stiffness = stiffness_down(k[j], kappa[j], x[i]);
-        let load = load_down(k[j], kappa[j], omega[j], x[i], y[i]);
-        x[j] = stiffness;
-        y[j] = load;
-        i = j;
+    if !balanced(n, k, kappa, omega, d) {
+        eliminate(n, k, kappa, omega, d);
     }
-}
-
-// The shifts of levels 0 to n, where x and y are handed down.
-fn climb(n: usize, k: &[u64], kappa: &[u64], omega: &[u64], x: &[u64], y: &[u64]) -> [u64; 11]
-    requires { ⌜ Solvable n (now k) (now kappa) (now omega) × (n ≤ length (now k)) × (n ≤ length (now kappa)) × (n ≤ length (now omega)) ⌝ }
-    requires { ⌜ HandedDown 1 n (now k) (now kappa) (now omega) (now x) (now y) × (n < length (now x)) × (n < length (now y)) ⌝ }
-    ensures { λ r. ⌜ r ≡ solved n (now (k .entry)) (now (kappa .entry)) (now (omega .entry)) ⌝ }
-{
-    let mut d = [0u64; 11];
-    let mut i = 0;
-    while i < n {
-        let j = i + 1;
-        d[j] = shift_up(k[i], kappa[i], omega[i], x[j], y[j], d[i]);
-        i = j;
-    }
-    d
 }
 
 // The shifts of levels 0 to n, in 2^-28 mm, of n tiers: k their springs, in N/mm; of the level over each, kappa the stiffness of its
@@ -50,8 +30,33 @@ pub fn solve(n: usize, k: &[u64], kappa: &[u64], omega: &[u64]) -> [u64; 11]
     ensures promised { λ r. ⌜ Promised n (now (k .entry)) (now (kappa .entry)) (now (omega .entry)) r ⌝ }
     ensures named { λ r. ⌜ r ≡ solved n (now (k .entry)) (now (kappa .entry)) (now (omega .entry)) ⌝ }
 {
-    let mut x = [0u64; 11];
-    let mut y = [0u64; 11];
-    hand_down(n, k, kappa, omega, &mut x, &mut y);
-    climb(n, k, kappa, omega, &x, &y)
+    let mut d = [0u64; 11];
+    guess(n, k, kappa, omega, &mut d);
+    settle(n, k, kappa, omega, &mut d);
+    d
+}
+
+// The shifts of both ends, which have their loads in common: springs k and lashes kappa of the door end give d, h and eta of the closed end
+// give e. Both arrays hold zeros at the call.
+pub fn solve_both(
+    n: usize,
+    k: &[u64],
+    h: &[u64],
+    kappa: &[u64],
+    eta: &[u64],
+    omega: &[u64],
+    d: &mut [u64],
+    e: &mut [u64],
+)
+    requires { ⌜ Solvable n (now k) (now kappa) (now omega) × (n ≤ length (now k)) × (n ≤ length (now kappa)) × (n ≤ length (now omega)) ⌝ }
+    requires { ⌜ Solvable n (now h) (now eta) (now omega) × (n ≤ length (now h)) × (n ≤ length (now eta)) ⌝ }
+    requires { ⌜ (now d ≡ replicate 11 0) × (now e ≡ replicate 11 0) ⌝ }
+    ensures door { λ _. ⌜ (now (d .exit) ≡ solved n (now (k .entry)) (now (kappa .entry)) (now (omega .entry)))
+        × Promised n (now (k .entry)) (now (kappa .entry)) (now (omega .entry)) (now (d .exit)) ⌝ }
+    ensures closed { λ _. ⌜ (now (e .exit) ≡ solved n (now (h .entry)) (now (eta .entry)) (now (omega .entry)))
+        × Promised n (now (h .entry)) (now (eta .entry)) (now (omega .entry)) (now (e .exit)) ⌝ }
+{
+    guess_both(n, k, h, kappa, eta, omega, d, e);
+    settle(n, k, kappa, omega, d);
+    settle(n, h, eta, omega, e);
 }

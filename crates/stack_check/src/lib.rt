@@ -25,8 +25,32 @@ pub fn answer_to(t: Sheet, rule: LoadRule, answer: &mut [u8]) -> Outcome
     if answer.len() < LONGEST {
         return Outcome::Refused(13, LONGEST);
     }
-    let f = figures::figures_by(t, rule);
-    let n = write_answer(answer, t, f);
+    let mut doorRacking = [0i32; 10];
+    let mut doorLevels = [0u64; 21];
+    let mut doorForces = [0u64; 24];
+    let mut closedRacking = [0i32; 10];
+    let mut closedLevels = [0u64; 21];
+    let mut closedForces = [0u64; 24];
+    figures::figures_by(
+        t,
+        rule,
+        &mut doorRacking,
+        &mut doorLevels,
+        &mut doorForces,
+        &mut closedRacking,
+        &mut closedLevels,
+        &mut closedForces,
+    );
+    let n = write_answer(
+        answer,
+        t,
+        &doorRacking,
+        &doorLevels,
+        &doorForces,
+        &closedRacking,
+        &closedLevels,
+        &closedForces,
+    );
     Outcome::Taken(n)
 }
 

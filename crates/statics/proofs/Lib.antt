@@ -40,5 +40,6 @@ pub mod Margins
 pub mod Figured
 -- What a reader is told.
 pub mod Theorems
--- Arrays that loops fill.
+-- Arrays that loops fill, and their sections.
 pub mod Arrays
+pub mod Sections

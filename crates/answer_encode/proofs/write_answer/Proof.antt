@@ -1,15 +1,16 @@
 -- `answer_encode::write_answer`: the verdict, the sections of both ends and the findings are written one behind another.
 use mathlib.Core.Path.{_∙_}
-use Prim.Native.Nat.{_+_, _*_, _≤_}
+use Prim.Native.Nat.{_+_, _*_, _/_, _≤_}
 use native.Mathlib.Nat.{zero-add, le-trans}
 use native.Mathlib.Omega.{arith}
+use Rattle.answer_findings.specs.inner.Findings.{bothIn}
 use Rattle.answer_write.proofs.Stores.{from-start}
 use Rattle.answer_encode.proofs.AnswerLaws.{whole}
 use borrow.Author.Needs.{needs}
 use Rattle.answer_encode.proofs.write_answer.Statement.{statement}
 use Rattle.answer_encode.proofs.write_answer.Tie as tie
 
--- from each step to the one before it: the findings' count, the closed end, the door end, the verdict
+-- from each step to the one before it: the findings' count, the closed end, the door end, the verdict, the findings
 abbrev closed : tie.After-write12 → tie.After-write-end2
 closed c = c .before .before .before .before
 
@@ -19,8 +20,17 @@ door c = c .before .before .before .before
 abbrev marked : tie.After-write-end → tie.After-write1
 marked c = c .before .before .before .before
 
-findings-of-requires : tie.Need-findings-of-requires
-findings-of-requires c κs = search needs
+abbrev found : tie.After-write1 → tie.After-put-findings
+found c = c .before .before .before .before
+
+abbrev entered : tie.After-put-findings → tie.Start
+entered c = c .before .before .before .before .before .before .before
+
+slice-aggregate-put-findings : tie.Need-slice-aggregate-put-findings
+slice-aggregate-put-findings c = search needs
+
+put-findings-requires : tie.Need-put-findings-requires
+put-findings-requires c κs = search needs
 
 verdict-of-requires : tie.Need-verdict-of-requires
 verdict-of-requires c κs = search needs
@@ -39,38 +49,44 @@ write1-requires-2 c κs =
     let b = c .before .before .before in
     let a = door b in
     let w = marked a in
-    let g = w .before .before .before in
-    (omega (arith, g .findings-of .ensures .1), omega (arith, g .findings-of .ensures .1))
+    let g = found w in
+    let s = entered g in
+    let k = g .put-findings .ensures .within in
+    (omega (arith, k), omega (arith, k))
 
 add-first : tie.Need-add-first
 add-first c = search needs
 
 mul-size : tie.Need-mul-size
 mul-size c =
-    let d = c .before .before in
-    let b = closed d in
-    let a = door b in
-    let w = marked a in
-    let g = w .before .before .before in
-    omega (arith, g .findings-of .ensures .1)
+    let g = found (marked (door (closed (c .before .before)))) in
+    omega (arith, g .put-findings .ensures .within)
+
+slice-aggregate-write-found : tie.Need-slice-aggregate-write-found
+slice-aggregate-write-found c =
+    let g = found (marked (door (closed (c .before .before .before .before)))) in
+    search (needs, g .put-findings .ensures .put .room)
 
 write-found-requires : tie.Need-write-found-requires
 write-found-requires c κs =
-    let d = c .before .before .before .before .before .before in
+    let d = c .before .before .before .before in
     let b = closed d in
     let a = door b in
     let w = marked a in
-    let g = w .before .before .before in
-    (omega (arith, g .findings-of .ensures .1, c .write-found-arg3 .given .0), omega (arith, g .findings-of .ensures .1))
+    let g = found w in
+    let s = entered g in
+    let f = g .put-findings .ensures in
+    (omega (arith, f .within, f .put .room), omega (arith, f .within))
 
 add-result : tie.Need-add-result
 add-result c =
-    let d = c .before .before .before .before .before .before .before .before .before in
+    let d = c .before .before .before .before .before .before .before in
     let b = closed d in
     let a = door b in
     let w = marked a in
-    let g = w .before .before .before in
-    omega (arith, g .findings-of .ensures .1)
+    let g = found w in
+    let s = entered g in
+    omega (arith, g .put-findings .ensures .within)
 
 same-length : tie.Need-same-length
 same-length c = search needs
@@ -78,25 +94,31 @@ same-length c = search needs
 returns : tie.Need-returns
 returns c =
     let v = c .before .before in
-    let d = v .before .before .before .before .before .before .before in
+    let d = v .before .before .before .before .before in
     let b = closed d in
     let a = door b in
     let w = marked a in
-    let g = w .before .before .before in
-    let s = g .before .before in
-    let z = s .pre .0 in
+    let g = found w in
+    let s = entered g in
+    let x = s .args in
+    let z = s .pre .0 .0 in
+    let f =
+    bothIn (x .doorRacking .now) (x .doorLevels .now) (x .doorForces .now) (x .closedRacking .now) (x .closedLevels .now)
+    (x .closedForces .now) in
+    let found = g .put-findings .ensures in
+    let h : b .write-end2 .result + 1 + 3 * (g .put-findings .result / 3) ≤ 834 =
+    omega (arith, found .within, b .write-end2 .ensures .1, a .write-end .ensures .1, z .tiers, z .door-few, z .closed-few) in
     let p =
-    whole (s .args .t) (s .args .f) z (g .findings-of .ensures .0) (w .write1 .ensures) (w .before .verdict-of .ensures .0)
-    (a .write-end .ensures .0) (b .write-end2 .ensures .0) (d .write12 .ensures) (v .write-found .ensures) in
-    let h : b .write-end2 .result + 1 + 3 * g .findings-of .result .count ≤ 834 =
-    omega (arith, g .findings-of .ensures .1, b .write-end2 .ensures .1, a .write-end .ensures .1, z .tiers, z .door-few, z .closed-few) in
-    (p .place ∙ zero-add _, from-start p (le-trans h (s .pre .3)))
+    whole (x .t) f z found (w .write1 .ensures) (w .before .verdict-of .ensures .0) (a .write-end .ensures .0)
+    (b .write-end2 .ensures .0) (d .write12 .ensures) (v .write-found .ensures) in
+    (p .place ∙ zero-add _, from-start p (le-trans h (s .pre .0 .1)))
 
 pub write-answer-spec : {M : Type 1} → statement M
 write-answer-spec =
     tie.close
     (tie.spec
-    findings-of-requires
+    slice-aggregate-put-findings
+    put-findings-requires
     verdict-of-requires
     write1-requires
     write-end-requires
@@ -104,6 +126,7 @@ write-answer-spec =
     write1-requires-2
     add-first
     mul-size
+    slice-aggregate-write-found
     write-found-requires
     add-result
     same-length

@@ -1,16 +1,17 @@
--- `answer_findings::accepted`: the findings counted are none.
-use mathlib.Core.Path.{ap}
-use lib.Dec.{eqb}
+-- `answer_findings::accepted`, by the place behind the findings.
+use Rattle.answer_findings.proofs.FindingLaws.{none-accepted}
 use borrow.Author.Needs.{needs}
-use Rattle.answer_findings.specs.declared.Found.{Found}
 use Rattle.answer_findings.proofs.accepted.Statement.{statement}
 use Rattle.answer_findings.proofs.accepted.Tie as tie
 
-findings-of-requires : tie.Need-findings-of-requires
-findings-of-requires c κs = search needs
+slice-aggregate-put-findings : tie.Need-slice-aggregate-put-findings
+slice-aggregate-put-findings c = search needs
+
+put-findings-requires : tie.Need-put-findings-requires
+put-findings-requires c κs = search needs
 
 returns : tie.Need-returns
-returns c = ap (λ (x : Found). eqb (x .count) 0) (c .before .findings-of .ensures .0)
+returns c = none-accepted (c .before .put-findings .ensures)
 
 pub accepted-spec : {M : Type 1} → statement M
-accepted-spec = tie.close (tie.spec findings-of-requires returns)
+accepted-spec = tie.close (tie.spec slice-aggregate-put-findings put-findings-requires returns)

@@ -1,20 +1,19 @@
 -- Contracts of inner functions; nothing here need be believed.
 use mathlib.Core.Path.{_≡_}
 use mathlib.Core.List.{List, _++_, flatMap}
-use Prim.Native.Nat.{ℕ, _+_, _-_, _≤_}
-use lib.IntN.{pos, natAbs}
+use Prim.Native.Nat.{ℕ, _-_, _*_, _≤_}
+use lib.IntN.{ℤ, pos, natAbs}
 use lib.ListN.{getD, length}
 use Rattle.sheet.specs.declared.Lash.{Lash}
 use Rattle.sheet.specs.declared.Sheet.{Sheet}
 use Rattle.statics.specs.declared.EndFigures.{EndFigures}
 use Rattle.statics.specs.declared.Figures.{Figures}
+use Rattle.statics.specs.inner.InArrays.{figuresIn}
 use Rattle.sheet.specs.Ends.{door, closed, lashesOf}
 use Rattle.answer.specs.Limits.{rackingLimit, compressionLimit, lashVerticalLimit, lashAthwartLimit}
 use Rattle.answer.specs.Findings.{findings}
 use Rattle.answer.specs.Answers.{findingBytes}
-use Rattle.arith.specs.Lists.{padded}
-use Rattle.answer_put.specs.inner.Puts.{lashLimit, findingsOver}
-use Rattle.answer_findings.specs.declared.Found.{Found}
+use Rattle.answer_put.specs.inner.Puts.{Put, lashLimit, findingsOver}
 use Rattle.limits.specs.declared.PullLimit.{PullLimit}
 
 -- the counts of a sheet fit its arrays
@@ -38,6 +37,14 @@ lashFindings end ls m f =
     ++ findingsOver end 6 0 (λ j. getD (f .vertical) j 0) (λ j. lashVerticalLimit) m
     ++ findingsOver end 7 0 (λ j. getD (f .athwart) j 0) (λ j. lashAthwartLimit) m
 
--- the findings' bytes, three each, in an array that is zero behind them, and their count
-abbrev pub found : Sheet → Figures → Found
-found t f = record { bytes = padded 327 0 (flatMap findingBytes (findings t f)); count = length (findings t f) }
+-- the findings' bytes, three each, put into a buffer from its start, and the place behind them
+pub record PutFindings (t : Sheet) (f : Figures) (before after : List ℕ) (next : ℕ) : Type 0 where
+  pub put : Put before 0 (flatMap findingBytes (findings t f)) after next
+  pub three : next ≡ 3 * length (findings t f)
+  pub few : length (findings t f) ≤ 108
+  pub within : next ≤ 324
+
+-- the figures of both ends, the door end's three arrays first
+abbrev pub bothIn : List ℤ → List ℕ → List ℕ → List ℤ → List ℕ → List ℕ → Figures
+bothIn racking levels forces racking' levels' forces' =
+    record { door = figuresIn racking levels forces; closed = figuresIn racking' levels' forces' }

@@ -68,27 +68,6 @@ safe-load-requires c κs = search needs
 lower-of-requires : tie.Need-lower-of-requires
 lower-of-requires c κs = search needs
 
-slice-aggregate-put-choices : tie.Need-slice-aggregate-put-choices
-slice-aggregate-put-choices c = search needs
-
-slice-aggregate-put-choices-2 : tie.Need-slice-aggregate-put-choices-2
-slice-aggregate-put-choices-2 c = search needs
-
-slice-aggregate-put-choices-3 : tie.Need-slice-aggregate-put-choices-3
-slice-aggregate-put-choices-3 c = search needs
-
-slice-aggregate-put-choices-4 : tie.Need-slice-aggregate-put-choices-4
-slice-aggregate-put-choices-4 c = search needs
-
-slice-aggregate-put-choices-5 : tie.Need-slice-aggregate-put-choices-5
-slice-aggregate-put-choices-5 c = search needs
-
-slice-aggregate-put-choices-6 : tie.Need-slice-aggregate-put-choices-6
-slice-aggregate-put-choices-6 c = search needs
-
-slice-aggregate-put-choices-7 : tie.Need-slice-aggregate-put-choices-7
-slice-aggregate-put-choices-7 c = search needs
-
 put-choices-requires : tie.Need-put-choices-requires
 put-choices-requires c κs =
     let w = c .before .before .before .before .before .before .before .before in
@@ -158,13 +137,6 @@ write-list-spec =
     lash-stiffnesses-requires
     safe-load-requires
     lower-of-requires
-    slice-aggregate-put-choices
-    slice-aggregate-put-choices-2
-    slice-aggregate-put-choices-3
-    slice-aggregate-put-choices-4
-    slice-aggregate-put-choices-5
-    slice-aggregate-put-choices-6
-    slice-aggregate-put-choices-7
     put-choices-requires
     sub-put-count
     put-count-requires

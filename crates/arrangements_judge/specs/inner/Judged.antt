@@ -26,16 +26,18 @@ use Rattle.chosen_lashes.specs.inner.Gathered.{heldOf}
 abbrev pub lashesIn : Chosen → List Lash
 lashesIn g = take (g .count) (g .lashes)
 
--- an end of n tiers ts with springs k and these lashes, loads ω on the levels and half of the weights above them
-pub record EndGiven (n : ℕ) (k : List ℕ) (ts : List Tier) (g : Chosen) (ω vmax vmin : List ℕ) : Type 0 where
-  pub works : Workable n k ts (g .count) (lashesIn g) ω vmax vmin
+-- an end of n tiers ts with springs k and m lashes ls, whose stiffnesses by level are κ, loads ω on the levels and half of the weights
+-- above them
+pub record EndGiven (n : ℕ) (k : List ℕ) (ts : List Tier) (m : ℕ) (ls : List Lash) (κ ω vmax vmin : List ℕ) : Type 0 where
+  pub works : Workable n k ts m ls ω vmax vmin
+  pub counted : length ls ≡ m
+  pub levelled : κ ≡ stiffnessesOf ls
   pub long : (length k ≡ 10) × (length ω ≡ 10) × (length vmax ≡ 11) × (length vmin ≡ 11)
-  pub held : g ≡ heldOf (lashesIn g)
 
--- whether it has no finding
-abbrev pub noFinding : ℕ → List ℕ → List Tier → Chosen → PullLimit → List ℕ → Bool
-noFinding n k ts g pull ω =
-    noneFound n pull (g .lashes) (g .count) (figuresAt n k ts (lashesIn g) (solved n k (stiffnessesOf (lashesIn g)) ω))
+-- whether it has no finding, where its lashes are the first m of an array
+abbrev pub noFinding : ℕ → List ℕ → List Tier → List Lash → ℕ → PullLimit → List ℕ → Bool
+noFinding n k ts lashes m pull ω =
+    noneFound n pull lashes m (figuresAt n k ts (take m lashes) (solved n k (stiffnessesOf (take m lashes)) ω))
 
 -- what is given of a stack: the lower limit of a pull, the springs of the door end and of the closed end, loads and weights
 pub record StackGiven (t : Sheet) (pull : PullLimit) (k h ω vmax vmin : List ℕ) : Type 0 where

@@ -14,13 +14,9 @@ use borrow.Author.Needs.{needs}
 use Rattle.arrangements_list.proofs.judge.Statement.{statement}
 use Rattle.arrangements_list.proofs.judge.Tie as tie
 
--- from the branch to the start
-abbrev start : tie.After-shared-slice-known7 → tie.Start
-start c = c .before .before .before .before .before .before .before
-
 returns : tie.Need-returns
 returns c =
-    let a = start (c .before) .args in
+    let a = c .before .args in
     rw (le-ltb (a .choice) (a .all) (omega (arith, c .if1 .taken))) refl
 
 gather-requires : tie.Need-gather-requires
@@ -28,7 +24,7 @@ gather-requires c κs = search needs
 
 accepts-requires : tie.Need-accepts-requires
 accepts-requires c κs =
-    let b = start (c .before .before) in
+    let b = c .before .before .before .before in
     let ls = chosen (b .args .choice) (take (b .args .m) (b .args .lashes)) in
     let e = c .gather .ensures in (
       b .pre .0,
@@ -38,9 +34,10 @@ accepts-requires c κs =
 returns-2 : tie.Need-returns-2
 returns-2 c =
     let g = c .before in
-    let a = start (g .before .before) .args in
+    let b = g .before .before .before in
+    let a = b .before .args in
     let ls = chosen (a .choice) (take (a .m) (a .lashes)) in
-    rw (lt-ltb (a .choice) (a .all) (omega (arith, g .before .if1 .left)))
+    rw (lt-ltb (a .choice) (a .all) (omega (arith, b .if1 .left)))
     (c .accepts .ensures ∙ ap (λ (l : List Lash). acceptedWith l (a .t)) (held-back ls (g .gather .ensures)))
 
 pub judge-spec : {M : Type 1} → statement M

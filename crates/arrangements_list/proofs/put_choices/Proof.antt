@@ -20,7 +20,7 @@ abbrev entered : tie.At-loop Inv-loop μ-loop → tie.After-choices-of Inv-loop 
 entered c = c .before
 
 abbrev start : tie.At-loop Inv-loop μ-loop → tie.Start Inv-loop μ-loop
-start c = c .before .before .before .before .before .before .before .before .before .before
+start c = c .before .before .before
 
 choices-of-requires : tie.Need-choices-of-requires Inv-loop μ-loop
 choices-of-requires c κs = search needs

@@ -8,7 +8,7 @@ use mir.Syntax.{w32, w64}
 use mir.Val.{SFits}
 use mir.ValLaws.{toZ-ofZ}
 use Rattle.arith.proofs.ByteLaws.{wide64}
-use Rattle.arith.proofs.Ceilings.{divisor}
+use Rattle.arith.proofs.Sizes.{divisor}
 use Rattle.cases_roll.proofs.signed.Statement.{statement}
 use Rattle.cases_roll.proofs.signed.Tie as tie
 

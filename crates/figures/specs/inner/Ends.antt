@@ -6,6 +6,11 @@ use Rattle.sheet.specs.inner.Limits.{atLevel, LashLimits}
 use Rattle.sheet.specs.Layout.{blankLash, blankTier}
 use Rattle.sheet.specs.declared.Tier.{Tier}
 use Rattle.sheet.specs.declared.Lash.{Lash}
+use Rattle.sheet.specs.declared.Sheet.{Sheet}
+use Rattle.sheet.specs.Ends.{End, tiersOf, lashesOf}
+use Rattle.springs.specs.inner.Elimination.{solved}
+use Rattle.statics.specs.declared.EndFigures.{EndFigures}
+use Rattle.statics.specs.inner.Computed.{stiffnessesOf, figuresAt}
 use Rattle.springs.specs.Equations.{doorSpring, closedSpring}
 use Rattle.figures_tiers.specs.inner.Loads.{Weighed}
 
@@ -19,3 +24,8 @@ pub record Workable (n : ℕ) (k : List ℕ) (ts : List Tier) (m : ℕ) (ls : Li
   pub at-level : (i : ℕ) → atLevel i ls ≤ 4
   pub loaded : (i : ℕ) → i < n → getD ω i 0 ≤ 2 ^ 46
   pub weighed : Weighed ts vmax vmin
+
+-- the figures of an end of a sheet, from its springs and loads
+abbrev pub endFigures : End → Sheet → List ℕ → List ℕ → EndFigures
+endFigures e t k ω =
+    figuresAt (t .ntiers) k (tiersOf t) (lashesOf e t) (solved (t .ntiers) k (stiffnessesOf (lashesOf e t)) ω)

@@ -4,7 +4,7 @@ use Prim.Native.Nat.{_+_, _*_, _/_, _^_, _-_, _<_}
 use mathlib.Core.Path.{_≡_}
 use native.Mathlib.Numerals.{add-one}
 use native.Mathlib.Omega.{arith}
-use lib.ListN.{getD, take}
+use lib.ListN.{getD, length, take}
 use lib.Seq.{getD-take}
 use Rattle.sheet.specs.inner.Limits.{LashLimits}
 use Rattle.statics.specs.inner.WholeNumbers.{stiffnessOf}
@@ -16,11 +16,11 @@ use Rattle.figures_lashes.proofs.lash_figures.Statement.{statement}
 use Rattle.figures_lashes.proofs.lash_figures.Tie as tie
 
 abbrev Inv-loop : tie.InvT-loop
-Inv-loop m lengths stiffnesses d lee₀ windward₀ lashes tension₀ athwart₀ vertical₀ j₀ lee windward tension athwart vertical j =
-    FiguredTo m (take m lashes) d tension athwart vertical lee windward j
+Inv-loop m lengths stiffnesses d lee₀ windward₀ forces₀ lashes j₀ lee windward forces j =
+    FiguredTo m (take m lashes) d lee windward forces j
 
 abbrev μ-loop : tie.MeasureT-loop
-μ-loop m lengths stiffnesses d lee₀ windward₀ lashes tension₀ athwart₀ vertical₀ j₀ lee windward tension athwart vertical j =
+μ-loop m lengths stiffnesses d lee₀ windward₀ forces₀ lashes j₀ lee windward forces j =
     m - j
 
 lashes-of : (c : tie.Start Inv-loop μ-loop) → Listed (c .args .m) (take (c .args .m) (c .args .t1))
@@ -28,7 +28,7 @@ lashes-of c = listed (c .args .t1) (c .good .0 .1 .0 .1) (c .pre .0)
 
 -- where the loop is entered from
 abbrev start : tie.At-loop Inv-loop μ-loop → tie.Start Inv-loop μ-loop
-start c = c .before .before .before .before .before .before
+start c = c .before .before .before .before .before .before .before
 
 -- from each step of a turn to the one before it
 abbrev turn : tie.After-hook-level Inv-loop μ-loop → tie.In-loop Inv-loop μ-loop
@@ -91,10 +91,21 @@ sums o =
     sums-fit (lashes-of b) (b .pre .1 .0 .1) (t .before .loop .inv) (t .loop-test .taken) (own t) (k .hook-level .ensures .0)
     (r .hook-corner .ensures .0) (athwart x) (o .before .lashing-of .ensures) (e .0) (e .1)
 
+-- .. and where its forces are stored
+room :
+    (o : tie.After-on-posts Inv-loop μ-loop) →
+    let l = turn (hooked (cornered (parted (figured o)))) .before .loop in
+    (8 + l .j < length (l .forces)) × (16 + l .j < length (l .forces))
+room o =
+    let t = turn (hooked (cornered (parted (figured o)))) in
+    let inside : t .before .loop .j < 8 = omega (arith, start (t .before) .pre .0 .0, t .loop-test .taken) in
+    let long = t .before .loop .inv .forces-long in
+    (omega arith, omega arith)
+
 loop-holds : tie.Need-loop-holds Inv-loop μ-loop
 loop-holds c =
-    let p = c .before .before .before .before .before .pre .1 .1 .1 in
-    rw (p .0, p .1) figured-none
+    let p = c .before .before .before .before .before .before .pre .1 .1 .1 in
+    rw (p .0, p .1, p .2) figured-none
 
 mul-l : tie.Need-mul-l Inv-loop μ-loop
 mul-l c = search needs
@@ -147,23 +158,29 @@ on-posts-requires c κs =
     let x = parted (c .before) in
     (rw (c .lashing-of .ensures, carried _) (lash-limits (turn (hooked (cornered x)))), x .athwart-part .ensures .1)
 
-mul-tension : tie.Need-mul-tension Inv-loop μ-loop
-mul-tension c = search needs
+mul-forces : tie.Need-mul-forces Inv-loop μ-loop
+mul-forces c = search needs
 
-array-write-tension : tie.Need-array-write-tension Inv-loop μ-loop
-array-write-tension c = search needs
+slice-write-forces : tie.Need-slice-write-forces Inv-loop μ-loop
+slice-write-forces c = search needs
 
-mul-athwart : tie.Need-mul-athwart Inv-loop μ-loop
-mul-athwart c = search needs
+add-forces : tie.Need-add-forces Inv-loop μ-loop
+add-forces c = search needs
 
-array-write-athwart : tie.Need-array-write-athwart Inv-loop μ-loop
-array-write-athwart c = search needs
+mul-forces-2 : tie.Need-mul-forces-2 Inv-loop μ-loop
+mul-forces-2 c = search needs
 
-mul-vertical : tie.Need-mul-vertical Inv-loop μ-loop
-mul-vertical c = search needs
+slice-write-forces-2 : tie.Need-slice-write-forces-2 Inv-loop μ-loop
+slice-write-forces-2 c = search (needs, room c .0)
 
-array-write-vertical : tie.Need-array-write-vertical Inv-loop μ-loop
-array-write-vertical c = search needs
+add-forces-2 : tie.Need-add-forces-2 Inv-loop μ-loop
+add-forces-2 c = search needs
+
+mul-forces-3 : tie.Need-mul-forces-3 Inv-loop μ-loop
+mul-forces-3 c = search needs
+
+slice-write-forces-3 : tie.Need-slice-write-forces-3 Inv-loop μ-loop
+slice-write-forces-3 c = search (needs, room c .0, room c .1)
 
 mul-lee : tie.Need-mul-lee Inv-loop μ-loop
 mul-lee c = search needs
@@ -223,11 +240,14 @@ same-length c = search needs
 same-length-2 : tie.Need-same-length-2 Inv-loop μ-loop
 same-length-2 c = search needs
 
+same-length-3 : tie.Need-same-length-3 Inv-loop μ-loop
+same-length-3 c = search needs
+
 returns : tie.Need-returns Inv-loop μ-loop
 returns c =
     let b = start (c .before) in
     let s = figured-all (lashes-of b) (b .pre .1 .0 .1) (c .loop-test .left) (c .before .loop .inv) in
-    (s .0, (s .1, s .2))
+    ((s .0, c .before .loop .inv .forces-long), (s .1, s .2))
 
 pub lash-figures-spec : {M : Type 1} → statement M
 lash-figures-spec =
@@ -250,12 +270,14 @@ lash-figures-spec =
     forces-of-requires
     lashing-of-requires
     on-posts-requires
-    mul-tension
-    array-write-tension
-    mul-athwart
-    array-write-athwart
-    mul-vertical
-    array-write-vertical
+    mul-forces
+    slice-write-forces
+    add-forces
+    mul-forces-2
+    slice-write-forces-2
+    add-forces-2
+    mul-forces-3
+    slice-write-forces-3
     mul-lee
     slice-read-lee
     add-lee
@@ -271,4 +293,5 @@ lash-figures-spec =
     loop-again
     same-length
     same-length-2
+    same-length-3
     returns)

@@ -4,7 +4,7 @@ use Prim.Native.Nat.{_*_, _<_, _-_}
 use mathlib.Core.Path.{_≡_, sym, ap, _∙_}
 use native.Mathlib.Omega.{arith}
 use lib.Dec.{lit<, lit≤}
-use lib.ListN.{length, take}
+use lib.ListN.{length, length-set, take}
 use lib.Seq.{getD-take, length-take-le}
 use mir.Syntax.{w32}
 use mir.ValLaws.{toZ-ofZ}
@@ -18,17 +18,17 @@ use Rattle.figures_levels.proofs.level_figures.Statement.{statement}
 use Rattle.figures_levels.proofs.level_figures.Tie as tie
 
 abbrev Inv-loop : tie.InvT-loop
-Inv-loop n k d vmax vmin lee windward tiers racking₀ compression₀ tension₀ above₀ i₀ racking compression tension above i =
+Inv-loop n k d vmax vmin lee windward racking₀ levels₀ tiers above₀ i₀ racking levels above i =
     let parts = above .parts in
-    FiguredFrom n k (take n tiers) d vmax vmin lee windward racking compression tension (above .moment) (parts .lee) (parts .windward) i
+    FiguredFrom n k (take n tiers) d vmax vmin lee windward racking levels (above .moment) (parts .lee) (parts .windward) i
 
 abbrev μ-loop : tie.MeasureT-loop
-μ-loop n k d vmax vmin lee windward tiers racking₀ compression₀ tension₀ above₀ i₀ racking compression tension above i =
+μ-loop n k d vmax vmin lee windward racking₀ levels₀ tiers above₀ i₀ racking levels above i =
     i
 
 -- from the top level's parts, and from the loop, to the function's entry
 abbrev entry : tie.After-parts-at Inv-loop μ-loop → tie.Start Inv-loop μ-loop
-entry c = c .before .before .before .before .before .before .before
+entry c = c .before .before .before .before .before .before .before .before
 
 abbrev start : tie.At-loop Inv-loop μ-loop → tie.Start Inv-loop μ-loop
 start c = entry (c .before .before .before)
@@ -56,6 +56,16 @@ room c =
     let t = turn (racked (bottomed c)) in
     omega (arith, under t, start (t .before) .pre .0 .few)
 
+room-racking :
+    (c : tie.After-parts-at3 Inv-loop μ-loop) →
+    let l = turn (racked (bottomed c)) .before .loop in
+    l .i - 1 < length (l .racking)
+room-racking c = omega (arith, room c, turn (racked (bottomed c)) .before .loop .inv .racked .long)
+
+-- .. and those of the top level
+room-at-top : (c : tie.Start Inv-loop μ-loop) → c .args .n < length (c .args .levels .now)
+room-at-top c = rw (c .pre .1 .1 .1) (omega (arith, c .pre .0 .few))
+
 stacked : (c : tie.Start Inv-loop μ-loop) → length (take (c .args .n) (c .args .t3)) ≡ c .args .n
 stacked c = length-take-le (c .args .n) (c .args .t3) (omega (arith, c .pre .0 .few, c .good .1 .1 .0 .1 .0 .1))
 
@@ -79,11 +89,13 @@ compression-of-requires c κs =
     let m = b .pre .0 in
     (m .vmax-light n, small-pos (lit≤ tt), omega (arith, e .0, m .lee-small (2 * n)), omega (arith, e .1, m .windward-small (2 * n)))
 
-mul-compression : tie.Need-mul-compression Inv-loop μ-loop
-mul-compression c = search needs
+mul-levels : tie.Need-mul-levels Inv-loop μ-loop
+mul-levels c = search needs
 
-array-write-compression : tie.Need-array-write-compression Inv-loop μ-loop
-array-write-compression c = search needs
+slice-write-levels : tie.Need-slice-write-levels Inv-loop μ-loop
+slice-write-levels c =
+    let b = entry (c .before .before) in
+    search (needs, room-at-top b)
 
 loop-holds : tie.Need-loop-holds Inv-loop μ-loop
 unfolding leeFound windwardFound
@@ -91,7 +103,8 @@ loop-holds c =
     let p = c .before .before in
     let b = entry p in
     let e = p .parts-at .ensures in
-    rw (e .0, e .1) (at-top (b .pre .0) (stacked b) (simp (e .0, e .1) at (c .compression-of .ensures)))
+    let z = b .pre .1 .1 in
+    rw (z .0, z .1, e .0, e .1) (at-top (b .pre .0) (stacked b) (simp (e .0, e .1) at (c .compression-of .ensures)))
 
 mul-upper : tie.Need-mul-upper Inv-loop μ-loop
 mul-upper c = search needs
@@ -143,12 +156,12 @@ parts-at-requires-3 : tie.Need-parts-at-requires-3 Inv-loop μ-loop
 parts-at-requires-3 c κs = search needs
 
 mul-level-under : tie.Need-mul-level-under Inv-loop μ-loop
-mul-level-under c = search needs
+mul-level-under c = search (needs, room c)
 
 shared-slice-read-level-under : tie.Need-shared-slice-read-level-under Inv-loop μ-loop
 shared-slice-read-level-under c =
     let b = start (turn (racked (bottomed (c .before))) .before) in
-    search (needs, room (c .before), b .pre .1 .2)
+    search (needs, room (c .before), b .pre .1 .0 .2)
 
 mul-level-under-2 : tie.Need-mul-level-under-2 Inv-loop μ-loop
 mul-level-under-2 c = search (needs, room (c .before))
@@ -156,7 +169,7 @@ mul-level-under-2 c = search (needs, room (c .before))
 shared-slice-read-level-under-2 : tie.Need-shared-slice-read-level-under-2 Inv-loop μ-loop
 shared-slice-read-level-under-2 c =
     let b = start (turn (racked (bottomed (c .before .before))) .before) in
-    search (needs, room (c .before .before), b .pre .1 .3)
+    search (needs, room (c .before .before), b .pre .1 .0 .3)
 
 level-under-requires : tie.Need-level-under-requires Inv-loop μ-loop
 level-under-requires c κs =
@@ -192,23 +205,28 @@ racking-figure-requires c κs =
     let p = racked (bottomed (parted c)) .racking-part .ensures .1 in
     rw (held p (lit< tt)) p
 
-mul-racking : tie.Need-mul-racking Inv-loop μ-loop
-mul-racking c = search (needs, room (parted (c .before)))
+mul-force : tie.Need-mul-force Inv-loop μ-loop
+mul-force c = search (needs, room (parted (c .before)))
 
-array-set-from-racking : tie.Need-array-set-from-racking Inv-loop μ-loop
-array-set-from-racking c = search (needs, room (parted (c .before)))
+slice-set-from-force : tie.Need-slice-set-from-force Inv-loop μ-loop
+slice-set-from-force c = search (needs, room-racking (parted (c .before)))
 
-mul-compression-2 : tie.Need-mul-compression-2 Inv-loop μ-loop
-mul-compression-2 c = search (needs, room (parted (c .before)))
+mul-levels-2 : tie.Need-mul-levels-2 Inv-loop μ-loop
+mul-levels-2 c = search (needs, room (parted (c .before)))
 
-array-write-compression-2 : tie.Need-array-write-compression-2 Inv-loop μ-loop
-array-write-compression-2 c = search (needs, room (parted (c .before)))
+slice-write-levels-2 : tie.Need-slice-write-levels-2 Inv-loop μ-loop
+slice-write-levels-2 c = search (needs, room (parted (c .before)))
 
-mul-tension : tie.Need-mul-tension Inv-loop μ-loop
-mul-tension c = search (needs, room (parted (c .before)))
+add-levels : tie.Need-add-levels Inv-loop μ-loop
+add-levels c = search (needs, room (parted (c .before)))
 
-array-write-tension : tie.Need-array-write-tension Inv-loop μ-loop
-array-write-tension c = search (needs, room (parted (c .before)))
+mul-levels-3 : tie.Need-mul-levels-3 Inv-loop μ-loop
+mul-levels-3 c = search (needs, room (parted (c .before)))
+
+slice-write-levels-3 : tie.Need-slice-write-levels-3 Inv-loop μ-loop
+slice-write-levels-3 c =
+    let o = parted (c .before) in
+    simp length-set (omega (arith, room o, turn (racked (bottomed o)) .before .loop .inv .levels-long))
 
 loop-less : tie.Need-loop-less Inv-loop μ-loop
 loop-less c = search needs
@@ -226,26 +244,36 @@ loop-again c =
     let g = c .before .racking-figure in
     let q = bottomed o .parts-at2 .ensures in
     let s = o .parts-at3 .ensures in
-    let e = simp (h, q .0, q .1, s .0, s .1) at (u .level-under .ensures) in
-    let w = under t in
+    let e = u .level-under .ensures in
     turned-once
     (b .pre .0)
     (stacked b)
     (t .loop-test .taken)
     (l .inv)
-    (p .0)
-    (ap (λ (x : Tier). x .height) (sym (getD-take (b .args .n) (b .args .t3) (l .i - 1) blankTier w)))
-    (toZ-ofZ w32 (g .result) (record { sfits = g .ok }) ∙ simp h at (g .ensures))
+    (h ∙ p .0)
+    (ap (λ (x : Tier). x .height) (sym (getD-take (b .args .n) (b .args .t3) (l .i - 1) blankTier (under t))))
+    (toZ-ofZ w32 (g .result) (record { sfits = g .ok }) ∙ g .ensures)
+    (q .0)
+    (q .1)
+    (s .0)
+    (s .1)
     (e .0)
     (e .1 .0)
     (e .1 .1 .0)
     (e .1 .1 .1 .0)
     (e .1 .1 .1 .1)
 
+same-length : tie.Need-same-length Inv-loop μ-loop
+same-length c = search (needs, ap length (start (c .before) .pre .1 .1 .0))
+
+same-length-2 : tie.Need-same-length-2 Inv-loop μ-loop
+same-length-2 c = search (needs, ap length (start (c .before) .pre .1 .1 .1))
+
 returns : tie.Need-returns Inv-loop μ-loop
 returns c =
     let b = start (c .before) in
-    at-foot (b .pre .0) (stacked b) (c .loop-test .left) (c .before .loop .inv)
+    let s = c .before .loop .inv in
+    (at-foot (b .pre .0) (stacked b) (c .loop-test .left) s, (s .racked .long, s .levels-long))
 
 pub level-figures-spec : {M : Type 1} → statement M
 level-figures-spec =
@@ -258,8 +286,8 @@ level-figures-spec =
     mul-compression-of
     shared-slice-read-compression-of
     compression-of-requires
-    mul-compression
-    array-write-compression
+    mul-levels
+    slice-write-levels
     loop-holds
     mul-upper
     shared-slice-read-upper
@@ -282,12 +310,15 @@ level-figures-spec =
     shared-slice-read-level-under-2
     level-under-requires
     racking-figure-requires
-    mul-racking
-    array-set-from-racking
-    mul-compression-2
-    array-write-compression-2
-    mul-tension
-    array-write-tension
+    mul-force
+    slice-set-from-force
+    mul-levels-2
+    slice-write-levels-2
+    add-levels
+    mul-levels-3
+    slice-write-levels-3
     loop-less
     loop-again
+    same-length
+    same-length-2
     returns)

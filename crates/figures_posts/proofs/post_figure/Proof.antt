@@ -1,9 +1,9 @@
 -- `figures_posts::post_figure`: rounding up and cutting off at 0 go in either order (LevelLaws).
 use mathlib.Core.Path.{_≡_, ap, _∙_}
-use lib.Dec.{lit<}
+use lib.Dec.{lit<, lit≤}
 use mir.Syntax.{w64}
 use mir.ValLaws.{toZ-ofZ}
-use Rattle.arith.proofs.Sizes.{fits64}
+use Rattle.arith.proofs.Sizes.{fits64, small-weaken}
 use Rattle.statics.specs.inner.WholeNumbers.{notBelow}
 use Rattle.figures_posts.specs.inner.Posts.{greaterOf}
 use Rattle.figures_posts.proofs.LevelLaws.{greater-small, padded, post-rounded}
@@ -19,20 +19,22 @@ sum c = simp (held (c .before .pre .0) (lit< tt), held (c .before .pre .1) (lit<
 greater-requires : tie.Need-greater-requires
 greater-requires c κs = search needs
 
-add-ceil-signed : tie.Need-add-ceil-signed
-add-ceil-signed c =
+add-newtons-up : tie.Need-add-newtons-up
+add-newtons-up c =
     let g = greater-small (c .before .pre .0) (c .before .pre .1) in
     rw (sum c, held g (lit< tt)) (fits64 (padded g) (lit< tt))
 
-ceil-signed-requires : tie.Need-ceil-signed-requires
-ceil-signed-requires c κs = search needs
+newtons-up-requires : tie.Need-newtons-up-requires
+newtons-up-requires c κs =
+    let g = padded (greater-small (c .before .pre .0) (c .before .pre .1)) in
+    rw (sum c, held (greater-small (c .before .pre .0) (c .before .pre .1)) (lit< tt), held g (lit< tt)) (small-weaken g (lit≤ tt))
 
 not-below-requires : tie.Need-not-below-requires
 not-below-requires c κs = search needs
 
 returns : tie.Need-returns
 returns c =
-    let k = c .before .ceil-signed in
+    let k = c .before .newtons-up in
     let b = c .before .before .before in
     let g = greater-small (b .pre .0) (b .pre .1) in
     let r = simp (sum (c .before .before), held g (lit< tt), held (padded g) (lit< tt)) at (k .ensures .0) in
@@ -43,4 +45,4 @@ returns c =
 pub post-figure-spec : {M : Type 1} → statement M
 post-figure-spec =
     tie.close
-    (tie.spec greater-requires add-ceil-signed ceil-signed-requires not-below-requires returns)
+    (tie.spec greater-requires add-newtons-up newtons-up-requires not-below-requires returns)

@@ -19,23 +19,25 @@ sized : (c : tie.After-size) → c .size .result ≡ pos (natAbs (c .before .arg
 sized c = simp (held (c .before .pre) (lit< tt)) at (c .size .ensures)
 
 newtons :
-    (c : tie.After-ceil-signed) →
-    c .ceil-signed .result ≡ pos (roundedUp (natAbs (c .before .before .args .part) + rackingPad) (2 ^ 18))
+    (c : tie.After-newtons-up) →
+    c .newtons-up .result ≡ pos (roundedUp (natAbs (c .before .before .args .part) + rackingPad) (2 ^ 18))
 newtons c =
     let p = c .before .before .pre in
-    simp (sized (c .before), held (size-small p) (lit< tt), held (size-padded p) (lit< tt)) at (c .ceil-signed .ensures .0)
+    simp (sized (c .before), held (size-small p) (lit< tt), held (size-padded p) (lit< tt)) at (c .newtons-up .ensures .0)
     ∙ newtons-of (c .before .before .args .part)
 
 size-requires : tie.Need-size-requires
 size-requires c κs = rw (held (c .pre) (lit< tt)) (small-weaken (c .pre) (lit≤ tt))
 
-add-ceil-signed : tie.Need-add-ceil-signed
-add-ceil-signed c =
+add-newtons-up : tie.Need-add-newtons-up
+add-newtons-up c =
     let p = c .before .pre in
     rw (sized c, held (size-small p) (lit< tt)) (fits64 (size-padded p) (lit< tt))
 
-ceil-signed-requires : tie.Need-ceil-signed-requires
-ceil-signed-requires c κs = search needs
+newtons-up-requires : tie.Need-newtons-up-requires
+newtons-up-requires c κs =
+    let p = c .before .pre in
+    rw (sized c, held (size-small p) (lit< tt), held (size-padded p) (lit< tt)) (small-weaken (size-padded p) (lit≤ tt))
 
 cast-newtons : tie.Need-cast-newtons
 cast-newtons c =
@@ -66,8 +68,8 @@ racking-figure-spec =
     tie.close
     (tie.spec
     size-requires
-    add-ceil-signed
-    ceil-signed-requires
+    add-newtons-up
+    newtons-up-requires
     cast-newtons
     sub-result
     returns

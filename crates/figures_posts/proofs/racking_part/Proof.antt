@@ -4,8 +4,7 @@ use Prim.Native.Nat.{_*_}
 use mathlib.Core.Path.{refl}
 use native.Mathlib.Omega.{arith}
 use lib.Dec.{lit<}
-use Rattle.arith.proofs.Sizes.{fits64}
-use Rattle.arith.proofs.Ceilings.{divisor}
+use Rattle.arith.proofs.Sizes.{divisor, fits64}
 use Rattle.figures_posts.proofs.LevelLaws.{spring-le, difference, racking-small}
 use Rattle.figures_posts.proofs.racking_part.Statement.{statement}
 use Rattle.figures_posts.proofs.racking_part.Tie as tie

@@ -1,15 +1,14 @@
 -- `figures_posts::size`: the number or its negative, by its sign.
-use lib.Dec.{lit<}
+use lib.Dec.{lit<, lit≤}
 use mir.Syntax.{w64}
 use mir.ValLaws.{toZ-ofZ}
-use Rattle.arith.proofs.Sizes.{small-neg}
+use Rattle.arith.proofs.Sizes.{small-neg, small-weaken}
 use Rattle.figures_posts.proofs.Words.{held, below-neg, from-pos}
-use borrow.Author.Needs.{needs}
 use Rattle.figures_posts.proofs.size.Statement.{statement}
 use Rattle.figures_posts.proofs.size.Tie as tie
 
 negative-requires : tie.Need-negative-requires
-negative-requires c κs = search needs
+negative-requires c κs = rw (held (c .before .pre) (lit< tt)) (small-weaken (c .before .pre) (lit≤ tt))
 
 returns : tie.Need-returns
 returns c =

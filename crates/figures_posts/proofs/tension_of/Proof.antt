@@ -10,7 +10,9 @@ post-sum-requires : tie.Need-post-sum-requires
 post-sum-requires c κs = search needs
 
 negative-requires : tie.Need-negative-requires
-negative-requires c κs = search needs
+negative-requires c κs =
+    let s = c .post-sum .ensures .1 in
+    rw (held s (lit< tt)) (small-weaken s (lit≤ tt))
 
 negative-requires-2 : tie.Need-negative-requires-2
 negative-requires-2 c κs =
@@ -24,7 +26,9 @@ post-sum-requires-2 c κs =
     (b .pre .0, simp (held (b .pre .1) (lit< tt), c .negative2 .ensures, held n (lit< tt)) n, b .pre .3)
 
 negative-requires-3 : tie.Need-negative-requires-3
-negative-requires-3 c κs = search needs
+negative-requires-3 c κs =
+    let s = c .post-sum2 .ensures .1 in
+    rw (held s (lit< tt)) (small-weaken s (lit≤ tt))
 
 post-figure-requires : tie.Need-post-figure-requires
 post-figure-requires c κs =

@@ -1,69 +1,43 @@
--- `lash_forces::stiffness_of`: the steps to the quotient stay within 64 bits (LashLaws).
-use native.Mathlib.Nat.{lt-of-le-of-lt}
+-- `lash_forces::stiffness_of`: the products fit 64 bits, and a lash in its limits meets what `stiffness` requires (LashLaws).
 use native.Mathlib.Omega.{arith}
-use lib.Dec.{lit<}
 use borrow.Author.Needs.{needs}
 use Rattle.statics.specs.inner.WholeNumbers.{stiffnessOf}
-use Rattle.lash_forces.proofs.LashLaws.{force-le, side-le, top-le, square-le, cube-le, cube-above, quotient-le}
+use Rattle.lash_forces.proofs.LashLaws.{load-le, side-le, long-le, cube-above, quotient-le}
 use Rattle.lash_forces.proofs.stiffness_of.Statement.{statement}
 use Rattle.lash_forces.proofs.stiffness_of.Tie as tie
 
 cast-ly : tie.Need-cast-ly
 cast-ly c = search needs
 
-cast-over-cube : tie.Need-cast-over-cube
-cast-over-cube c = search needs
+cast-stiffness : tie.Need-cast-stiffness
+cast-stiffness c = search needs
 
-cast-over-cube-2 : tie.Need-cast-over-cube-2
-cast-over-cube-2 c = search needs
+cast-stiffness-2 : tie.Need-cast-stiffness-2
+cast-stiffness-2 c = search needs
 
-mul-over-cube : tie.Need-mul-over-cube
-mul-over-cube c =
+mul-stiffness : tie.Need-mul-stiffness
+mul-stiffness c =
     let b = c .before .before .before in
-    omega (arith, force-le (b .pre .0) (b .pre .1))
+    omega (arith, load-le (b .pre .0) (b .pre .1))
 
-mul-over-cube-2 : tie.Need-mul-over-cube-2
-mul-over-cube-2 c =
+mul-stiffness-2 : tie.Need-mul-stiffness-2
+mul-stiffness-2 c =
     let b = c .before .before .before in
     omega (arith, side-le (b .pre .0) (b .pre .1))
 
-mul-over-cube-3 : tie.Need-mul-over-cube-3
-mul-over-cube-3 c =
+stiffness-requires : tie.Need-stiffness-requires
+stiffness-requires c κs =
     let b = c .before .before .before in
-    record { fits = lt-of-le-of-lt (top-le (b .pre .0) (b .pre .1)) (lit< tt) }
-
-mul-over-cube-4 : tie.Need-mul-over-cube-4
-mul-over-cube-4 c =
-    let b = c .before .before .before in
-    omega (arith, square-le (b .pre .0) (b .pre .1))
-
-mul-over-cube-5 : tie.Need-mul-over-cube-5
-mul-over-cube-5 c =
-    let b = c .before .before .before in
-    record { fits = lt-of-le-of-lt (cube-le (b .pre .0) (b .pre .1)) (lit< tt) }
-
-over-cube-requires : tie.Need-over-cube-requires
-over-cube-requires c κs =
-    let b = c .before .before .before in
-    (cube-above (b .pre .0) (b .pre .1), cube-le (b .pre .0) (b .pre .1), quotient-le (b .pre .0) (b .pre .1))
+    let f = b .pre .0 in
+    let e = b .pre .1 in
+    ((load-le f e, side-le f e, long-le f e), (cube-above f e, quotient-le f e))
 
 returns : tie.Need-returns
 unfolding stiffnessOf
 returns c =
     let entry = c .before .before .before .before in
-    rw (← entry .pre .1) (c .over-cube .ensures)
+    rw (← entry .pre .1) (c .stiffness .ensures)
 
 pub stiffness-of-spec : {M : Type 1} → statement M
 stiffness-of-spec =
-    tie.close
-    (tie.spec
-    cast-ly
-    cast-over-cube
-    cast-over-cube-2
-    mul-over-cube
-    mul-over-cube-2
-    mul-over-cube-3
-    mul-over-cube-4
-    mul-over-cube-5
-    over-cube-requires
-    returns)
+    tie.close (tie.spec cast-ly cast-stiffness cast-stiffness-2 mul-stiffness mul-stiffness-2 stiffness-requires returns)

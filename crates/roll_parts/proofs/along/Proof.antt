@@ -5,7 +5,7 @@ use borrow.Author.Needs.{needs}
 use mir.Syntax.{w32, w64}
 use mir.ValLaws.{toZ-ofZ}
 use Rattle.arith.proofs.ByteLaws.{wide64}
-use Rattle.arith.proofs.Ceilings.{divisor}
+use Rattle.arith.proofs.Sizes.{divisor}
 use Rattle.roll_parts.proofs.along.Statement.{statement}
 use Rattle.roll_parts.proofs.along.Tie as tie
 

@@ -9,8 +9,7 @@ use mir.Syntax.{w64}
 use mir.Val.{toZ}
 use mir.ValLaws.{toZ-ofZ}
 use Rattle.arith.specs.inner.Sizes.{Small}
-use Rattle.arith.proofs.Sizes.{fits64}
-use Rattle.arith.proofs.Ceilings.{divisor}
+use Rattle.arith.proofs.Sizes.{divisor, fits64}
 use Rattle.roll_parts.specs.inner.Parts.{downOf}
 use Rattle.roll_parts.proofs.Bounds.{thousandths-most, down-small}
 use Rattle.roll_parts.proofs.rounded_down.Statement.{statement}

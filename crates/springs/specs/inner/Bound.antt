@@ -1,19 +1,14 @@
 -- How far elimination in whole numbers may lie from the exact shifts, for any tier count and any springs, lashes and loads: the numbers of
 -- specs/Promise are this bound under document 01's limits.
-use mathlib.Core.Bool.{cond}
 use mathlib.Core.List.{List}
 use Prim.Native.Nat.{ℕ, suc, _+_, _*_, _-_, _<_, max}
-use lib.Dec.{ltb}
 use lib.ListN.{getD}
 use Rattle.arith.specs.Fractions.{Frac, nat, _-q_, _*q_, _/q_, absq, _⊑_, sumq}
 use Rattle.arith.specs.Lists.{below}
 use Rattle.springs.specs.Equations.{Tier, Lash, tierAt, shift, racking, Solves}
 use Rattle.springs.specs.inner.Promise.{stiffnessScale, shiftScale, Near}
+use Rattle.springs.specs.inner.Balance.{springAt}
 use Rattle.springs.specs.inner.Elimination.{divisor, stiffnessTo, shiftAt}
-
--- the spring between levels i and i + 1, of n tiers: 0 over the uppermost level
-abbrev pub springAt : ℕ → List ℕ → ℕ → ℕ
-springAt n k i = cond (ltb i n) (getD k i 0) 0
 
 -- the most that level i + 1 may be out of balance by, in 2^-50 N. Too much to leeward: four units of the lashes' stiffness and one of what
 -- is handed down, at its shift, and the rounded shift over it; too little: the remainder of its own shift, one unit of load handed down and

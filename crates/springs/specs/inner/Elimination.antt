@@ -1,5 +1,5 @@
--- The solver's steps in whole numbers: elimination from the top down, then the shifts from the deck up. Other crates cite `solved` alone,
--- and by its name.
+-- The solver's steps in whole numbers: elimination from the top down, then the shifts from the deck up; and what the solver returns. Other
+-- crates cite `solved` alone, and by its name.
 use mathlib.Core.Bool.{cond}
 use mathlib.Core.List.{List, map}
 use mathlib.Core.Path.{_≡_}
@@ -10,6 +10,8 @@ use Rattle.arith.specs.Lists.{below}
 use Rattle.arith.specs.inner.Rounding.{scaledDown}
 use Rattle.springs.specs.Equations.{doorSpring, closedSpring}
 use Rattle.springs.specs.inner.Promise.{stiffnessScale, mostHeld, mostLoaded}
+use Rattle.springs.specs.inner.Candidate.{candidate}
+use Rattle.springs.specs.inner.Balance.{inBalance}
 
 -- a tier of spring k, over it a level of lashes κ and load ω, to which the tiers above hand down the stiffness x and the load y
 abbrev pub divisor : ℕ → ℕ → ℕ → ℕ
@@ -47,9 +49,13 @@ shiftAt n k κ ω (suc i) =
     (shiftAt n k κ ω i))
     0
 
--- what `solve` returns: the shifts of levels 0 to 10
+-- the shifts of levels 0 to 10 by elimination
+unfoldable pub eliminated : ℕ → List ℕ → List ℕ → List ℕ → List ℕ
+eliminated n k κ ω = map (shiftAt n k κ ω) (below 11)
+
+-- what `solve` returns: the candidate where each level is in balance under it, else what elimination gives
 unfoldable pub solved : ℕ → List ℕ → List ℕ → List ℕ → List ℕ
-solved n k κ ω = map (shiftAt n k κ ω) (below 11)
+solved n k κ ω = cond (inBalance n k κ ω (candidate n k κ ω)) (candidate n k κ ω) (eliminated n k κ ω)
 
 -- the ranges of a step
 pub record InRange (k κ x : ℕ) : Type 0 where

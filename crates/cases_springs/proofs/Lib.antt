@@ -1,0 +1,2 @@
+-- Laws of numbers within bounds.
+pub mod Laws
