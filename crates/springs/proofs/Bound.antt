@@ -3,7 +3,7 @@
 use mathlib.Core.Path.{_≡_, sym, ap, ap₂, subst, fun-ext, _∙_}
 use mathlib.Core.Bool.{cond}
 use mathlib.Core.List.{List}
-use Prim.Native.Nat.{ℕ, zero, suc, _+_, _*_, _-_, _≤_, _<_, max}
+use Prim.Native.Nat.{ℕ, zero, suc, _+_, _*_, _≤_, _<_, max}
 use native.Mathlib.Omega.{arith}
 use native.Mathlib.Decide.{decLe}
 use lib.Dec.{lit<}
@@ -12,8 +12,8 @@ use lib.ListN.{length, getD}
 use borrow.Author.Tests.{lt-ltb, le-ltb}
 use Rattle.arith.specs.Fractions.{Frac, nat, _-q_, _*q_, _/q_, absq, sumq, _⊑_}
 use Rattle.arith.specs.Lists.{from, below}
-use Rattle.arith.proofs.Polynomials.{v, kp, _⊕_, _⊖_, _⊗_, ⊖_}
-use Rattle.arith.proofs.Rings.{∀₁, ∀₃, ∀₄, ∀₁₂, by-ring, by-cert, to, times, num, _⊞_, _⊠_}
+use Rattle.arith.proofs.Polynomials.{v}
+use Rattle.arith.proofs.Rings.{∀₁, ∀₃, ∀₄, by-ring, by-cert, to, times, _⊞_, _⊠_}
 use Rattle.arith.proofs.Rationals.{
   ℚR,
   ℚ,
@@ -35,78 +35,21 @@ use Rattle.arith.proofs.Rationals.{
   to-⊑,
 }
 use Rattle.arith.proofs.RationalTerms.{qq}
-use Rattle.arith.proofs.Signs.{on, same-le}
+use Rattle.arith.proofs.Signs.{same-le}
 use Rattle.arith.proofs.RationalOrder.{≤ℚ-trans, nat-q, above-0, div-times, lt-not}
 use Rattle.arith.proofs.FractionsInRationals.{sumℚ, mk-int, mk-div, mk-sum, of-≈, toℚ}
-use Rattle.springs.specs.Equations.{Tier, Lash, tierAt, shift, stiffnessAt, loadAt, racking, Solves}
-use Rattle.springs.specs.inner.Promise.{stiffnessScale, loadScale, shiftScale, Near}
+use Rattle.springs.specs.Equations.{Tier, Lash, tierAt, shift, racking, Solves}
+use Rattle.springs.specs.inner.Promise.{stiffnessScale, shiftScale, Near}
 use Rattle.springs.specs.inner.Elimination.{divisor, shiftUp}
 use Rattle.springs.specs.inner.Balance.{springAt}
 use Rattle.springs.specs.inner.Bound.{levelError, summedError, shiftBy, SummedBound}
 use Rattle.springs.proofs.Chain.{natℚ, force, load}
-use Rattle.springs.proofs.Levels.{springs, lashes, loads, shifts, mk-stiffness, mk-load, mk-racking, no-spring, spring-pos}
+use Rattle.springs.proofs.Levels.{springs, lashes, loads, shifts, mk-racking, no-spring, spring-pos}
 use Rattle.springs.proofs.Stability.{lash-errors, racking-errors, mk-errors}
-use Rattle.springs.proofs.Inputs.{rounded-low, rounded-high}
 use Rattle.springs.proofs.Recursion.{x, y, d, stiffness-top, load-top, stiffness-step, load-step, shift-deck, shift-step}
 use Rattle.springs.proofs.Recursion.{shift-behind}
+use Rattle.springs.proofs.OutOfBalance.{S, unit, times-abs, out-high, out-low}
 use Rattle.springs.proofs.Residuals.{Handed, handed, handed-none, balance-low, balance-high}
-
--- m x is at most b in size
-times-abs : (m x b : ℚ) → m *ℚ x ≤ℚ b → m *ℚ negℚ x ≤ℚ b → m *ℚ absℚ x ≤ℚ b
-unfolding absℚ
-times-abs m x b h l = on x (λ c. m *ℚ cond c x (negℚ x) ≤ℚ b) (λ p. h) (λ p. l)
-
-abbrev S : ℚ
-S = natℚ stiffnessScale
-
--- 2^50, the unit of a level's balance
-abbrev pub unit : ℕ
-unit = stiffnessScale * shiftScale
-
--- K and L the springs under and over a level, k its lashes and κ theirs as found, q its load and ω it as found; f₀ f₁ f₂ the shifts found
--- under it, of it and over it, p d e the same in units
-high-law :
-    (K L k κ ω q f₀ f₁ f₂ p d e : ℚ) →
-    natℚ shiftScale *ℚ f₀ ≡ p →
-    natℚ shiftScale *ℚ f₁ ≡ d →
-    natℚ shiftScale *ℚ f₂ ≡ e →
-    S *ℚ (K *ℚ (d -ℚ p)) -ℚ S *ℚ (L *ℚ (e -ℚ d)) +ℚ κ *ℚ d -ℚ S *ℚ ω ≤ℚ d +ℚ S *ℚ L →
-    S *ℚ k ≤ℚ κ +ℚ natℚ 4 →
-    ω ≤ℚ natℚ loadScale *ℚ q →
-    natℚ 0 ≤ℚ d →
-    natℚ unit *ℚ (K *ℚ (f₁ -ℚ f₀) -ℚ L *ℚ (f₂ -ℚ f₁) +ℚ k *ℚ f₁ -ℚ q) ≤ℚ natℚ 5 *ℚ d +ℚ L *ℚ S
-high-law =
-    ∀₁₂ ℚR _ λ ρ.
-    simp qq λ e0 e1 e2 g hk hq hd.
-    by-cert
-    (to g
-    ⊞ to hk ⊠ to hd
-    ⊞ num stiffnessScale ⊠ to hq
-    ⊞ times (kp stiffnessScale ⊗ v 0) e0
-    ⊞ times (⊖ (kp stiffnessScale ⊗ (v 0 ⊕ v 1 ⊕ v 2))) e1
-    ⊞ times (kp stiffnessScale ⊗ v 1) e2)
-    tt
-
-low-law :
-    (K L k κ ω q f₀ f₁ f₂ p d e : ℚ) →
-    natℚ shiftScale *ℚ f₀ ≡ p →
-    natℚ shiftScale *ℚ f₁ ≡ d →
-    natℚ shiftScale *ℚ f₂ ≡ e →
-    κ ≤ℚ S *ℚ k →
-    natℚ loadScale *ℚ q ≤ℚ ω +ℚ natℚ 4 →
-    natℚ 0 ≤ℚ d →
-    natℚ unit *ℚ negℚ (K *ℚ (f₁ -ℚ f₀) -ℚ L *ℚ (f₂ -ℚ f₁) +ℚ k *ℚ f₁ -ℚ q)
-    ≤ℚ natℚ (4 * stiffnessScale) -ℚ (S *ℚ (K *ℚ (d -ℚ p)) -ℚ S *ℚ (L *ℚ (e -ℚ d)) +ℚ κ *ℚ d -ℚ S *ℚ ω)
-low-law =
-    ∀₁₂ ℚR _ λ ρ.
-    simp qq λ e0 e1 e2 hk hq hd.
-    by-cert
-    (to hk ⊠ to hd
-    ⊞ num stiffnessScale ⊠ to hq
-    ⊞ times (⊖ (kp stiffnessScale ⊗ v 0)) e0
-    ⊞ times (kp stiffnessScale ⊗ (v 0 ⊕ v 1 ⊕ v 2)) e1
-    ⊞ times (⊖ (kp stiffnessScale ⊗ v 1)) e2)
-    tt
 
 module _ (n : ℕ) (k κ ω : List ℕ) where
   -- what is handed down to a level; its shift, in units and in mm
@@ -246,19 +189,14 @@ module _ (n : ℕ) (k κ ω : List ℕ) where
       abbrev oq : ℚ
       oq = natℚ (getD ω i 0)
 
-      out-high : natℚ unit *ℚ out ≤ℚ natℚ (5 * ds (suc i) + springAt n k (suc i) * stiffnessScale)
-      out-high =
+      level-high : natℚ unit *ℚ out ≤ℚ natℚ (5 * ds (suc i) + springAt n k (suc i) * stiffnessScale)
+      level-high =
           subst (λ z. natℚ unit *ℚ out ≤ℚ z) whole
-          (high-law K L (lashes ls i) kq oq (loads ts i) (f i) (f (suc i)) (f (suc (suc i))) (units i) (units (suc i)) (units (suc (suc i)))
-          (f-is i)
-          (f-is (suc i))
-          (f-is (suc (suc i)))
-          high
-          (subst (λ z. S *ℚ z ≤ℚ kq +ℚ natℚ 4) (mk-stiffness ls (suc i))
-          (rounded-high stiffnessScale 4 (getD κ i 0) (stiffnessAt ls (suc i)) (near .held i l)))
-          (subst (λ z. oq ≤ℚ natℚ loadScale *ℚ z) (mk-load ts i) (rounded-low loadScale 4 (getD ω i 0) (loadAt ts i) (near .loaded i l)))
-          (nn-int (ds (suc i))))
+          (more (natℚ unit *ℚ out) (G i) (units (suc i)) L high (out-high n k κ ω ts ls near ds f f-is i l))
         where
+          more : (a g u L : ℚ) → g ≤ℚ u +ℚ S *ℚ L → a ≤ℚ g +ℚ natℚ 4 *ℚ u → a ≤ℚ natℚ 5 *ℚ u +ℚ L *ℚ S
+          more = ∀₄ ℚR _ λ ρ. simp qq λ h l. by-cert (to h ⊞ to l) tt
+
           whole : natℚ 5 *ℚ units (suc i) +ℚ L *ℚ S ≡ natℚ (5 * ds (suc i) + springAt n k (suc i) * stiffnessScale)
           whole =
               ap (λ z. natℚ 5 *ℚ units (suc i) +ℚ z *ℚ S) (spring-at (suc i))
@@ -266,19 +204,11 @@ module _ (n : ℕ) (k κ ω : List ℕ) where
               (int-plus (pos (5 * ds (suc i))) (pos (springAt n k (suc i) * stiffnessScale))
               ∙ ap₂ _+ℚ_ (int-times (pos 5) (pos (ds (suc i)))) (int-times (pos (springAt n k (suc i))) (pos stiffnessScale)))
 
-      out-low : natℚ unit *ℚ negℚ out ≤ℚ natℚ (c + 5 * stiffnessScale)
-      out-low =
+      level-low : natℚ unit *ℚ negℚ out ≤ℚ natℚ (c + 5 * stiffnessScale)
+      level-low =
           subst (λ z. natℚ unit *ℚ negℚ out ≤ℚ z) (sym (int-plus (pos c) (pos (5 * stiffnessScale))))
           (less (natℚ unit *ℚ negℚ out) (natℚ c) (G i) low
-          (low-law K L (lashes ls i) kq oq (loads ts i) (f i) (f (suc i)) (f (suc (suc i))) (units i) (units (suc i)) (units (suc (suc i)))
-          (f-is i)
-          (f-is (suc i))
-          (f-is (suc (suc i)))
-          (subst (λ z. kq ≤ℚ S *ℚ z) (mk-stiffness ls (suc i))
-          (rounded-low stiffnessScale 4 (getD κ i 0) (stiffnessAt ls (suc i)) (near .held i l)))
-          (subst (λ z. natℚ loadScale *ℚ z ≤ℚ oq +ℚ natℚ 4) (mk-load ts i)
-          (rounded-high loadScale 4 (getD ω i 0) (loadAt ts i) (near .loaded i l)))
-          (nn-int (ds (suc i)))))
+          (out-low n k κ ω ts ls near ds f f-is i l))
         where
           less : (a c g : ℚ) → negℚ (c +ℚ S) ≤ℚ g → a ≤ℚ natℚ (4 * stiffnessScale) -ℚ g → a ≤ℚ c +ℚ natℚ (5 * stiffnessScale)
           less = ∀₃ ℚR _ λ ρ. simp qq λ h l. by-cert (to h ⊞ to l) tt
@@ -288,8 +218,8 @@ module _ (n : ℕ) (k κ ω : List ℕ) where
           let over = 5 * ds (suc i) + springAt n k (suc i) * stiffnessScale in
           let under = c + 5 * stiffnessScale in
           times-abs (natℚ unit) out (natℚ (max over under))
-          (≤ℚ-trans (natℚ unit *ℚ out) (natℚ over) (natℚ (max over under)) out-high (nat-q over (max over under) (omega arith)))
-          (≤ℚ-trans (natℚ unit *ℚ negℚ out) (natℚ under) (natℚ (max over under)) out-low (nat-q under (max over under) (omega arith)))
+          (≤ℚ-trans (natℚ unit *ℚ out) (natℚ over) (natℚ (max over under)) level-high (nat-q over (max over under) (omega arith)))
+          (≤ℚ-trans (natℚ unit *ℚ negℚ out) (natℚ under) (natℚ (max over under)) level-low (nat-q under (max over under) (omega arith)))
 
     -- all levels together
     abbrev size : ℕ → ℚ

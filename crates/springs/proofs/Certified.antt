@@ -1,9 +1,8 @@
 -- The promise kept by a certificate: shifts that leave each level in balance, wherever they come from, are as near to the exact ones as
 -- specs/inner/Promise says.
 use mathlib.Core.Path.{_≡_, refl, sym, ap, ap₂, subst, _∙_}
-use mathlib.Core.Bool.{cond}
 use mathlib.Core.List.{List}
-use Prim.Native.Nat.{ℕ, zero, suc, _+_, _*_, _-_, _/_, _%_, _≤_, _<_, _^_}
+use Prim.Native.Nat.{ℕ, zero, suc, _+_, _*_, _-_, _/_, _≤_, _<_, _^_}
 use native.Mathlib.Nat.{div-add-mod', mod-lt}
 use native.Mathlib.Numerals.{add-one}
 use native.Mathlib.Omega.{arith}
@@ -13,21 +12,20 @@ use lib.IntN.{pos}
 use lib.ListN.{length, getD}
 use Rattle.arith.specs.Lists.{from, below}
 use Rattle.arith.specs.Fractions.{Frac, nat, _-q_, _*q_, _/q_, absq, sumq, _⊑_}
-use Rattle.arith.proofs.Polynomials.{v, kp, _⊕_, _⊖_, _⊗_, ⊖_}
-use Rattle.arith.proofs.Rings.{∀₁, ∀₂, ∀₃, ∀₁₀, ∀₁₂, by-ring, by-cert, part, to, times, num, _⊞_, _⊠_}
+use Rattle.arith.proofs.Polynomials.{kp}
+use Rattle.arith.proofs.Rings.{∀₁, ∀₂, ∀₃, ∀₁₀, by-ring, by-cert, part, to, times, num, _⊞_, _⊠_}
 use Rattle.arith.proofs.Rationals.{ℚR, ℚ, mk, _+ℚ_, _-ℚ_, _*ℚ_, negℚ, _/ℚ_, recipℚ, absℚ, _≤ℚ_, nn-int, int-plus, recip-times, to-⊑}
 use Rattle.arith.proofs.RationalTerms.{qq, q-int-add, q-int-mul}
-use Rattle.arith.proofs.Signs.{on}
 use Rattle.arith.proofs.RationalOrder.{≤ℚ-trans, nat-q, above-0, div-times}
 use Rattle.arith.proofs.FractionsInRationals.{sumℚ, mk-int, mk-div, of-≈, toℚ}
-use Rattle.springs.specs.Equations.{Tier, Lash, tierAt, shift, stiffnessAt, loadAt, racking, Solves}
-use Rattle.springs.specs.inner.Promise.{stiffnessScale, farthest, loadScale, shiftScale, Near, found, errorHundredths}
+use Rattle.springs.specs.Equations.{Tier, Lash, tierAt, shift, racking, Solves}
+use Rattle.springs.specs.inner.Promise.{stiffnessScale, farthest, shiftScale, Near, found, errorHundredths}
 use Rattle.springs.specs.inner.Promise.{lashError, rackingError, Promised}
 use Rattle.springs.specs.inner.Balance.{springAt, pulled, pushed, slackAt}
 use Rattle.springs.proofs.Chain.{natℚ, force, load}
-use Rattle.springs.proofs.Levels.{springs, lashes, loads, shifts, mk-stiffness, mk-load, mk-racking, no-spring}
+use Rattle.springs.proofs.Levels.{springs, lashes, loads, shifts, mk-racking, no-spring}
 use Rattle.springs.proofs.Stability.{lash-errors, racking-errors, mk-errors}
-use Rattle.springs.proofs.Inputs.{rounded-low, rounded-high}
+use Rattle.springs.proofs.OutOfBalance.{S, unit, times-abs, out-high, out-low}
 use Rattle.springs.proofs.Balance.{spring-in, spring-top, Level}
 
 -- shifts of levels 1 to n that are not too far, and 0 elsewhere
@@ -36,63 +34,9 @@ pub record Guessed (n : ℕ) (d : List ℕ) : Type 0 where
   pub over : (j : ℕ) → n < j → getD d j 0 ≡ 0
   pub far : (j : ℕ) → getD d j 0 ≤ farthest
 
--- m x is at most b in size
-times-abs : (m x b : ℚ) → m *ℚ x ≤ℚ b → m *ℚ negℚ x ≤ℚ b → m *ℚ absℚ x ≤ℚ b
-unfolding absℚ
-times-abs m x b h l = on x (λ c. m *ℚ cond c x (negℚ x) ≤ℚ b) (λ p. h) (λ p. l)
-
-abbrev S : ℚ
-S = natℚ stiffnessScale
-
 -- what a level may be out of balance by, in 2^-50 N
 abbrev most : ℕ
 most = 1326004 * stiffnessScale
-
--- K and L the springs under and over a level, k its lashes and κ theirs as found, q its load and ω it as found; f₀ f₁ f₂ the shifts found
--- under it, of it and over it, p d e the same in units
-high-law :
-    (K L k κ ω q f₀ f₁ f₂ p d e : ℚ) →
-    natℚ shiftScale *ℚ f₀ ≡ p →
-    natℚ shiftScale *ℚ f₁ ≡ d →
-    natℚ shiftScale *ℚ f₂ ≡ e →
-    S *ℚ (K *ℚ (d -ℚ p)) -ℚ S *ℚ (L *ℚ (e -ℚ d)) +ℚ κ *ℚ d -ℚ S *ℚ ω +ℚ natℚ 4 *ℚ d ≤ℚ natℚ most →
-    S *ℚ k ≤ℚ κ +ℚ natℚ 4 →
-    ω ≤ℚ natℚ loadScale *ℚ q →
-    natℚ 0 ≤ℚ d →
-    natℚ (2 ^ 50) *ℚ (K *ℚ (f₁ -ℚ f₀) -ℚ L *ℚ (f₂ -ℚ f₁) +ℚ k *ℚ f₁ -ℚ q) ≤ℚ natℚ most
-high-law =
-    ∀₁₂ ℚR _ λ ρ.
-    simp qq λ e0 e1 e2 g hk hq hd.
-    by-cert
-    (to g
-    ⊞ to hk ⊠ to hd
-    ⊞ num stiffnessScale ⊠ to hq
-    ⊞ times (kp stiffnessScale ⊗ v 0) e0
-    ⊞ times (⊖ (kp stiffnessScale ⊗ (v 0 ⊕ v 1 ⊕ v 2))) e1
-    ⊞ times (kp stiffnessScale ⊗ v 1) e2)
-    tt
-
-low-law :
-    (K L k κ ω q f₀ f₁ f₂ p d e : ℚ) →
-    natℚ shiftScale *ℚ f₀ ≡ p →
-    natℚ shiftScale *ℚ f₁ ≡ d →
-    natℚ shiftScale *ℚ f₂ ≡ e →
-    negℚ (natℚ (1326000 * stiffnessScale)) ≤ℚ S *ℚ (K *ℚ (d -ℚ p)) -ℚ S *ℚ (L *ℚ (e -ℚ d)) +ℚ κ *ℚ d -ℚ S *ℚ ω →
-    κ ≤ℚ S *ℚ k →
-    natℚ loadScale *ℚ q ≤ℚ ω +ℚ natℚ 4 →
-    natℚ 0 ≤ℚ d →
-    natℚ (2 ^ 50) *ℚ negℚ (K *ℚ (f₁ -ℚ f₀) -ℚ L *ℚ (f₂ -ℚ f₁) +ℚ k *ℚ f₁ -ℚ q) ≤ℚ natℚ most
-low-law =
-    ∀₁₂ ℚR _ λ ρ.
-    simp qq λ e0 e1 e2 g hk hq hd.
-    by-cert
-    (to g
-    ⊞ to hk ⊠ to hd
-    ⊞ num stiffnessScale ⊠ to hq
-    ⊞ times (⊖ (kp stiffnessScale ⊗ v 0)) e0
-    ⊞ times (kp stiffnessScale ⊗ (v 0 ⊕ v 1 ⊕ v 2)) e1
-    ⊞ times (⊖ (kp stiffnessScale ⊗ v 1)) e2)
-    tt
 
 -- h what the lashes hold the level with, rounded down; b what it may be out of balance by, t its shift in 2^20 units, rounded down
 high-G :
@@ -220,31 +164,16 @@ module _
 
       out-at : (i : ℕ) → i < n → natℚ (2 ^ 50) *ℚ absℚ (load (springs ts) (lashes ls) f i -ℚ loads ts i) ≤ℚ natℚ most
       out-at i l =
-          let K = springs ts i in
-          let L = springs ts (suc i) in
-          let kq = natℚ (getD κ i 0) in
-          let oq = natℚ (getD ω i 0) in
           times-abs (natℚ (2 ^ 50)) (load (springs ts) (lashes ls) f i -ℚ loads ts i) (natℚ most)
-          (high-law K L (lashes ls i) kq oq (loads ts i) (f i) (f (suc i)) (f (suc (suc i))) (units i) (units (suc i)) (units (suc (suc i)))
-          (found-is d i)
-          (found-is d (suc i))
-          (found-is d (suc (suc i)))
+          (≤ℚ-trans (natℚ unit *ℚ (load (springs ts) (lashes ls) f i -ℚ loads ts i)) (G i +ℚ natℚ 4 *ℚ units (suc i)) (natℚ most)
+          (out-high n k κ ω ts ls near (λ j. getD d j 0) f (found-is d) i l)
           (≤ℚ-trans (G i +ℚ natℚ 4 *ℚ units (suc i)) (natℚ (1326002 * stiffnessScale)) (natℚ most) (high i l)
-          (nat-q (1326002 * stiffnessScale) most (omega arith)))
-          (subst (λ z. S *ℚ z ≤ℚ kq +ℚ natℚ 4) (mk-stiffness ls (suc i))
-          (rounded-high stiffnessScale 4 (getD κ i 0) (stiffnessAt ls (suc i)) (near .held i l)))
-          (subst (λ z. oq ≤ℚ natℚ loadScale *ℚ z) (mk-load ts i) (rounded-low loadScale 4 (getD ω i 0) (loadAt ts i) (near .loaded i l)))
-          (nn-int (getD d (suc i) 0)))
-          (low-law K L (lashes ls i) kq oq (loads ts i) (f i) (f (suc i)) (f (suc (suc i))) (units i) (units (suc i)) (units (suc (suc i)))
-          (found-is d i)
-          (found-is d (suc i))
-          (found-is d (suc (suc i)))
-          (low i l)
-          (subst (λ z. kq ≤ℚ S *ℚ z) (mk-stiffness ls (suc i))
-          (rounded-low stiffnessScale 4 (getD κ i 0) (stiffnessAt ls (suc i)) (near .held i l)))
-          (subst (λ z. natℚ loadScale *ℚ z ≤ℚ oq +ℚ natℚ 4) (mk-load ts i)
-          (rounded-high loadScale 4 (getD ω i 0) (loadAt ts i) (near .loaded i l)))
-          (nn-int (getD d (suc i) 0)))
+          (nat-q (1326002 * stiffnessScale) most (omega arith))))
+          (less (natℚ unit *ℚ negℚ (load (springs ts) (lashes ls) f i -ℚ loads ts i)) (G i) (low i l)
+          (out-low n k κ ω ts ls near (λ j. getD d j 0) f (found-is d) i l))
+        where
+          less : (a g : ℚ) → negℚ (natℚ (1326000 * stiffnessScale)) ≤ℚ g → a ≤ℚ natℚ (4 * stiffnessScale) -ℚ g → a ≤ℚ natℚ most
+          less = ∀₂ ℚR _ λ ρ. simp qq λ h l. by-cert (to h ⊞ to l) tt
 
       -- all levels together, ten at most
       abbrev size : ℕ → ℚ

@@ -9,6 +9,7 @@ pub mod Recursion
 pub mod Ranges
 pub mod Inputs
 pub mod Residuals
+pub mod OutOfBalance
 pub mod Bound
 pub mod Candidates
 pub mod Balance

@@ -33,7 +33,8 @@ use Rattle.springs.proofs.Ranges.{in-range, far-at}
 use Rattle.springs.proofs.Candidates as C
 use Rattle.springs.proofs.Balance.{all-levels}
 use Rattle.springs.proofs.Certified.{certified}
-use Rattle.springs.proofs.Bound.{unit, errors, mk-summed, summed-bound}
+use Rattle.springs.proofs.OutOfBalance.{unit}
+use Rattle.springs.proofs.Bound.{errors, mk-summed, summed-bound}
 
 -- the most that a level may be out of balance by under document 01's limits, in 2^-50 N: less than 0.00495 N
 abbrev mostLevelError : ℕ
