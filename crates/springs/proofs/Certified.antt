@@ -211,7 +211,12 @@ module _
           error-is : mk lashError ≡ natℚ errorHundredths *ℚ recipℚ (natℚ 100)
           error-is = simp toℚ
 
-          go : (a m r : ℚ) → natℚ (2 ^ 50) *ℚ a ≤ℚ m *ℚ natℚ most → m ≤ℚ natℚ 10 → natℚ 100 *ℚ r ≡ natℚ 1 → a ≤ℚ natℚ errorHundredths *ℚ r
+          go :
+              (a m r : ℚ) →
+              natℚ (2 ^ 50) *ℚ a ≤ℚ m *ℚ natℚ most →
+              m ≤ℚ natℚ 10 →
+              natℚ 100 *ℚ r ≡ natℚ 1 →
+              a ≤ℚ natℚ errorHundredths *ℚ r
           go =
               ∀₃ ℚR _ λ ρ.
               simp qq λ h l e.
