@@ -139,7 +139,7 @@ class Pages(unittest.TestCase):
         rows = [row for section in sections(text).values() for row in section]
         self.assertGreater(len(rows), 20)
         self.assertEqual([row[0] for row in rows if len(row) != 3 or not SPAN.search(row[2])], [])
-        for line in ("kept = 9", "errorHundredths = 5", "rackingPad = 15729", "lashPad = 13365", "postPad = 810025"):
+        for line in ("kept = 9", "errorHundredths = 5", "rackingPad = 15729", "lashPad = 13365", "alongPad = 21176", "postPad = 893912"):
             self.assertIn(f"`{line}`", text)
 
 

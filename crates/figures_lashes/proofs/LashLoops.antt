@@ -16,13 +16,13 @@ use Rattle.sheet.specs.declared.Lashing.the-variants.{Cross, Side}
 use Rattle.sheet.specs.Lashings.{lashingOf, levelOf}
 use Rattle.sheet.specs.inner.Limits.{LashLimits}
 use Rattle.statics.specs.Lashes.{lashLength}
-use Rattle.statics.specs.inner.WholeNumbers.{lashPad, stiffnessOf, part, upward}
+use Rattle.statics.specs.inner.WholeNumbers.{inverse, along, alongPad, lashPad, stiffnessOf, part, upward}
 use Rattle.statics.specs.inner.WholeNumbers.{pullFigure, athwartFigure, verticalFigure, leePart, windwardPart}
 use Rattle.lash_forces.specs.inner.OneLash.{carriedLash, verticalFrom, cornerOf}
 use Rattle.figures_lashes.specs.inner.Lashes.{LashesMeasured, LevelStiffnesses, LashesFigured, VerticalsOn}
 use Rattle.statics.proofs.Arrays.{Between, between-none, fill-above, filled}
 use Rattle.statics.proofs.LashStiffness.{stiffness-most}
-use Rattle.lash_forces.proofs.LashLaws.{part-le, upward-le}
+use Rattle.lash_forces.proofs.LashLaws.{upward-le}
 use Rattle.figures_lashes.proofs.Tallies.{tally, tally-stiffness, tally-upwards, tally-le}
 use Rattle.figures_lashes.proofs.Tallies.{Tallied, Only, tallied-none, tallied-all, tallied-le, tallied-more}
 
@@ -193,9 +193,9 @@ figured-none =
       windwards = tallied-none 22;
     }
 
-upward-small : (d : List ℕ) (l : Lash) → getD d (levelOf l) 0 ≤ 2 ^ 40 → LashLimits 10 l → upward d l ≤ 2 ^ 54
-unfolding upward part
-upward-small d l h f = upward-le (part-le (stiffness-most l f) h) (f .ly) (f .lz-most)
+upward-small : (d : List ℕ) (l : Lash) → LashLimits 10 l → upward d l ≤ 2 ^ 54
+unfolding upward
+upward-small d l f = upward-le (part d l) (f .ly) (f .lz-most)
 
 carried-by : (cross : Bool) (l : Lash) → carriedLash (cond cross (Cross l) (Side l)) ≡ l
 carried-by true l = refl
@@ -217,20 +217,19 @@ is-upward d l ea ex = rw (carried l, ex, ea) refl
 post-le :
     {m : ℕ} {ls : List Lash} (d : List ℕ) →
     Listed m ls →
-    ((i : ℕ) → getD d i 0 ≤ 2 ^ 40) →
     (post : Lashing → ℕ → ℕ) →
     ((g : Lashing) (x : ℕ) → post g x ≤ x) →
     (i : ℕ) →
     tally (at-corner i) (on post d) ls ≤ 8 * 2 ^ 54
-post-le {ls = ls} d g small post kept i =
+post-le {ls = ls} d g post kept i =
     omega (arith, tally-le (2 ^ 54) (at-corner i) (on post d) ls each, g .counted, g .few)
   where
     each : (k : ℕ) → k < length ls → on post d (getD ls k blankLash) ≤ 2 ^ 54
     each k q =
         let l = getD ls k blankLash in
-        omega (arith, kept (lashingOf l) (upward d l), upward-small d l (small (levelOf l)) (g .each k (omega (arith, g .counted))))
+        omega (arith, kept (lashingOf l) (upward d l), upward-small d l (g .each k (omega (arith, g .counted))))
 
-module _ {m : ℕ} {ls : List Lash} {d : List ℕ} (g : Listed m ls) (small : (i : ℕ) → getD d i 0 ≤ 2 ^ 40) where
+module _ {m : ℕ} {ls : List Lash} {d : List ℕ} (g : Listed m ls) where
   module _ {lee windward forces : List ℕ} {j : ℕ}
       (s : FiguredTo m ls d lee windward forces j) (h : j < m) {l : Lash} (own : getD ls j blankLash ≡ l)
       {at corner x : ℕ}
@@ -247,7 +246,7 @@ module _ {m : ℕ} {ls : List Lash} {d : List ℕ} (g : Listed m ls) (small : (i
         Tallied at-corner (on post d) ls 22 j r →
         getD r corner 0 + post (lashingOf l) up < 2 ^ 64
     post-fits post kept t =
-        rw (is-upward d l ea ex) (omega (arith, tallied-le t (first g h own) (only-at ec), post-le d g small post kept corner))
+        rw (is-upward d l ea ex) (omega (arith, tallied-le t (first g h own) (only-at ec), post-le d g post kept corner))
 
     -- what a turn adds on each post stays in range
     pub sums-fit :
@@ -268,9 +267,9 @@ module _ {m : ℕ} {ls : List Lash} {d : List ℕ} (g : Listed m ls) (small : (i
     pub figured-more :
         {p a v : ℕ} →
         corner < 22 →
-        p ≡ roundedUp (roundedUp ((x + lashPad) * lashLength l) (l .ly)) (2 ^ 18) →
+        p ≡ roundedUp (along (x + lashPad) (lashLength l) (inverse (l .ly)) + alongPad) (2 ^ 18) →
         a ≡ roundedUp (x + lashPad) (2 ^ 18) →
-        v ≡ roundedUp (roundedUp ((x + lashPad) * l .lz) (l .ly)) (2 ^ 18) →
+        v ≡ roundedUp (along (x + lashPad) (l .lz) (inverse (l .ly)) + alongPad) (2 ^ 18) →
         FiguredTo
         m
         ls
@@ -310,7 +309,7 @@ module _ {m : ℕ} {ls : List Lash} {d : List ℕ} (g : Listed m ls) (small : (i
       let x = tallied-all t (omega (arith, g .counted)) in
       record {
         each = λ i. x i ∙ sym (tally-upwards post (at-corner i) d ls);
-        small = λ i. omega (arith, x i, post-le d g small post kept i);
+        small = λ i. omega (arith, x i, post-le d g post kept i);
         long = t .long;
       }
 

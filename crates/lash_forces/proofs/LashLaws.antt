@@ -1,11 +1,12 @@
 -- The whole numbers of a lash: the steps to its stiffness and its forces stay in range.
-use Prim.Native.Nat.{ℕ, suc, _+_, _*_, _-_, _/_, _^_, _<_, _≤_}
+use Prim.Native.Nat.{ℕ, suc, _+_, _*_, _-_, _/_, _%_, _^_, _<_, _≤_}
 use mathlib.Core.Path.{_≡_}
 use native.Mathlib.Nat.{mul-le-mul, mul-le-mul-left, div-le-of-le-mul}
 use native.Mathlib.Omega.{arith}
 use Rattle.sheet.specs.declared.Lash.{Lash}
 use Rattle.sheet.specs.inner.Limits.{LashLimits}
 use Rattle.statics.specs.Lashes.{squares, lashLength}
+use Rattle.statics.specs.inner.WholeNumbers.{inverse, along, alongMiddle}
 use Rattle.statics.proofs.LashLength.{length-least, length-most}
 
 module _ {n : ℕ} {l : Lash} (f : LashLimits n l) where
@@ -51,9 +52,25 @@ module _ {k s : ℕ} (hk : k ≤ 155000 * 2 ^ 22) (hs : s ≤ 2 ^ 40) where
   pub part-le : k * s / 2 ^ 32 ≤ 2 ^ 48
   part-le = omega (arith, mul-le-mul hk hs)
 
+-- the reciprocal of LY, and a number × a side / LY by it
+pub inverse-le : {ly : ℕ} → 500 ≤ ly → 2 ^ 46 / ly ≤ 140737488356
+inverse-le {ly} h = div-le-of-le-mul ly (omega (arith, h))
+
+module _ {side inv : ℕ} (hs : side ≤ 22913) (hi : inv ≤ 140737488356) where
+  pub rate-product : side * inv ≤ 22913 * 140737488356
+  rate-product = mul-le-mul hs hi
+
+  rate-le : side * inv / 1048576 ≤ 3075330801
+  rate-le = omega (arith, rate-product)
+
+  pub along-product : (x : ℕ) → x % 4294967296 * (side * inv / 1048576) ≤ 4294967295 * 3075330801
+  along-product x =
+      let h : x % 4294967296 ≤ 4294967295 = omega arith in
+      mul-le-mul h rate-le
+
 -- the vertical part
-pub upward-le : {part ly lz : ℕ} → part ≤ 2 ^ 48 → 500 ≤ ly → lz ≤ 20000 → part * lz / ly ≤ 2 ^ 54
-upward-le {part} {ly} {lz} hp hy hz =
-    let h : lz ≤ 40 * ly = omega arith in
-    let q : part * lz / ly ≤ 40 * part = div-le-of-le-mul ly (omega (arith, mul-le-mul-left part h)) in
-    omega arith
+pub upward-le : {ly lz : ℕ} (x : ℕ) → 500 ≤ ly → lz ≤ 20000 → along x lz (inverse ly) + alongMiddle ≤ 2 ^ 54
+unfolding along inverse
+upward-le {ly} {lz} x hy hz =
+    let short : lz ≤ 22913 = omega (arith, hz) in
+    omega (arith, along-product short (inverse-le hy) (x / 256))

@@ -6,7 +6,7 @@ ghost use Rattle.arith.specs.inner.Rounding.{roundedUp};
 ghost use Rattle.sheet.specs.Lashings.{levelOf};
 ghost use Rattle.sheet.specs.inner.Limits.{LashLimits};
 ghost use Rattle.statics.specs.Lashes.{lashLength};
-ghost use Rattle.statics.specs.inner.WholeNumbers.{lashPad, stiffnessOf, leePart, windwardPart};
+ghost use Rattle.statics.specs.inner.WholeNumbers.{inverse, along, alongPad, lashPad, stiffnessOf, leePart, windwardPart};
 ghost use Rattle.lash_forces.specs.inner.OneLash.{carriedLash, verticalFrom, cornerOf};
 use arith::rounding::ceil_div;
 use arith::rounding::split_product;
@@ -18,6 +18,11 @@ use statics::PostParts;
 
 // What one lash's athwart part may lack: 0.051 N.
 const LASH_PAD: u64 = 13365;
+
+// What a number × a side / LY may lack, 0.081 N, and half of that.
+const ALONG_PAD: u64 = 21176;
+
+const ALONG_MIDDLE: u64 = 10588;
 
 // The level that a lash is hooked at.
 pub fn hook_level(l: Lash) -> usize
@@ -52,12 +57,29 @@ pub fn athwart_part(stiffness: u64, shift: u64) -> u64
     split_product(stiffness, shift, 4194304, 1024)
 }
 
-// A padded athwart part × a side / LY, in N upwards.
-pub fn figure_along(padded: u64, side: u64, ly: u64) -> u64
-    requires { ⌜ (padded ≤ 2 ^ 48 + lashPad) × (side ≤ 22913) × (500 ≤ ly) ⌝ }
-    ensures { λ r. ⌜ r ≡ roundedUp (roundedUp (padded * side) ly) (2 ^ 18) ⌝ }
+// 2^46 / LY, the one division that a lash's forces take.
+fn inverse_of(ly: u64) -> u64
+    requires { ⌜ 500 ≤ ly ⌝ }
+    ensures { λ r. ⌜ (r ≡ inverse ly) × (r ≤ 140737488356) ⌝ }
 {
-    ceil_div(ceil_div(padded * side, ly), NEWTON)
+    70368744177664 / ly
+}
+
+// A number × a side / LY, from 2^46 / LY; what it may lack is in statics/proofs/Along. The remainder by 2^32 changes no number that a
+// taken sheet leads to: it keeps the product in range, so that no bound on the number need be handed down to here.
+fn along_side(x: u64, side: u64, inv: u64) -> u64
+    requires { ⌜ (side ≤ 22913) × (inv ≤ 140737488356) ⌝ }
+    ensures { λ r. ⌜ (r ≡ along x side inv) × (r ≤ 2 ^ 46) ⌝ }
+{
+    x / 256 % 4294967296 * (side * inv / 1048576) / 262144
+}
+
+// A padded athwart part × a side / LY, in N upwards.
+fn figure_along(padded: u64, side: u64, inv: u64) -> u64
+    requires { ⌜ (side ≤ 22913) × (inv ≤ 140737488356) ⌝ }
+    ensures { λ r. ⌜ r ≡ roundedUp (along padded side inv + alongPad) (2 ^ 18) ⌝ }
+{
+    ceil_div(along_side(padded, side, inv) + ALONG_PAD, NEWTON)
 }
 
 // The figures of one lash.
@@ -70,30 +92,30 @@ pub struct LashForces {
 // The figures of a lash of this length, from its athwart part.
 pub fn forces_of(l: Lash, long: u64, part: u64) -> LashForces
     requires { ⌜ LashLimits 10 l × (long ≡ lashLength l) × (part ≤ 2 ^ 48) ⌝ }
-    ensures { λ r. ⌜ r .tension ≡ roundedUp (roundedUp ((part + lashPad) * lashLength l) (l .ly)) (2 ^ 18) ⌝ }
+    ensures { λ r. ⌜ r .tension ≡ roundedUp (along (part + lashPad) (lashLength l) (inverse (l .ly)) + alongPad) (2 ^ 18) ⌝ }
     ensures { λ r. ⌜ r .athwart ≡ roundedUp (part + lashPad) (2 ^ 18) ⌝ }
-    ensures { λ r. ⌜ r .vertical ≡ roundedUp (roundedUp ((part + lashPad) * l .lz) (l .ly)) (2 ^ 18) ⌝ }
+    ensures { λ r. ⌜ r .vertical ≡ roundedUp (along (part + lashPad) (l .lz) (inverse (l .ly)) + alongPad) (2 ^ 18) ⌝ }
 {
-    let ly = l.ly as u64;
+    let inv = inverse_of(l.ly as u64);
     let padded = part + LASH_PAD;
     LashForces {
-        tension: figure_along(padded, long, ly),
+        tension: figure_along(padded, long, inv),
         athwart: ceil_div(padded, NEWTON),
-        vertical: figure_along(padded, l.lz as u64, ly),
+        vertical: figure_along(padded, l.lz as u64, inv),
     }
 }
 
-// The vertical part of a lash, from its athwart part.
+// The vertical part of a lash, from its athwart part. Its 2^46 / LY is that of forces_of, which the compiler sees.
 pub fn vertical_part(l: Lash, part: u64) -> u64
-    requires { ⌜ LashLimits 10 l × (part ≤ 2 ^ 48) ⌝ }
+    requires { ⌜ LashLimits 10 l ⌝ }
     ensures { λ r. ⌜ (r ≡ verticalFrom part l) × (r ≤ 2 ^ 54) ⌝ }
 {
-    part * (l.lz as u64) / (l.ly as u64)
+    along_side(part, l.lz as u64, inverse_of(l.ly as u64)) + ALONG_MIDDLE
 }
 
 // The vertical part of a lash on its post: of a cross lash on the lee post, of a side lash on the windward post.
 pub fn on_posts(g: Lashing, part: u64) -> PostParts
-    requires { ⌜ LashLimits 10 (carriedLash g) × (part ≤ 2 ^ 48) ⌝ }
+    requires { ⌜ LashLimits 10 (carriedLash g) ⌝ }
     ensures { λ r. ⌜ r .lee ≡ leePart g (verticalFrom part (carriedLash g)) ⌝ }
     ensures { λ r. ⌜ r .windward ≡ windwardPart g (verticalFrom part (carriedLash g)) ⌝ }
 {

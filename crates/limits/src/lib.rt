@@ -1,6 +1,9 @@
 // Document 01, "Permissible loads", in N.
 
+ghost use mathlib.Core.Bool.{cond};
 ghost use mathlib.Core.Path.{_≡_};
+ghost use Prim.Native.Nat.{_≤_};
+ghost use lib.Dec.{eqb};
 ghost use Rattle.answer.specs.Limits.{safeLoad};
 ghost use Rattle.limits.specs.inner.LowerOf.{lowerOf};
 
@@ -21,14 +24,19 @@ impl Limits {
     pub const SIDE_WALL: u64 = 125_000;
 }
 
-// The safe working load in whole kilonewtons: breaking load / 1.67 for higher strength steel, / 2 for all else (CR Table 3-3).
+// Of the factors 1.67, for higher strength steel, and 2, for all else, the one that is not the material's, in hundredths.
+fn other_factor(material: u8) -> u64
+    ensures { λ r. ⌜ (r ≡ cond (eqb material 1) 200 167) × (r ≤ 200) ⌝ }
+{
+    167 + 33 * ((material == 1) as u64)
+}
+
+// The safe working load in whole kilonewtons: breaking load / 1.67 for higher strength steel, / 2 for all else (CR Table 3-3). To divide by
+// one factor is to multiply by the other and divide by both: a branch on the material would often be predicted wrongly.
 pub fn safe_load(material: u8, breaking: u32) -> u64
     ensures { λ r. ⌜ r ≡ safeLoad material breaking ⌝ }
 {
-    if material == 1 {
-        return (breaking as u64) / 1670 * 1000;
-    }
-    (breaking as u64) / 2000 * 1000
+    (breaking as u64) * other_factor(material) / 334000 * 1000
 }
 
 // The limit that a level's tension is checked against, and the kind that names it.

@@ -1,6 +1,7 @@
 // Document 01, "Limits": whether the fields of a tier or a lash lie within them, a lash is on the stack, and two lashes are in order.
 
 ghost use mathlib.Core.Path.{_≡_};
+ghost use Prim.Native.Nat.{_+_, _*_};
 ghost use Rattle.sheet.specs.Layout.{tierFits, lashFits, breakingFits};
 ghost use Rattle.sheet.specs.Refusals.{offTiers, later};
 use sheet::Lash;
@@ -46,10 +47,16 @@ pub fn off_tiers(n: u64, l: Lash) -> bool
     (l.tier == 0) | (n < l.tier as u64) | ((l.tier == 1) & (l.hook == 1))
 }
 
+// A lash's place in the order, by tier, then hook, then kind, as one number: no branch on which of them decides.
+fn rank(l: Lash) -> u64
+    ensures { λ r. ⌜ r ≡ 65536 * l .tier + 256 * l .hook + l .kind ⌝ }
+{
+    65536 * (l.tier as u64) + 256 * (l.hook as u64) + (l.kind as u64)
+}
+
 // Whether b comes later than a, by tier, then hook, then kind.
 pub fn later(a: Lash, b: Lash) -> bool
     ensures { λ r. ⌜ r ≡ later a b ⌝ }
 {
-    (a.tier < b.tier)
-        | ((b.tier == a.tier) & ((a.hook < b.hook) | ((b.hook == a.hook) & (a.kind < b.kind))))
+    rank(a) < rank(b)
 }

@@ -16,7 +16,7 @@ use Rattle.arith.proofs.FractionsInRationals.{to-⊏, mk-abs, mk-int, mk-add}
 use Rattle.springs.proofs.Chain.{natℚ}
 use Rattle.statics.specs.Reported.{Reported}
 use Rattle.statics.proofs.Errors.{Off, off-nn}
-use Rattle.statics.proofs.Scales.{newtons, newtons-add, newtons-nn, share-nn, share-most, share-up, share-up-close}
+use Rattle.statics.proofs.Scales.{newtons, newtons-add, newtons-nn, share-nn, share-most}
 
 -- n is not below X either way round, and at most b above it
 pub record Covers (b n : ℕ) (X : ℚ) : Type 0 where
@@ -79,29 +79,30 @@ module _ {e X : ℚ} (n p : ℕ) (o : Off e (newtons (pos n)) X) (pad : e ≤ℚ
       close : (e X n p s : ℚ) → n ≤ℚ X +ℚ e → e +ℚ p ≤ℚ natℚ 1 → s ≤ℚ n +ℚ p +ℚ natℚ 1 → s ≤ℚ X +ℚ natℚ 2
       close = ∀₅ ℚR _ λ ρ. simp qq λ o h l. by-cert (to o ⊞ to h ⊞ to l) tt
 
-  -- and times N / y, which is at most 42
+  -- and times N / y, which is at most 42: m is at most h above that
   pub turned-covers :
-      (N y : ℕ) →
+      (N y m : ℕ) (h : ℚ) →
       0 < y →
       N ≤ 42 * y →
-      natℚ 42 *ℚ (e +ℚ newtons (pos p)) +ℚ newtons (pos 1) ≤ℚ natℚ 5 →
-      Covers 6 (roundedUp (roundedUp ((n + p) * N) y) (2 ^ 18)) (X *ℚ (natℚ N /ℚ natℚ y))
-  turned-covers N y y0 Ny lift =
-      let m : ℕ = roundedUp ((n + p) * N) y in
+      natℚ 42 *ℚ (e +ℚ newtons (pos p)) +ℚ h ≤ℚ natℚ 5 →
+      newtons (pos (n + p)) *ℚ (natℚ N /ℚ natℚ y) ≤ℚ newtons (pos m) →
+      newtons (pos m) ≤ℚ newtons (pos (n + p)) *ℚ (natℚ N /ℚ natℚ y) +ℚ h →
+      Covers 6 (roundedUp m (2 ^ 18)) (X *ℚ (natℚ N /ℚ natℚ y))
+  turned-covers N y m h y0 Ny lift first first-close =
       let q : ℚ = natℚ N /ℚ natℚ y in
       let s : ℚ = natℚ (roundedUp m (2 ^ 18)) in
-      let first = rw (newtons-add (pos n) (pos p)) at (share-up N y y0 (n + p)) in
-      let first-close = rw (newtons-add (pos n) (pos p)) at (share-up-close N y y0 (n + p)) in
+      let up = rw (newtons-add (pos n) (pos p)) at first in
+      let up-close = rw (newtons-add (pos n) (pos p)) at first-close in
       record {
         enough =
             enough e X (newtons (pos n)) (newtons (pos p)) q (newtons (pos m)) s
-            (share-nn N y y0) (o .below) pad first (ceil-low m);
+            (share-nn N y y0) (o .below) pad up (ceil-low m);
         back =
             back e X (newtons (pos n)) (newtons (pos p)) q (newtons (pos m)) s
-            (share-nn N y y0) (newtons-nn n) (o .above) pad first (ceil-low m);
+            (share-nn N y y0) (newtons-nn n) (o .above) pad up (ceil-low m);
         close =
-            close e X (newtons (pos n)) (newtons (pos p)) q (newtons (pos m)) s (newtons (pos 1))
-            (share-nn N y y0) (share-most N y y0 42 Ny) (off-nn o) (newtons-nn p) (o .above) lift first-close (ceil-high m);
+            close e X (newtons (pos n)) (newtons (pos p)) q (newtons (pos m)) s h
+            (share-nn N y y0) (share-most N y y0 42 Ny) (off-nn o) (newtons-nn p) (o .above) lift up-close (ceil-high m);
       }
     where
       enough :

@@ -45,7 +45,7 @@ use Rattle.statics.proofs.Pads.{shiftErrorBound, forceBound, roundedRac
 use Rattle.statics.proofs.LashFigures.{athwart-reported, pull-reported, vertical-reported}
 use Rattle.statics.proofs.EachLash.{Each}
 use Rattle.statics.proofs.ShiftErrors.{shiftErrorq, shiftErrorAt, shiftErrors, shift-errors-q, shift-error-le}
-use Rattle.statics.proofs.Verticals.{verticals-off, lee-post, windward-post}
+use Rattle.statics.proofs.Verticals.{Held, verticals-off, lee-post, windward-post}
 use Rattle.statics.proofs.Weights.{weight-off}
 use Rattle.statics.proofs.Moment.{moment-is}
 use Rattle.statics.specs.Theorems.{rackingMoment}
@@ -98,7 +98,8 @@ force-bound = refl
 
 module _
     (rule : Rule) (e : End) (t : Sheet) (d : List ℕ) (Ds : List Frac) (limits : SheetLimits t) (solved : EndSolved rule e t Ds)
-    (near : Close rule e t d Ds) where
+    (near : Close rule e t d Ds)
+    (held : (j : ℕ) → j < length (lashesOf e t) → mk (F.lashForce athwartPart (lashesOf e t) Ds j) ≤ℚ natℚ 2440000) where
   abbrev ts : List Tier
   ts = tiersOf t
 
@@ -123,6 +124,14 @@ module _
   shift-errors-small : shiftErrors d Ds ls ≤ℚ shiftErrorBound
   shift-errors-small =
       rw (shift-errors-q d Ds ls, shift-error-bound) at (of-⊑ (sumq (shiftErrorq d Ds) (endLashes e t)) (nat 5 /q nat 100) (near .lashes))
+
+  shift-error-small : (j : ℕ) → j < length ls → shiftErrorAt d Ds (getD ls j blankLash) ≤ℚ shiftErrorBound
+  shift-error-small j h =
+      ≤ℚ-trans (shiftErrorAt d Ds (getD ls j blankLash)) (shiftErrors d Ds ls) shiftErrorBound (shift-error-le d Ds ls each j h)
+      shift-errors-small
+
+  lashes-held : Held d Ds ls
+  lashes-held = record { small = shift-error-small; held = held }
 
   racking-near : (i : ℕ) → i < t .ntiers → Off roundedRackingError (newtons (rackingPart (getD k i 0) d i)) (mk (R i))
   racking-near i h =
@@ -166,7 +175,7 @@ module _
           lee-off (length (drop i ts)) half (upwards leePart (counts i) d ls) (momentFound i)
           (weightAbove acceleration ts i) (M i) (verticals onLee (counts i) ls Ds)
           few-above (weight-off acceleration ts i) moment-near
-          (verticals-off d Ds (near .far) lee-post (counts i) ls each (limits .ends e .few) shift-errors-small)
+          (verticals-off d Ds (near .far) lee-post (counts i) ls each lashes-held (limits .ends e .few) shift-errors-small)
 
       windward-near :
           Off postError
@@ -176,7 +185,7 @@ module _
           windward-off (length (drop i ts)) half (upwards windwardPart (counts i) d ls) (momentFound i)
           (weightAbove acceleration ts i) (M i) (verticals onWindward (counts i) ls Ds)
           few-above (weight-off acceleration ts i) moment-near
-          (verticals-off d Ds (near .far) windward-post (counts i) ls each (limits .ends e .few) shift-errors-small)
+          (verticals-off d Ds (near .far) windward-post (counts i) ls each lashes-held (limits .ends e .few) shift-errors-small)
 
     compressed : Reported 9 (compression rule ts ls Ds i) (compressionFigure k ts ls d i)
     unfolding compression compressionFigure
@@ -195,18 +204,14 @@ module _
     abbrev D : Frac
     D = shift Ds (levelOf lash)
 
-    shift-error-small : shiftErrorAt d Ds lash ≤ℚ shiftErrorBound
-    shift-error-small =
-        ≤ℚ-trans (shiftErrorAt d Ds lash) (shiftErrors d Ds ls) shiftErrorBound (shift-error-le d Ds ls each j h) shift-errors-small
-
     pulled : Reported 9 (pull lash D) (pullFigure d lash)
-    pulled = pull-reported d lash D (each .at j h) (near .far (levelOf lash)) shift-error-small 9 (lit≤ tt)
+    pulled = pull-reported d lash D (each .at j h) (near .far (levelOf lash)) (shift-error-small j h) (held j h) 9 (lit≤ tt)
 
     athwart : Reported 9 (athwartPart lash D) (athwartFigure d lash)
-    athwart = athwart-reported d lash D (each .at j h) (near .far (levelOf lash)) shift-error-small 9 (lit≤ tt)
+    athwart = athwart-reported d lash D (each .at j h) (near .far (levelOf lash)) (shift-error-small j h) (held j h) 9 (lit≤ tt)
 
     raised : Reported 9 (verticalPart lash D) (verticalFigure d lash)
-    raised = vertical-reported d lash D (each .at j h) (near .far (levelOf lash)) shift-error-small 9 (lit≤ tt)
+    raised = vertical-reported d lash D (each .at j h) (near .far (levelOf lash)) (shift-error-small j h) (held j h) 9 (lit≤ tt)
 
   -- the figures of the end, force by force
   abbrev figures : EndFigures

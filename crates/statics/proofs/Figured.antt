@@ -21,7 +21,7 @@ use Rattle.sheet.specs.inner.Limits.{SheetLimits}
 use Rattle.statics.proofs.Arrays.{padded-behind}
 use Rattle.statics.proofs.Inputs.{solvable, near}
 use Rattle.statics.proofs.EndReported.{promised-close, reported}
-use Rattle.statics.proofs.Bounds.{figured}
+use Rattle.statics.proofs.Bounds.{athwart-up, figured}
 
 lash-error : lashError ⊑ nat 5 /q nat 100
 unfolding recip
@@ -60,5 +60,6 @@ module _ {rule : Rule} {c : LoadRule} (stands : StandsFor c rule) (e : End) {t :
       (λ Ds s.
       reported rule e t d Ds f s
       (promised-close rule e t (springsOf e ts) (stiffnessesOf ls) (loadsOf c ts) d Ds lash-error racking-error promised
-      (near stands e f) s))
+      (near stands e f) s)
+      (λ j h. athwart-up stands e f s j h .most))
       blank

@@ -23,6 +23,7 @@ pub mod Bounds
 pub mod Errors
 pub mod Scales
 pub mod Pads
+pub mod Along
 pub mod Covers
 pub mod LashFigures
 pub mod ShiftErrors

@@ -4,7 +4,7 @@ use Rattle.arith.specs.Fractions.{recip}
 use Rattle.arith.proofs.Rationals.{ℚ, int, _+ℚ_, _*ℚ_, recipℚ, _≤ℚ_, leℚ}
 use Rattle.springs.proofs.Chain.{natℚ}
 use Rattle.statics.specs.Posts.{postSpacing}
-use Rattle.statics.specs.inner.WholeNumbers.{lashPad, rackingPad, postPad}
+use Rattle.statics.specs.inner.WholeNumbers.{lashPad, alongPad, alongMiddle, rackingPad, postPad}
 use Rattle.statics.proofs.Scales.{cent, newtons}
 
 -- the bounds on the shifts found: stiffness × shift error, summed over the lashes; and the error of a racking
@@ -18,9 +18,9 @@ forceBound = cent 5
 abbrev pub partError : ℚ → ℚ
 partError s = s +ℚ newtons (pos 257)
 
--- its vertical part, LZ being at most 40 LY
+-- its vertical part, LZ being at most 40 LY, by a reciprocal of LY
 abbrev pub verticalError : ℚ → ℚ
-verticalError s = natℚ 40 *ℚ partError s +ℚ newtons (pos 1)
+verticalError s = natℚ 40 *ℚ partError s +ℚ newtons (pos alongMiddle)
 
 -- a racking rounded to 2^-18 N, and what a tier of 2,896 mm adds to the moment
 abbrev pub roundedRackingError : ℚ
@@ -31,7 +31,7 @@ tierError = natℚ 2896 *ℚ roundedRackingError
 
 -- the vertical parts of 8 lashes
 abbrev pub verticalsError : ℚ
-verticalsError = cent 232
+verticalsError = cent 264
 
 -- a post sum of n tiers: half the weight, the moment over the post spacing, the vertical parts
 abbrev pub sumError : ℚ → ℚ
@@ -39,7 +39,7 @@ sumError n =
     newtons (pos 1) +ℚ (recipℚ (natℚ postSpacing) *ℚ (n *ℚ tierError) +ℚ newtons (pos 1)) +ℚ verticalsError
 
 abbrev pub postError : ℚ
-postError = cent 309
+postError = cent 341
 
 pub racking-room : newtons (pos 1) +ℚ forceBound ≤ℚ roundedRackingError
 unfolding leℚ _+ℚ_ _*ℚ_ recipℚ recip int
@@ -58,11 +58,15 @@ pub lash-pad : partError shiftErrorBound ≤ℚ newtons (pos lashPad)
 unfolding leℚ _+ℚ_ _*ℚ_ recipℚ recip int
 lash-pad = record { le = tt }
 
+pub part-room : newtons (pos lashPad) ≤ℚ natℚ 1
+unfolding leℚ _*ℚ_ recipℚ recip int
+part-room = record { le = tt }
+
 pub lash-over : partError shiftErrorBound +ℚ newtons (pos lashPad) ≤ℚ natℚ 1
 unfolding leℚ _+ℚ_ _*ℚ_ recipℚ recip int
 lash-over = record { le = tt }
 
-pub turned-over : natℚ 42 *ℚ (partError shiftErrorBound +ℚ newtons (pos lashPad)) +ℚ newtons (pos 1) ≤ℚ natℚ 5
+pub turned-over : natℚ 42 *ℚ (partError shiftErrorBound +ℚ newtons (pos lashPad)) +ℚ newtons (pos alongPad) ≤ℚ natℚ 5
 unfolding leℚ _+ℚ_ _*ℚ_ recipℚ recip int
 turned-over = record { le = tt }
 

@@ -8,16 +8,15 @@ use lib.Dec.{lit≤}
 use lib.IntN.{ℤ, pos, negsuc, negℤ, _+ℤ_, _*ℤ_}
 use lib.ListN.{getD}
 use lib.Signed.{quotZ}
-use Rattle.arith.specs.inner.Rounding.{roundedUp}
 use Rattle.arith.specs.Fractions.{nat}
-use Rattle.arith.proofs.Rings.{∀₂, ∀₃, ∀₄, ∀₅, by-ring, by-cert, to, _⊞_, _⊠_}
+use Rattle.arith.proofs.Rings.{∀₂, ∀₃, ∀₄, by-ring, by-cert, to, _⊞_, _⊠_}
 use Rattle.arith.proofs.Integers.{_≼_}
 use Rattle.arith.proofs.Rationals.{ℚR, ℚ, mk, int, _+ℚ_, _*ℚ_, _/ℚ_, recipℚ, negℚ, _≤ℚ_, <→≤, recip-times, recip-nn, int-plus, int-times}
 use Rattle.arith.proofs.Rationals.{nn-int, nn-times}
 use Rattle.arith.proofs.RationalTerms.{qq, q-int-neg}
 use Rattle.arith.proofs.Signs.{div-eq, le-int}
 use Rattle.arith.proofs.RationalOrder.{above-0, unit, unit-times, nat-q, div-le}
-use Rattle.arith.proofs.RationalRounding.{div-down, down-le, down-lt, ceil-up, up-le, up-lt}
+use Rattle.arith.proofs.RationalRounding.{div-down, down-le, down-lt}
 use Rattle.arith.proofs.FractionsInRationals.{mk-int}
 use Rattle.springs.specs.inner.Promise.{found}
 use Rattle.springs.proofs.Chain.{natℚ}
@@ -129,37 +128,3 @@ module _ (N y : ℕ) (y0 : 0 < y) where
   share-most k h =
       div-le (natℚ N) (natℚ y) (natℚ k) (above-0 y y0)
       (rw (sym (int-times (pos y) (pos k))) (nat-q N (y * k) (omega (arith, mul-comm y k))))
-
-  -- x × N / y, rounded down and up
-  module _ (x : ℕ) where
-    pub share-off : Off (newtons (pos 1)) (newtons (pos (x * N / y))) (newtons (pos x) *ℚ (natℚ N /ℚ natℚ y))
-    unfolding per
-    share-off =
-        subst (λ z. Off (newtons (pos 1)) (newtons (pos (x * N / y))) z)
-        (ap (λ z. z /ℚ natℚ y) (newtons-scale (pos x) (pos N)) ∙ regroup (natℚ x) (natℚ N) per (recipℚ (natℚ y)))
-        (quot-off y y0 (pos (x * N)))
-      where
-        regroup : (x N h r : ℚ) → x *ℚ (N *ℚ h) *ℚ r ≡ x *ℚ h *ℚ (N *ℚ r)
-        regroup = ∀₄ ℚR _ λ ρ. simp qq (by-ring tt)
-
-    pub share-up : newtons (pos x) *ℚ (natℚ N /ℚ natℚ y) ≤ℚ newtons (pos (roundedUp (x * N) y))
-    unfolding per
-    share-up =
-        go (natℚ x) (natℚ N) (recipℚ (natℚ y)) (natℚ (roundedUp (x * N) y)) per per-nn
-        (rw (int-times (pos x) (pos N)) at (up-le (above-0 y y0) (ceil-up (x * N) y y0)))
-      where
-        go : (x N r m h : ℚ) → natℚ 0 ≤ℚ h → x *ℚ N *ℚ r ≤ℚ m → x *ℚ h *ℚ (N *ℚ r) ≤ℚ m *ℚ h
-        go = ∀₅ ℚR _ λ ρ. simp qq λ h0 l. by-cert (to h0 ⊠ to l) tt
-
-    pub share-up-close : newtons (pos (roundedUp (x * N) y)) ≤ℚ newtons (pos x) *ℚ (natℚ N /ℚ natℚ y) +ℚ newtons (pos 1)
-    unfolding per
-    share-up-close =
-        go (natℚ x) (natℚ N) (recipℚ (natℚ y)) (natℚ (roundedUp (x * N) y)) per per-nn
-        (rw (int-times (pos x) (pos N)) at (<→≤ (up-lt (above-0 y y0) (ceil-up (x * N) y y0))))
-      where
-        go :
-            (x N r m h : ℚ) →
-            natℚ 0 ≤ℚ h →
-            m ≤ℚ x *ℚ N *ℚ r +ℚ natℚ 1 →
-            m *ℚ h ≤ℚ x *ℚ h *ℚ (N *ℚ r) +ℚ natℚ 1 *ℚ h
-        go = ∀₅ ℚR _ λ ρ. simp qq λ h0 l. by-cert (to h0 ⊠ to l) tt

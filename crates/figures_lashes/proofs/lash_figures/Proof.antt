@@ -88,7 +88,7 @@ sums o =
     let t = turn k in
     let b = start (t .before) in
     let e = o .on-posts .ensures in
-    sums-fit (lashes-of b) (b .pre .1 .0 .1) (t .before .loop .inv) (t .loop-test .taken) (own t) (k .hook-level .ensures .0)
+    sums-fit (lashes-of b) (t .before .loop .inv) (t .loop-test .taken) (own t) (k .hook-level .ensures .0)
     (r .hook-corner .ensures .0) (athwart x) (o .before .lashing-of .ensures) (e .0) (e .1)
 
 -- .. and where its forces are stored
@@ -156,7 +156,7 @@ lashing-of-requires c κs = search needs
 on-posts-requires : tie.Need-on-posts-requires Inv-loop μ-loop
 on-posts-requires c κs =
     let x = parted (c .before) in
-    (rw (c .lashing-of .ensures, carried _) (lash-limits (turn (hooked (cornered x)))), x .athwart-part .ensures .1)
+    rw (c .lashing-of .ensures, carried _) (lash-limits (turn (hooked (cornered x))))
 
 mul-forces : tie.Need-mul-forces Inv-loop μ-loop
 mul-forces c = search needs
@@ -231,7 +231,7 @@ loop-again c =
     let e = o .on-posts .ensures in
     let q = f .forces-of .ensures in
     rw (e .0, e .1, o .before .lashing-of .ensures, add-one (l .j))
-    (figured-more (lashes-of b) (b .pre .1 .0 .1) (l .inv) (t .loop-test .taken) (own t) (k .hook-level .ensures .0)
+    (figured-more (lashes-of b) (l .inv) (t .loop-test .taken) (own t) (k .hook-level .ensures .0)
     (r .hook-corner .ensures .0) (athwart x) (omega (arith, r .hook-corner .ensures .1)) (q .0) (q .1 .0) (q .1 .1))
 
 same-length : tie.Need-same-length Inv-loop μ-loop
@@ -246,7 +246,7 @@ same-length-3 c = search needs
 returns : tie.Need-returns Inv-loop μ-loop
 returns c =
     let b = start (c .before) in
-    let s = figured-all (lashes-of b) (b .pre .1 .0 .1) (c .loop-test .left) (c .before .loop .inv) in
+    let s = figured-all (lashes-of b) (c .loop-test .left) (c .before .loop .inv) in
     ((s .0, c .before .loop .inv .forces-long), (s .1, s .2))
 
 pub lash-figures-spec : {M : Type 1} → statement M

@@ -1,20 +1,22 @@
--- `lash_forces::forces_of`: the padded part is in range, and so are its products with the length and LZ.
-use native.Mathlib.Omega.{arith}
+-- `lash_forces::forces_of`: the padded part is in range, and its length and LZ are sides.
 use Rattle.statics.proofs.LashLength.{length-most}
 use borrow.Author.Needs.{needs}
 use Rattle.lash_forces.proofs.forces_of.Statement.{statement}
 use Rattle.lash_forces.proofs.forces_of.Tie as tie
 
-cast-ly : tie.Need-cast-ly
-cast-ly c = search needs
+cast-inverse-of : tie.Need-cast-inverse-of
+cast-inverse-of c = search needs
+
+inverse-of-requires : tie.Need-inverse-of-requires
+inverse-of-requires c κs = search needs
 
 add-padded : tie.Need-add-padded
 add-padded c = search needs
 
 figure-along-requires : tie.Need-figure-along-requires
 figure-along-requires c κs =
-    let b = c .before in
-    (omega (arith, b .pre .2), rw (b .pre .1) (length-most (b .pre .0)), b .pre .0 .ly)
+    let b = c .before .before in
+    (rw (b .pre .1) (length-most (b .pre .0)), c .inverse-of .ensures .1)
 
 ceil-div-requires : tie.Need-ceil-div-requires
 ceil-div-requires c κs = search needs
@@ -27,15 +29,17 @@ figure-along-requires-2 c κs = search needs
 
 returns : tie.Need-returns
 returns c =
-    let k = c .before .before in
-    let f = k .before in
-    rw (← f .before .before .pre .1) (f .figure-along .ensures, (k .ceil-div .ensures .0, c .figure-along2 .ensures))
+    let f = c .before .before .before in
+    let i = f .before in
+    rw (← i .before .before .pre .1, ← i .inverse-of .ensures .0)
+    (f .figure-along .ensures, (c .before .before .ceil-div .ensures .0, c .figure-along2 .ensures))
 
 pub forces-of-spec : {M : Type 1} → statement M
 forces-of-spec =
     tie.close
     (tie.spec
-    cast-ly
+    cast-inverse-of
+    inverse-of-requires
     add-padded
     figure-along-requires
     ceil-div-requires

@@ -9,16 +9,14 @@ enum-known-g c = search needs
 
 vertical-part-requires : tie.Need-vertical-part-requires
 vertical-part-requires c κs =
-    let b = c .before .before .before in
-    (simp (c .before .g .given .1) at (b .pre .0), b .pre .1)
+    simp (c .before .g .given .1) at (c .before .before .before .pre)
 
 enum-known-g-2 : tie.Need-enum-known-g-2
 enum-known-g-2 c = search needs
 
 vertical-part-requires-2 : tie.Need-vertical-part-requires-2
 vertical-part-requires-2 c κs =
-    let b = c .before .before .before in
-    (simp (c .before .g2 .given .1) at (b .pre .0), b .pre .1)
+    simp (c .before .g2 .given .1) at (c .before .before .before .pre)
 
 returns : tie.Need-returns
 returns c = rw (c .before .before .g .given .1) (c .vertical-part .ensures .0, refl)

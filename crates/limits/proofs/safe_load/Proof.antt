@@ -1,32 +1,37 @@
--- `limits::safe_load`, by the test of the material. One division by the factor and by 1,000 is both.
+-- `limits::safe_load`, by the test of the material. One division, by both factors and by 1,000, is all.
+use mathlib.Core.Bool.{Bool, true, false, cond}
 use mathlib.Core.Path.{_≡_}
-use Prim.Native.Nat.{ℕ, _*_, _/_}
+use Prim.Native.Nat.{ℕ, _*_, _/_, _≤_}
+use native.Mathlib.Nat.{mul-le-mul}
 use native.Mathlib.Omega.{arith}
 use borrow.Author.Needs.{needs}
-use borrow.Author.Tests.{eq-eqb, ne-eqb}
+use lib.Dec.{eqb}
 use Rattle.answer.specs.Limits.{safeLoad}
 use Rattle.limits.proofs.safe_load.Statement.{statement}
 use Rattle.limits.proofs.safe_load.Tie as tie
 
-by-167 : (b : ℕ) → b / 1670 * 1000 ≡ b * 100 / 167 / 1000 * 1000
-by-167 b = omega arith
+by-factor : (strong : Bool) (b : ℕ) → b * cond strong 200 167 / 334000 * 1000 ≡ b * 100 / cond strong 167 200 / 1000 * 1000
+by-factor true b = omega arith
+by-factor false b = omega arith
 
-by-200 : (b : ℕ) → b / 2000 * 1000 ≡ b * 100 / 200 / 1000 * 1000
-by-200 b = omega arith
+product : (c : tie.After-other-factor) → c .before .args .breaking * c .other-factor .result ≤ 4294967295 * 200
+product c =
+    let h : c .before .args .breaking ≤ 4294967295 = omega arith in
+    mul-le-mul h (c .other-factor .ensures .1)
+
+other-factor-requires : tie.Need-other-factor-requires
+other-factor-requires c κs = search needs
 
 mul-result : tie.Need-mul-result
-mul-result c = search needs
+mul-result c = omega (arith, product c)
 
 mul-result-2 : tie.Need-mul-result-2
-mul-result-2 c = search needs
+mul-result-2 c = omega (arith, product c)
 
 returns : tie.Need-returns
 unfolding safeLoad
-returns c = simp (eq-eqb _ _ (c .if1 .taken)) (by-167 _)
-
-returns-2 : tie.Need-returns-2
-unfolding safeLoad
-returns-2 c = simp (ne-eqb _ _ (c .if1 .left)) (by-200 _)
+returns c =
+    rw (c .other-factor .ensures .0) (by-factor (eqb (c .before .args .material) 1) (c .before .args .breaking))
 
 pub safe-load-spec : {M : Type 1} → statement M
-safe-load-spec = tie.close (tie.spec mul-result returns mul-result-2 returns-2)
+safe-load-spec = tie.close (tie.spec other-factor-requires mul-result mul-result-2 returns)

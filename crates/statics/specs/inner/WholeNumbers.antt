@@ -4,7 +4,7 @@
 use mathlib.Core.Path.{_≡_}
 use mathlib.Core.Bool.{Bool, cond}
 use mathlib.Core.List.{List, [], _∷_}
-use Prim.Native.Nat.{ℕ, suc, _+_, _*_, _-_, _/_, _^_, _<_, _≤_, max}
+use Prim.Native.Nat.{ℕ, suc, _+_, _*_, _-_, _/_, _%_, _^_, _<_, _≤_, max}
 use lib.Dec.{eqb}
 use lib.ListN.{drop, getD, length}
 use lib.IntN.{ℤ, pos, negsuc, negℤ, _+ℤ_, _-ℤ_, _*ℤ_}
@@ -56,26 +56,41 @@ unfoldable pub levelStiffness : List Lash → ℕ → ℕ
 levelStiffness [] i = 0
 levelStiffness (l ∷ ls) i = cond (eqb i (levelOf l)) (stiffnessOf l) 0 + levelStiffness ls i
 
--- the athwart part of a lash at the shifts d, and its vertical part
+-- the athwart part of a lash at the shifts d
 unfoldable pub part : List ℕ → Lash → ℕ
 part d l = stiffnessOf l * getD d (levelOf l) 0 / 2 ^ 32
 
-unfoldable pub upward : List ℕ → Lash → ℕ
-upward d l = part d l * l .lz / l .ly
+-- x × side / LY by a reciprocal of LY, the one division for all forces of a lash; of an x up to 5 × 2^37, 2.6 MN, it may come out low
+unfoldable pub inverse : ℕ → ℕ
+inverse ly = 2 ^ 46 / ly
+
+unfoldable pub along : ℕ → ℕ → ℕ → ℕ
+along x side inv = x / 2 ^ 8 % 2 ^ 32 * (side * inv / 2 ^ 20) / 2 ^ 18
+
+-- 0.081 N in 2^-18 N: what it may lack, and half of that
+abbrev pub alongPad : ℕ
+alongPad = 21176
+
+abbrev pub alongMiddle : ℕ
+alongMiddle = 10588
 
 -- 0.051 N in 2^-18 N: what one lash's part may lack
 abbrev pub lashPad : ℕ
 lashPad = 13365
+
+-- the vertical part of a lash, as much too high as too low
+unfoldable pub upward : List ℕ → Lash → ℕ
+upward d l = along (part d l) (l .lz) (inverse (l .ly)) + alongMiddle
 
 -- the figures of a lash: its padded part, in N upwards; times L / LY and LZ / LY
 unfoldable pub athwartFigure : List ℕ → Lash → ℕ
 athwartFigure d l = roundedUp (part d l + lashPad) (2 ^ 18)
 
 unfoldable pub pullFigure : List ℕ → Lash → ℕ
-pullFigure d l = roundedUp (roundedUp ((part d l + lashPad) * lashLength l) (l .ly)) (2 ^ 18)
+pullFigure d l = roundedUp (along (part d l + lashPad) (lashLength l) (inverse (l .ly)) + alongPad) (2 ^ 18)
 
 unfoldable pub verticalFigure : List ℕ → Lash → ℕ
-verticalFigure d l = roundedUp (roundedUp ((part d l + lashPad) * l .lz) (l .ly)) (2 ^ 18)
+verticalFigure d l = roundedUp (along (part d l + lashPad) (l .lz) (inverse (l .ly)) + alongPad) (2 ^ 18)
 
 -- the racking of tier i, and its figure: padded by 0.06 N, in N upwards, with the sign kept
 unfoldable pub rackingPart : ℕ → List ℕ → ℕ → ℤ
@@ -113,9 +128,9 @@ leeFound halfweight moment vertical = pos halfweight +ℤ quotZ moment (pos post
 unfoldable pub windwardFound : ℕ → ℤ → ℕ → ℤ
 windwardFound halfweight moment vertical = pos halfweight -ℤ quotZ moment (pos postSpacing) +ℤ pos vertical
 
--- 3.09 N in 2^-18 N: what a post sum may lack
+-- 3.41 N in 2^-18 N: what a post sum may lack
 abbrev pub postPad : ℕ
-postPad = 810025
+postPad = 893912
 
 abbrev pub notBelow : ℤ → ℕ
 notBelow (pos n) = n
