@@ -3,7 +3,6 @@
 ghost use mathlib.Core.Bool.{cond};
 ghost use mathlib.Core.Path.{_≡_};
 ghost use Prim.Native.Nat.{_≤_};
-ghost use lib.Dec.{eqb};
 ghost use Rattle.answer.specs.Limits.{safeLoad};
 ghost use Rattle.limits.specs.inner.LowerOf.{lowerOf};
 
@@ -24,11 +23,11 @@ impl Limits {
     pub const SIDE_WALL: u64 = 125_000;
 }
 
-// Of the factors 1.67, for higher strength steel, and 2, for all else, the one that is not the material's, in hundredths.
-fn other_factor(material: u8) -> u64
-    ensures { λ r. ⌜ (r ≡ cond (eqb material 1) 200 167) × (r ≤ 200) ⌝ }
+// Of the factors 1.67, for higher strength steel, and 2, for all else, the one that does not apply, in hundredths.
+fn other_factor(strong: bool) -> u64
+    ensures { λ r. ⌜ (r ≡ cond strong 200 167) × (r ≤ 200) ⌝ }
 {
-    167 + 33 * ((material == 1) as u64)
+    167 + 33 * (strong as u64)
 }
 
 // The safe working load in whole kilonewtons: breaking load / 1.67 for higher strength steel, / 2 for all else (CR Table 3-3). To divide by
@@ -36,7 +35,7 @@ fn other_factor(material: u8) -> u64
 pub fn safe_load(material: u8, breaking: u32) -> u64
     ensures { λ r. ⌜ r ≡ safeLoad material breaking ⌝ }
 {
-    (breaking as u64) * other_factor(material) / 334000 * 1000
+    (breaking as u64) * other_factor(material == 1) / 334000 * 1000
 }
 
 // The limit that a level's tension is checked against, and the kind that names it.

@@ -1,10 +1,9 @@
--- `limits::other_factor`, by the test of the material.
+-- `limits::other_factor`, by whether the steel is of higher strength.
 use mathlib.Core.Bool.{Bool, true, false, cond}
 use mathlib.Core.Path.{_≡_, refl}
 use Prim.Native.Nat.{_+_, _*_, _≤_}
 use native.Mathlib.Omega.{arith}
 use borrow.Author.Needs.{needs}
-use lib.Dec.{eqb}
 use mir.Val.{boolByte}
 use Rattle.limits.proofs.other_factor.Statement.{statement}
 use Rattle.limits.proofs.other_factor.Tie as tie
@@ -21,15 +20,13 @@ cast-result : tie.Need-cast-result
 cast-result c = search needs
 
 mul-result : tie.Need-mul-result
-mul-result c = omega (arith, at-most (eqb (c .args .material) 1))
+mul-result c = omega (arith, at-most (c .args .strong))
 
 add-result : tie.Need-add-result
-add-result c = omega (arith, at-most (eqb (c .args .material) 1))
+add-result c = omega (arith, at-most (c .args .strong))
 
 returns : tie.Need-returns
-returns c =
-    let strong = eqb (c .args .material) 1 in
-    (one-of strong, omega (arith, at-most strong))
+returns c = (one-of (c .args .strong), omega (arith, at-most (c .args .strong)))
 
 pub other-factor-spec : {M : Type 1} → statement M
 other-factor-spec = tie.close (tie.spec cast-result mul-result add-result returns)
