@@ -16,7 +16,7 @@ use Rattle.sheet.specs.declared.Lashing.the-variants.{Cross, Side}
 use Rattle.sheet.specs.Lashings.{lashingOf, levelOf}
 use Rattle.sheet.specs.inner.Limits.{LashLimits}
 use Rattle.statics.specs.Lashes.{lashLength}
-use Rattle.statics.specs.inner.WholeNumbers.{inverse, along, alongPad, lashPad, stiffnessOf, part, upward}
+use Rattle.statics.specs.inner.WholeNumbers.{figureAlong, lashPad, stiffnessOf, part, upward}
 use Rattle.statics.specs.inner.WholeNumbers.{pullFigure, athwartFigure, verticalFigure, leePart, windwardPart}
 use Rattle.lash_forces.specs.inner.OneLash.{carriedLash, verticalFrom, cornerOf}
 use Rattle.figures_lashes.specs.inner.Lashes.{LashesMeasured, LevelStiffnesses, LashesFigured, VerticalsOn}
@@ -267,9 +267,9 @@ module _ {m : ℕ} {ls : List Lash} {d : List ℕ} (g : Listed m ls) where
     pub figured-more :
         {p a v : ℕ} →
         corner < 22 →
-        p ≡ roundedUp (along (x + lashPad) (lashLength l) (inverse (l .ly)) + alongPad) (2 ^ 18) →
+        p ≡ figureAlong (x + lashPad) (lashLength l) (l .ly) →
         a ≡ roundedUp (x + lashPad) (2 ^ 18) →
-        v ≡ roundedUp (along (x + lashPad) (l .lz) (inverse (l .ly)) + alongPad) (2 ^ 18) →
+        v ≡ figureAlong (x + lashPad) (l .lz) (l .ly) →
         FiguredTo
         m
         ls

@@ -6,7 +6,7 @@ ghost use Rattle.arith.specs.inner.Rounding.{roundedUp};
 ghost use Rattle.sheet.specs.Lashings.{levelOf};
 ghost use Rattle.sheet.specs.inner.Limits.{LashLimits};
 ghost use Rattle.statics.specs.Lashes.{lashLength};
-ghost use Rattle.statics.specs.inner.WholeNumbers.{inverse, along, alongPad, lashPad, stiffnessOf, leePart, windwardPart};
+ghost use Rattle.statics.specs.inner.WholeNumbers.{inverse, along, alongPad, figureAlong, lashPad, stiffnessOf, leePart, windwardPart};
 ghost use Rattle.lash_forces.specs.inner.OneLash.{carriedLash, verticalFrom, cornerOf};
 use arith::rounding::ceil_div;
 use arith::rounding::split_product;
@@ -92,9 +92,9 @@ pub struct LashForces {
 // The figures of a lash of this length, from its athwart part.
 pub fn forces_of(l: Lash, long: u64, part: u64) -> LashForces
     requires { ⌜ LashLimits 10 l × (long ≡ lashLength l) × (part ≤ 2 ^ 48) ⌝ }
-    ensures { λ r. ⌜ r .tension ≡ roundedUp (along (part + lashPad) (lashLength l) (inverse (l .ly)) + alongPad) (2 ^ 18) ⌝ }
+    ensures { λ r. ⌜ r .tension ≡ figureAlong (part + lashPad) (lashLength l) (l .ly) ⌝ }
     ensures { λ r. ⌜ r .athwart ≡ roundedUp (part + lashPad) (2 ^ 18) ⌝ }
-    ensures { λ r. ⌜ r .vertical ≡ roundedUp (along (part + lashPad) (l .lz) (inverse (l .ly)) + alongPad) (2 ^ 18) ⌝ }
+    ensures { λ r. ⌜ r .vertical ≡ figureAlong (part + lashPad) (l .lz) (l .ly) ⌝ }
 {
     let inv = inverse_of(l.ly as u64);
     let padded = part + LASH_PAD;

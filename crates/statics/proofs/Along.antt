@@ -13,7 +13,7 @@ use Rattle.arith.proofs.RationalOrder.{nat-q}
 use Rattle.arith.proofs.RationalRounding.{div-down, down-low, down-high}
 use Rattle.springs.proofs.Chain.{natℚ}
 use Rattle.statics.specs.inner.WholeNumbers.{inverse, along, alongPad, alongMiddle}
-use Rattle.statics.proofs.Errors.{Off}
+use Rattle.statics.proofs.Errors.{Off, add-le}
 use Rattle.statics.proofs.Scales.{newtons, newtons-add, recip-nat}
 
 -- the steps: y is LY, r its reciprocal, N the side, t the rate, x the number, w a 256th of it, z the product
@@ -30,8 +30,10 @@ low :
 low =
     ∀₇ ℚR _ λ ρ. simp qq λ y0 N0 w0 a b c d.
     part (2 ^ 46 - 1)
-    (num (2 ^ 46) ⊠ (to N0 ⊠ to c) ⊞ num (2 ^ 8) ⊠ (to w0 ⊠ to N0 ⊠ to a) ⊞ num (2 ^ 8) ⊠ (to y0 ⊠ to w0 ⊠ to b) ⊞ num
-    (2 ^ 28) ⊠ (to y0 ⊠ to d))
+    (num (2 ^ 46) ⊠ (to N0 ⊠ to c)
+    ⊞ num (2 ^ 8) ⊠ (to w0 ⊠ to N0 ⊠ to a)
+    ⊞ num (2 ^ 8) ⊠ (to y0 ⊠ to w0 ⊠ to b)
+    ⊞ num (2 ^ 28) ⊠ (to y0 ⊠ to d))
     tt
 
 high :
@@ -52,10 +54,12 @@ high =
     ∀₇ ℚR _ λ ρ. simp qq λ y0 N0 w0 n l m k a b c d.
     part (2 ^ 46 - 1)
     (num (2 ^ 46) ⊠ (to N0 ⊠ to c) ⊞ num (255 * 2 ^ 46) ⊠ to n
-    ⊞ num (2 ^ 8) ⊠ (to w0 ⊠ to N0 ⊠ to a) ⊞ num (2 ^ 8) ⊠ (to w0 ⊠ to N0) ⊞ to N0 ⊠ to y0 ⊠ to k ⊞ to N0 ⊠ to y0 ⊠ to m
+    ⊞ num (2 ^ 8) ⊠ (to w0 ⊠ to N0 ⊠ to a ⊞ to w0 ⊠ to N0)
+    ⊞ to N0 ⊠ to y0 ⊠ (to k ⊞ to m)
     ⊞ num (5 * 2 ^ 37) ⊠ (to y0 ⊠ to l)
-    ⊞ num (2 ^ 8) ⊠ (to y0 ⊠ to w0 ⊠ to b) ⊞ num (2 ^ 8) ⊠ (to y0 ⊠ to w0) ⊞ num (2 ^ 20) ⊠ (to y0 ⊠ to k) ⊞ num (2 ^ 20) ⊠ (to y0 ⊠ to m)
-    ⊞ num (2 ^ 28) ⊠ (to y0 ⊠ to d) ⊞ num (2 ^ 28) ⊠ to y0
+    ⊞ num (2 ^ 8) ⊠ (to y0 ⊠ to w0 ⊠ to b ⊞ to y0 ⊠ to w0)
+    ⊞ num (2 ^ 20) ⊠ (to y0 ⊠ (to k ⊞ to m))
+    ⊞ num (2 ^ 28) ⊠ (to y0 ⊠ to d ⊞ to y0)
     ⊞ num ((alongPad - 255 * 42 - 1 - 5 * 2 ^ 11) * 2 ^ 46 - 5 * 2 ^ 37 * 22913) ⊠ to y0)
     tt
 
@@ -132,10 +136,7 @@ module _ (N y : ℕ) (y0 : 0 < y) (x : ℕ) (most : x ≤ 5 * 2 ^ 37) where
         newtons (pos (along x N (inverse y) + alongPad)) ≤ℚ newtons (pos x) *ℚ (natℚ N /ℚ natℚ y) +ℚ newtons (pos alongPad)
     padded-close =
         rw (newtons-add (pos (along x N (inverse y))) (pos alongPad))
-        (go (newtons (pos (along x N (inverse y)))) (newtons (pos x) *ℚ (natℚ N /ℚ natℚ y)) (newtons (pos alongPad)) along-below)
-      where
-        go : (z s p : ℚ) → z ≤ℚ s → z +ℚ p ≤ℚ s +ℚ p
-        go = ∀₃ ℚR _ λ ρ. simp qq λ h. by-cert (to h) tt
+        (add-le (newtons (pos (along x N (inverse y)))) (newtons (pos x) *ℚ (natℚ N /ℚ natℚ y)) (newtons (pos alongPad)) along-below)
 
     pub middle-off :
         Off (newtons (pos alongMiddle)) (newtons (pos (along x N (inverse y) + alongMiddle))) (newtons (pos x) *ℚ (natℚ N /ℚ natℚ y))
@@ -144,10 +145,10 @@ module _ (N y : ℕ) (y0 : 0 < y) (x : ℕ) (most : x ≤ 5 * 2 ^ 37) where
         let s = newtons (pos x) *ℚ (natℚ N /ℚ natℚ y) in
         let m = newtons (pos alongMiddle) in
         rw (newtons-add (pos (along x N (inverse y))) (pos alongMiddle))
-        record { above = high-side z s m along-below; below = low-side z s m (rw (newtons-add (pos alongMiddle) (pos alongMiddle)) at along-above) }
+        record {
+          above = add-le z s m along-below;
+          below = go z s m (rw (newtons-add (pos alongMiddle) (pos alongMiddle)) at along-above);
+        }
       where
-        high-side : (z s m : ℚ) → z ≤ℚ s → z +ℚ m ≤ℚ s +ℚ m
-        high-side = ∀₃ ℚR _ λ ρ. simp qq λ h. by-cert (to h) tt
-
-        low-side : (z s m : ℚ) → s ≤ℚ z +ℚ (m +ℚ m) → s ≤ℚ z +ℚ m +ℚ m
-        low-side = ∀₃ ℚR _ λ ρ. simp qq λ h. by-cert (to h) tt
+        go : (z s m : ℚ) → s ≤ℚ z +ℚ (m +ℚ m) → s ≤ℚ z +ℚ m +ℚ m
+        go = ∀₃ ℚR _ λ ρ. simp qq λ h. by-cert (to h) tt

@@ -41,7 +41,7 @@ use Rattle.statics.proofs.Errors.{Off}
 use Rattle.statics.proofs.Arrays.{entry-at, padded-at}
 use Rattle.statics.proofs.EndChain.{end-each, end-spring}
 use Rattle.statics.proofs.Scales.{newtons}
-use Rattle.statics.proofs.Pads.{shiftErrorBound, forceBound, roundedRackingError, tierError, postError}
+use Rattle.statics.proofs.Pads.{shiftErrorBound, mostHeld, forceBound, roundedRackingError, tierError, postError}
 use Rattle.statics.proofs.LashFigures.{athwart-reported, pull-reported, vertical-reported}
 use Rattle.statics.proofs.EachLash.{Each}
 use Rattle.statics.proofs.ShiftErrors.{shiftErrorq, shiftErrorAt, shiftErrors, shift-errors-q, shift-error-le}
@@ -99,7 +99,7 @@ force-bound = refl
 module _
     (rule : Rule) (e : End) (t : Sheet) (d : List ℕ) (Ds : List Frac) (limits : SheetLimits t) (solved : EndSolved rule e t Ds)
     (near : Close rule e t d Ds)
-    (held : (j : ℕ) → j < length (lashesOf e t) → mk (F.lashForce athwartPart (lashesOf e t) Ds j) ≤ℚ natℚ 2440000) where
+    (held : (j : ℕ) → j < length (lashesOf e t) → mk (F.lashForce athwartPart (lashesOf e t) Ds j) ≤ℚ natℚ mostHeld) where
   abbrev ts : List Tier
   ts = tiersOf t
 

@@ -8,6 +8,9 @@ use Rattle.springs.proofs.Chain.{natℚ}
 pub turn-le : (p q : ℚ) → p ≤ℚ q → negℚ q ≤ℚ negℚ p
 turn-le = ∀₂ ℚR _ λ ρ. simp qq λ h. by-cert (to h) tt
 
+pub add-le : (p q r : ℚ) → p ≤ℚ q → p +ℚ r ≤ℚ q +ℚ r
+add-le = ∀₃ ℚR _ λ ρ. simp qq λ h. by-cert (to h) tt
+
 -- x is at most e off X
 pub record Off (e x X : ℚ) : Type 0 where
   pub above : x ≤ℚ X +ℚ e

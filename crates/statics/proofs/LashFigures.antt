@@ -7,10 +7,9 @@ use lib.Dec.{lit≤}
 use lib.IntN.{pos}
 use lib.ListN.{getD}
 use Rattle.sheet.specs.Lashings.{levelOf}
-use Rattle.arith.specs.inner.Rounding.{roundedUp}
 use Rattle.arith.specs.Fractions.{Frac}
 use Rattle.arith.proofs.Polynomials.{v, kp, _⊗_, ⊖_}
-use Rattle.arith.proofs.Rings.{∀₃, ∀₅, ∀₉, by-cert, to, times, num, part, _⊞_, _⊠_}
+use Rattle.arith.proofs.Rings.{∀₅, ∀₉, by-cert, to, times, num, part, _⊞_, _⊠_}
 use Rattle.arith.proofs.Rationals.{ℚR, ℚ, mk, _+ℚ_, _-ℚ_, _*ℚ_, _/ℚ_, negℚ, absℚ, _≤ℚ_, int-times, nn-int, nn-times}
 use Rattle.arith.proofs.RationalTerms.{qq}
 use Rattle.arith.proofs.Signs.{ge-q, ge-neg-q, nn-q}
@@ -21,14 +20,14 @@ use Rattle.springs.proofs.Chain.{natℚ}
 use Rattle.sheet.specs.declared.Lash.{Lash}
 use Rattle.statics.specs.Lashes.{lashLength, pull, athwartPart, verticalPart}
 use Rattle.statics.specs.inner.WholeNumbers as F
-use Rattle.statics.specs.inner.WholeNumbers.{stiffnessOf, upward, inverse, along, alongPad, lashPad, athwartFigure, pullFigure}
+use Rattle.statics.specs.inner.WholeNumbers.{stiffnessOf, upward, alongPad, figureAlong, lashPad, athwartFigure, pullFigure}
 use Rattle.statics.specs.inner.WholeNumbers.{verticalFigure}
 use Rattle.statics.specs.Reported.{Reported}
 use Rattle.sheet.specs.inner.Limits.{LashLimits}
 use Rattle.statics.proofs.LashLength.{length-above, length-most, length-ratio, vertical-ratio}
-use Rattle.statics.proofs.Errors.{Off, off-more, off-share}
+use Rattle.statics.proofs.Errors.{Off, add-le, off-more, off-share}
 use Rattle.statics.proofs.Scales.{found-times, newtons, newtons-times, newtons-nn, share-nn, share-most}
-use Rattle.statics.proofs.Pads.{shiftErrorBound, partError, verticalError, lash-pad, part-room, lash-over, turned-over}
+use Rattle.statics.proofs.Pads.{shiftErrorBound, mostHeld, partError, verticalError, lash-pad, part-room, lash-over, turned-over}
 use Rattle.statics.proofs.Along.{padded-enough, padded-close, middle-off}
 use Rattle.statics.proofs.Covers.{Covers, covers-reported, padded-covers, turned-covers}
 use Rattle.statics.proofs.LashForces.{stiffness, stiffness-low, stiffness-high, stiffness-nn, athwart-is, pull-is, vertical-is}
@@ -104,7 +103,7 @@ module _ (d : List ℕ) (l : Lash) (D : Frac) (long : 0 < lashLength l) where
 
 module _
     {n : ℕ} (d : List ℕ) (l : Lash) (D : Frac) (f : LashLimits n l) (far : getD d (levelOf l) 0 ≤ 2 ^ 40)
-    (small : shiftError d l D ≤ℚ shiftErrorBound) (held : mk (athwartPart l D) ≤ℚ natℚ 2440000) where
+    (small : shiftError d l D ≤ℚ shiftErrorBound) (held : mk (athwartPart l D) ≤ℚ natℚ mostHeld) where
   wide : 0 < l .ly
   wide = omega (arith, f .ly)
 
@@ -112,29 +111,26 @@ module _
   steep = omega (arith, vertical-ratio f)
 
   off : Off (partError shiftErrorBound) (newtons (pos (F.part d l))) (stiffness l *ℚ mk D)
-  off = off-more (go (shiftError d l D) shiftErrorBound (newtons (pos 257)) small) (part-off d l D (length-above f) far)
-    where
-      go : (x y c : ℚ) → x ≤ℚ y → x +ℚ c ≤ℚ y +ℚ c
-      go = ∀₃ ℚR _ λ ρ. simp qq λ h. by-cert (to h) tt
+  off = off-more (add-le (shiftError d l D) shiftErrorBound (newtons (pos 257)) small) (part-off d l D (length-above f) far)
 
   -- no lash holds more than the load of the lowest tier, so that its part is in the range of `along`
   in-range : F.part d l + lashPad ≤ 5 * 2 ^ 37
   in-range =
       omega (
         arith,
-        q-nat (F.part d l) (2440001 * 2 ^ 18)
-            (rw (int-times (pos 2440001) (pos (2 ^ 18)))
+        q-nat (F.part d l) ((mostHeld + 1) * 2 ^ 18)
+            (rw (int-times (pos (mostHeld + 1)) (pos (2 ^ 18)))
             (go (newtons (pos (F.part d l))) (stiffness l *ℚ mk D) (partError shiftErrorBound) (newtons (pos lashPad)) (natℚ (F.part d l))
             (off .above) (rw athwart-is at held) lash-pad part-room (newtons-times (pos (F.part d l))))),
       )
     where
       go : (w X e p n : ℚ) →
           w ≤ℚ X +ℚ e →
-          X ≤ℚ natℚ 2440000 →
+          X ≤ℚ natℚ mostHeld →
           e ≤ℚ p →
           p ≤ℚ natℚ 1 →
           natℚ (2 ^ 18) *ℚ w ≡ n →
-          n ≤ℚ natℚ 2440001 *ℚ natℚ (2 ^ 18)
+          n ≤ℚ natℚ (mostHeld + 1) *ℚ natℚ (2 ^ 18)
       go = ∀₅ ℚR _ λ ρ. simp qq λ o h l k e. by-cert (num (2 ^ 18) ⊠ (to o ⊞ to h ⊞ to l ⊞ to k) ⊞ times (kp 1) e) tt
 
   -- in the post sums
@@ -158,8 +154,7 @@ module _
     turned : (N : ℕ) →
         N ≤ 42 * l .ly →
         N ≤ 22913 →
-        Covers 6 (roundedUp (along (F.part d l + lashPad) N (inverse (l .ly)) + alongPad) (2 ^ 18))
-        (stiffness l *ℚ mk D *ℚ (natℚ N /ℚ natℚ (l .ly)))
+        Covers 6 (figureAlong (F.part d l + lashPad) N (l .ly)) (stiffness l *ℚ mk D *ℚ (natℚ N /ℚ natℚ (l .ly)))
     turned N low short =
         turned-covers (F.part d l) lashPad off lash-pad N (l .ly) _ (newtons (pos alongPad)) wide low turned-over
         (padded-enough N (l .ly) wide (F.part d l + lashPad) in-range low short)

@@ -1,4 +1,5 @@
 -- The error of each number found, in N, and that its pad covers it: comparisons of fractions that compute.
+use Prim.Native.Nat.{ℕ}
 use lib.IntN.{pos}
 use Rattle.arith.specs.Fractions.{recip}
 use Rattle.arith.proofs.Rationals.{ℚ, int, _+ℚ_, _*ℚ_, recipℚ, _≤ℚ_, leℚ}
@@ -13,6 +14,10 @@ shiftErrorBound = cent 5
 
 abbrev pub forceBound : ℚ
 forceBound = cent 5
+
+-- what no lash holds more than, N: the load of the lowest tier (Bounds)
+abbrev pub mostHeld : ℕ
+mostHeld = 2440000
 
 -- a lash's athwart part, for its shift error s: stiffness, shift and product are rounded
 abbrev pub partError : ℚ → ℚ

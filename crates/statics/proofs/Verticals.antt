@@ -27,7 +27,7 @@ use Rattle.statics.specs.inner.WholeNumbers.{upward, upwards, leePart, w
 use Rattle.sheet.specs.inner.Limits.{LashLimits}
 use Rattle.statics.proofs.Errors.{Off, off-nn, off-add, off-more}
 use Rattle.statics.proofs.Scales.{newtons, newtons-add, newtons-nn, nothing-off}
-use Rattle.statics.proofs.Pads.{shiftErrorBound, verticalError, verticalsError, verticals-room}
+use Rattle.statics.proofs.Pads.{shiftErrorBound, mostHeld, verticalError, verticalsError, verticals-room}
 use Rattle.statics.proofs.LashFigures.{upward-off}
 use Rattle.statics.proofs.EachLash.{Each, each-first, each-rest}
 use Rattle.statics.proofs.ShiftErrors.{shiftErrorAt, shiftErrors}
@@ -93,7 +93,7 @@ one-more s t n =
 -- of each lash: its shift error is small, and it holds no more than the load of the lowest tier
 pub record Held (d : List ℕ) (Ds : List Frac) (ls : List Lash) : Type 0 where
   pub small : (j : ℕ) → j < length ls → shiftErrorAt d Ds (getD ls j blankLash) ≤ℚ shiftErrorBound
-  pub held : (j : ℕ) → j < length ls → mk (lashForce athwartPart ls Ds j) ≤ℚ natℚ 2440000
+  pub held : (j : ℕ) → j < length ls → mk (lashForce athwartPart ls Ds j) ≤ℚ natℚ mostHeld
 
 held-rest : {d : List ℕ} {Ds : List Frac} {l : Lash} {ls : List Lash} → Held d Ds (l ∷ ls) → Held d Ds ls
 held-rest h = record { small = λ j l. h .small (suc j) (omega arith); held = λ j l. h .held (suc j) (omega arith) }

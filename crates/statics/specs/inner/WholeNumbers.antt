@@ -82,15 +82,19 @@ lashPad = 13365
 unfoldable pub upward : List ℕ → Lash → ℕ
 upward d l = along (part d l) (l .lz) (inverse (l .ly)) + alongMiddle
 
+-- a number × a side / LY, with what it may lack, in N upwards
+abbrev pub figureAlong : ℕ → ℕ → ℕ → ℕ
+figureAlong x side ly = roundedUp (along x side (inverse ly) + alongPad) (2 ^ 18)
+
 -- the figures of a lash: its padded part, in N upwards; times L / LY and LZ / LY
 unfoldable pub athwartFigure : List ℕ → Lash → ℕ
 athwartFigure d l = roundedUp (part d l + lashPad) (2 ^ 18)
 
 unfoldable pub pullFigure : List ℕ → Lash → ℕ
-pullFigure d l = roundedUp (along (part d l + lashPad) (lashLength l) (inverse (l .ly)) + alongPad) (2 ^ 18)
+pullFigure d l = figureAlong (part d l + lashPad) (lashLength l) (l .ly)
 
 unfoldable pub verticalFigure : List ℕ → Lash → ℕ
-verticalFigure d l = roundedUp (along (part d l + lashPad) (l .lz) (inverse (l .ly)) + alongPad) (2 ^ 18)
+verticalFigure d l = figureAlong (part d l + lashPad) (l .lz) (l .ly)
 
 -- the racking of tier i, and its figure: padded by 0.06 N, in N upwards, with the sign kept
 unfoldable pub rackingPart : ℕ → List ℕ → ℕ → ℤ
