@@ -19,6 +19,7 @@ use Rattle.statics.specs.declared.Figures.{Figures}
 use Rattle.sheet.specs.Ends.{End, door, closed, lashesOf}
 use Rattle.answer.specs.Findings.{Finding, findings, verdict}
 use Rattle.answer.specs.Answers.{endBytes, answerBytes, findingBytes}
+use Rattle.answer_put.specs.inner.Puts.{wordBytes}
 use Rattle.answer_findings.specs.inner.Findings.{PutFindings, Sized}
 use Rattle.answer_write.specs.inner.Encoding.{Wrote, endBytesOf}
 use Rattle.answer_write.proofs.Stores.{run, then}
@@ -36,33 +37,24 @@ verdict-is (x ∷ xs) = rw (ne-eqb (suc (length xs)) 0 some) refl
     some : suc (length xs) ≡ 0 → ⊥
     some e = omega arith
 
-module _ (t : Sheet) (f : Figures) (s : Sized t) {before held : List ℕ} {behind : ℕ} (p : PutFindings t f before held behind) where
-  count-is : behind / 3 ≡ length (findings t f)
-  count-is = omega (arith, p .three)
-
-  -- the findings are the first bytes put
-  bytes-are : take (3 * (behind / 3)) held ≡ flatMap findingBytes (findings t f)
-  bytes-are =
-      let e : 3 * (behind / 3) ≡ behind = omega (arith, p .three) in
-      ap (λ (n : ℕ). take n held) e ∙ p .put .stored
-
+module _ (t : Sheet) (f : Figures) (s : Sized t) {before held : List ℕ} {count : ℕ} (p : PutFindings t f before held count) where
   -- the verdict, the two ends, the count and the findings, one behind another
   pub whole :
-      {l k m n o z : List ℕ} {at q v : ℕ} →
+      {l k m n o z : List ℕ} {at q r v : ℕ} →
       k ≡ sets l 0 (v ∷ []) →
-      v ≡ cond (eqb (behind / 3) 0) 0 1 →
+      v ≡ cond (eqb count 0) 0 1 →
       Wrote k 1 (endBytesOf (t .ntiers) (t .ndoor) (f .door)) m at →
       Wrote m at (endBytesOf (t .ntiers) (t .nclosed) (f .closed)) n q →
-      o ≡ sets n q (behind / 3 ∷ []) →
-      Wrote o (q + 1) (take (3 * (behind / 3)) held) z (q + 1 + 3 * (behind / 3)) →
-      Wrote l 0 (answerBytes t f) z (q + 1 + 3 * (behind / 3))
-  unfolding answerBytes
+      o ≡ sets n q (count ∷ []) →
+      Wrote o (q + 1) (flatMap wordBytes (take count held)) z r →
+      Wrote l 0 (answerBytes t f) z r
+  unfolding answerBytes flatMap
   whole {v = v} e g a b d h =
-      let u : v ≡ verdict (findings t f) = g ∙ ap (λ (x : ℕ). cond (eqb x 0) 0 1) count-is ∙ verdict-is (findings t f) in
+      let u : v ≡ verdict (findings t f) = g ∙ ap (λ (x : ℕ). cond (eqb x 0) 0 1) (p .counts) ∙ verdict-is (findings t f) in
       let mark = run {bytes = verdict (findings t f) ∷ []} {next = 1} (rw u at e) refl in
-      let count = run {bytes = length (findings t f) ∷ []} (rw count-is at d) refl in
+      let number = run {bytes = length (findings t f) ∷ []} (rw (p .counts) at d) refl in
       rw (end-is t door (f .door) (t .ndoor) (s .door-lashes), end-is t closed (f .closed) (t .nclosed) (s .closed-lashes))
-      (then (then (then mark a) b) (then count (rw bytes-are at h)))
+      (then (then (then mark a) b) (then number (rw (p .put .stored) at h)))
 
 -- an end has as many lashes as are counted: the last is none that is blank
 module _ {n : ℕ} {lashes : List Lash} {count : ℕ} (f : EndFits n lashes count) where

@@ -26,7 +26,7 @@ fn verdict_of(findings: usize) -> u64
     1
 }
 
-// The answer to a sheet, from the figures of its two ends: its length. The findings go through a buffer of their own, since bytes are
+// The answer to a sheet, from the figures of its two ends: its length. The findings go through a buffer of their own, since a word is
 // stored behind the last of them too.
 pub fn write_answer(
     answer: &mut [u8],
@@ -48,8 +48,8 @@ pub fn write_answer(
         (now (closedRacking .entry)) (now (closedLevels .entry)) (now (closedForces .entry))))
         (now (answer .entry)) (now (answer .exit)) r ⌝ }
 {
-    let mut found = [0u8; 327];
-    let behind = put_findings(
+    let mut found = [0u32; 108];
+    let count = put_findings(
         &mut found,
         t,
         doorRacking,
@@ -59,7 +59,6 @@ pub fn write_answer(
         closedLevels,
         closedForces,
     );
-    let count = behind / 3;
     let n = t.ntiers;
     write1(answer, 0, verdict_of(count));
     let p = write_end(answer, 1, n, t.ndoor, doorRacking, doorLevels, doorForces);
@@ -73,8 +72,5 @@ pub fn write_answer(
         closedForces,
     );
     write1(answer, q, count as u64);
-    let first = q + 1;
-    let size = 3 * count;
-    write_found(answer, first, &found, size);
-    first + size
+    write_found(answer, q + 1, &found, count)
 }

@@ -195,19 +195,14 @@ module _ (t : Sheet) (f : Figures) (s : Sized t) (pull : PullLimit)
       {before held after : List ℕ} {p q : ℕ} →
       Put before 0 (endPut 0 (t .door) (t .ndoor) (f .door)) held p →
       Put held p (endPut 1 (t .closed) (t .nclosed) (f .closed)) after q →
-      q ≤ 324 →
+      q ≤ 108 →
       PutFindings t f before after q
-  put-both a b room =
+  put-both a b few =
       let c = then a b in
       let size = ap length both-bytes ∙ bytes-length (findings t f) in
-      record {
-        put = rw both-bytes at c;
-        three = omega (arith, c .place, size);
-        few = omega (arith, c .place, size);
-        within = room;
-      }
+      record { put = rw both-bytes at c; counts = omega (arith, c .place, size); few = few }
 
--- no bytes of findings, none found
+-- no findings put, none found
 pub none-accepted :
-    {t : Sheet} {f : Figures} {before after : List ℕ} {next : ℕ} → PutFindings t f before after next → eqb next 0 ≡ accepted t f
-none-accepted {t} {f} p = rw (p .three) (thrice-none (length (findings t f)))
+    {t : Sheet} {f : Figures} {before after : List ℕ} {count : ℕ} → PutFindings t f before after count → eqb count 0 ≡ accepted t f
+none-accepted {t} {f} p = ap (λ (n : ℕ). eqb n 0) (p .counts)

@@ -1,4 +1,4 @@
-// Document 01, "The answer sheet": a finding, of 3 bytes, wherever a reported size exceeds its limit; one for a tension (02, P11).
+// Document 01, "The answer sheet": a finding wherever a reported size exceeds its limit; one for a tension (02, P11).
 
 ghost use mathlib.Core.Path.{_≡_};
 ghost use mathlib.Core.List.{_++_};
@@ -20,7 +20,7 @@ use sheet::Sheet;
 
 // The findings of an end of n tiers and m lashes, whose figures stand in three arrays.
 pub fn put_end(
-    found: &mut [u8],
+    found: &mut [u32],
     at: usize,
     end: u8,
     n: usize,
@@ -31,11 +31,11 @@ pub fn put_end(
     levels: &[u64],
     forces: &[u64],
 ) -> usize
-    requires { ⌜ (n ≤ 10) × (m ≤ 8) × (at + 9 * n + 9 * m ≤ length (now found)) × Lengths (now racking) (now levels) (now forces) ⌝ }
+    requires { ⌜ (n ≤ 10) × (m ≤ 8) × (at + 3 * n + 3 * m ≤ length (now found)) × Lengths (now racking) (now levels) (now forces) ⌝ }
     ensures { λ r. ⌜ Put (now (found .entry)) at
         (tierFindings end n pull (figuresIn (now (racking .entry)) (now (levels .entry)) (now (forces .entry)))
         ++ lashFindings end lashes m (figuresIn (now (racking .entry)) (now (levels .entry)) (now (forces .entry))))
-        (now (found .exit)) r × (r ≤ at + 9 * n + 9 * m) ⌝ }
+        (now (found .exit)) r × (r ≤ at + 3 * n + 3 * m) ⌝ }
 {
     let second = 11;
     let compression = &levels[..second];
@@ -53,9 +53,9 @@ pub fn put_end(
     put_over(found, u, end, 7, 0, athwart, Limits::LASH_ATHWART, m)
 }
 
-// The findings of a stack, three bytes each: those of the door end, then those of the closed end; the place behind them.
+// The findings of a stack, a word each: those of the door end, then those of the closed end; their count.
 pub fn put_findings(
-    found: &mut [u8],
+    found: &mut [u32],
     t: Sheet,
     doorRacking: &[i32],
     doorLevels: &[u64],
@@ -64,7 +64,7 @@ pub fn put_findings(
     closedLevels: &[u64],
     closedForces: &[u64],
 ) -> usize
-    requires { ⌜ Sized t × (327 ≤ length (now found)) × Lengths (now doorRacking) (now doorLevels) (now doorForces)
+    requires { ⌜ Sized t × (108 ≤ length (now found)) × Lengths (now doorRacking) (now doorLevels) (now doorForces)
         × Lengths (now closedRacking) (now closedLevels) (now closedForces) ⌝ }
     ensures { λ r. ⌜ PutFindings t
         (bothIn (now (doorRacking .entry)) (now (doorLevels .entry)) (now (doorForces .entry))
@@ -119,8 +119,8 @@ pub fn accepted(
         (bothIn (now (doorRacking .entry)) (now (doorLevels .entry)) (now (doorForces .entry))
         (now (closedRacking .entry)) (now (closedLevels .entry)) (now (closedForces .entry))) ⌝ }
 {
-    let mut found = [0u8; 327];
-    let size = put_findings(
+    let mut found = [0u32; 108];
+    let count = put_findings(
         &mut found,
         t,
         doorRacking,
@@ -130,5 +130,5 @@ pub fn accepted(
         closedLevels,
         closedForces,
     );
-    size == 0
+    count == 0
 }

@@ -1,30 +1,25 @@
--- The size of a signed number of 32 bits: the number with its sign reversed below zero, the number itself from zero on.
-use mathlib.Core.Path.{_≡_, refl, ap}
-use mathlib.Core.Bool.{true, false, true≢false}
-use Prim.Native.Nat.{ℕ, suc, _<_}
-use native.Mathlib.Nat.{zero-add}
+-- A signed number is beyond a limit on either side where its size is above it.
+use mathlib.Core.Path.{_≡_, refl, sym, _∙_}
+use mathlib.Core.Bool.{Bool, true, false, _||_}
+use Prim.Native.Nat.{ℕ, suc}
 use native.Mathlib.Omega.{arith}
-use borrow.Author.Tests.{ltb-true}
+use borrow.Author.Tests.{ltb-true, ltb-false, lt-ltb, le-ltb}
+use lib.Dec.{ltb}
 use lib.IntN.{ℤ, pos, negsuc, natAbs, _-ℤ_}
 use lib.Signed.{ltZ}
-use mir.Syntax.{w32, w64}
-use mir.Val.{Fits, SFits}
+use Rattle.answer.specs.Limits.{rackingLimit}
 
-not-below : (n : ℕ) → n < 0 → ⊥
-not-below n h = omega arith
+or-false : (b : Bool) → b || false ≡ b
+or-false true = refl
+or-false false = refl
 
-pub reversed : (z : ℤ) → ltZ z (pos 0) ≡ true → pos 0 -ℤ z ≡ pos (natAbs z)
-reversed (pos n) e = absurd (not-below n (ltb-true n 0 e))
-reversed (negsuc n) e = ap pos (zero-add (suc n))
+one-more : (a n : ℕ) → ltb a n ≡ ltb (suc a) (suc n)
+one-more a n = go (ltb a n) refl
+  where
+    go : (b : Bool) → ltb a n ≡ b → ltb a n ≡ ltb (suc a) (suc n)
+    go true e = e ∙ sym (lt-ltb (suc a) (suc n) (omega (arith, ltb-true a n e)))
+    go false e = e ∙ sym (le-ltb (suc a) (suc n) (omega (arith, ltb-false a n e)))
 
-pub kept : (z : ℤ) → ltZ z (pos 0) ≡ false → z ≡ pos (natAbs z)
-kept (pos n) e = refl
-kept (negsuc n) e = absurd (true≢false e)
-
-pub size-fits : (z : ℤ) → SFits w32 z → Fits w64 (natAbs z)
-size-fits (pos n) f = record { fits = omega (arith, f .sfits) }
-size-fits (negsuc n) f = record { fits = omega (arith, f .sfits) }
-
-pub size-sfits : (z : ℤ) → SFits w32 z → SFits w64 (pos (natAbs z))
-size-sfits (pos n) f = record { sfits = omega (arith, f .sfits) }
-size-sfits (negsuc n) f = record { sfits = omega (arith, f .sfits) }
+pub either-side : (z : ℤ) → (ltZ (pos rackingLimit) z || ltZ z (pos 0 -ℤ pos rackingLimit)) ≡ ltb rackingLimit (natAbs z)
+either-side (pos n) = or-false (ltb rackingLimit n)
+either-side (negsuc n) = one-more 149999 n

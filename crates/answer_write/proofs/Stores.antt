@@ -1,4 +1,4 @@
--- Runs of stores in a buffer: one behind another, entry after entry, byte after byte of a copy, and from the buffer's start.
+-- Runs of stores in a buffer: one behind another, entry after entry, finding after finding, and from the buffer's start.
 use mathlib.Core.Path.{_≡_, refl, sym, ap, _∙_}
 use mathlib.Core.List.{List, [], _∷_, _++_, flatMap}
 use Prim.Native.Nat.{ℕ, suc, _+_, _<_, _≤_}
@@ -8,7 +8,9 @@ use native.Mathlib.Omega.{arith}
 use lib.ListN.{length, getD, set, take, drop, length-append}
 use lib.Seq.{sets, sets-eq, take-suc, length-sets}
 use Rattle.arith.specs.Lists.{counted, from, below}
+use Rattle.answer_put.specs.inner.Puts.{wordBytes}
 use Rattle.answer_put.proofs.Entries.{one-more}
+use Rattle.answer_put.proofs.Puts.{words-append}
 use Rattle.answer_write.specs.inner.Encoding.{Wrote}
 
 sets-append : (l xs ys : List ℕ) (i : ℕ) → sets l i (xs ++ ys) ≡ sets (sets l i xs) (i + length xs) ys
@@ -65,18 +67,24 @@ module _ (entry : ℕ → List ℕ) where
       Wrote l at (counted n entry) m p
   counted-all i n e w h g = then (run {bytes = n ∷ []} e refl) (entries-all i w n h g)
 
--- the first bytes of a list copied: none, one more, and n
+-- the first findings of a list of words: none, one more, and n
 module _ (s : List ℕ) where
-  pub copied-none : (l : List ℕ) (at : ℕ) → Wrote l at (take 0 s) l (at + 0)
-  copied-none l at = rw (add-zero at) (none l at)
+  abbrev first : ℕ → List ℕ
+  first n = flatMap wordBytes (take n s)
 
-  module _ {l m : List ℕ} {at : ℕ} (i : ℕ) (w : Wrote l at (take i s) m (at + i)) where
-    pub copied-more : i < length s → Wrote l at (take (i + 1) s) (set m (at + i) (getD s i 0)) (at + (i + 1))
-    copied-more h =
-        let e : at + (i + 1) ≡ at + i + 1 = omega arith in
-        rw (e, add-one i, take-suc s i 0 h) (then w (run {bytes = getD s i 0 ∷ []} refl refl))
+  pub words-none : (l : List ℕ) (at : ℕ) → Wrote l at (first 0) l at
+  unfolding flatMap
+  words-none l at = none l at
 
-    pub copied-all : (n : ℕ) → i ≤ n → n ≤ i → Wrote l at (take n s) m (at + n)
-    copied-all n h g =
+  module _ {l m : List ℕ} {at p : ℕ} (i : ℕ) (w : Wrote l at (first i) m p) where
+    pub words-more : {n : List ℕ} {q : ℕ} → i < length s → Wrote m p (wordBytes (getD s i 0)) n q → Wrote l at (first (i + 1)) n q
+    unfolding flatMap
+    words-more h v =
+        let e : first (suc i) ≡ first i ++ wordBytes (getD s i 0) =
+        ap (flatMap wordBytes) (take-suc s i 0 h) ∙ words-append (take i s) (getD s i 0 ∷ []) in
+        rw (add-one i, e) (then w v)
+
+    pub words-all : (n : ℕ) → i ≤ n → n ≤ i → Wrote l at (first n) m p
+    words-all n h g =
         let e : n ≡ i = omega arith in
         rw e w

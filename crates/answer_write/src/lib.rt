@@ -1,5 +1,6 @@
 // Document 01, "The answer sheet": the bytes of its sections, an end's and the findings'.
 
+ghost use mathlib.Core.List.{flatMap};
 ghost use mathlib.Core.Path.{_≡_};
 ghost use Prim.Native.Nat.{ℕ, _+_, _*_, _<_, _≤_};
 ghost use lib.IntN.{pos};
@@ -8,6 +9,7 @@ ghost use Rattle.arith.specs.Bytes.{bytes4, twos};
 ghost use Rattle.statics.specs.Reported.{Fitting};
 ghost use Rattle.statics.specs.inner.InArrays.{Lengths, figuresIn};
 ghost use Rattle.arith.specs.Lists.{counted};
+ghost use Rattle.answer_put.specs.inner.Puts.{wordBytes};
 ghost use Rattle.answer_write.specs.inner.Encoding.{Wrote, lashBytes, endBytesOf};
 use arith::bytes::write_signed;
 use arith::bytes::write1;
@@ -114,14 +116,28 @@ pub fn write_end(
     write_lashes(answer, s, pull, athwart, vertical, m)
 }
 
-// The first n bytes found, into the answer at `at`.
-pub fn write_found(answer: &mut [u8], at: usize, found: &[u8], n: usize)
-    requires { ⌜ (n ≤ length (now found)) × (at + n ≤ length (now answer)) ⌝ }
-    ensures { λ r. ⌜ Wrote (now (answer .entry)) at (take n (now (found .entry))) (now (answer .exit)) (at + n) ⌝ }
+// The three bytes of a finding in one word.
+fn write_finding(answer: &mut [u8], at: usize, word: u32) -> usize
+    requires { ⌜ at + 3 ≤ length (now answer) ⌝ }
+    ensures { λ r. ⌜ Wrote (now (answer .entry)) at (wordBytes word) (now (answer .exit)) r × (r ≡ at + 3) ⌝ }
 {
+    answer[at] = (word % 256) as u8;
+    answer[at + 1] = (word / 256 % 256) as u8;
+    answer[at + 2] = (word / 65536 % 256) as u8;
+    at + 3
+}
+
+// The first n findings, a word each, into the answer at `at`; the place behind them.
+pub fn write_found(answer: &mut [u8], at: usize, found: &[u32], n: usize) -> usize
+    requires { ⌜ (n ≤ 108) × (n ≤ length (now found)) × (at + 3 * n ≤ length (now answer)) ⌝ }
+    ensures { λ r. ⌜ Wrote (now (answer .entry)) at (flatMap wordBytes (take n (now (found .entry)))) (now (answer .exit)) r
+        × (r ≡ at + 3 * n) ⌝ }
+{
+    let mut next = at;
     let mut i = 0;
     while i < n {
-        answer[at + i] = found[i];
+        next = write_finding(answer, next, found[i]);
         i += 1;
     }
+    next
 }

@@ -35,13 +35,14 @@ fn write_list(t: Sheet, lashes: [Lash; 8], m: usize, list: &mut [u8]) -> usize
 {
     let n = t.ntiers;
     let tiers = t.tiers;
+    let head = t.head;
     let mut loads = [0u64; 10];
     let mut vmax = [0u64; 11];
     let mut vmin = [0u64; 11];
     loads_of(
         n,
         tiers,
-        load_rules::rule_of(t),
+        load_rules::rule_of(head),
         &mut loads,
         &mut vmax,
         &mut vmin,
@@ -53,7 +54,6 @@ fn write_list(t: Sheet, lashes: [Lash; 8], m: usize, list: &mut [u8]) -> usize
     let mut stiffnesses = [0u64; 8];
     let mut levels = [0u64; 10];
     lash_stiffnesses(lashes, m, &mut lengths, &mut stiffnesses, &mut levels);
-    let head = t.head;
     let pull = lower_of(safe_load(head.lockMaterial, head.lockBreakingLoad));
     let next = put_choices(
         t,

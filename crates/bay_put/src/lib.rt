@@ -9,24 +9,26 @@ ghost use Rattle.arith.specs.Bytes.{bytes2};
 ghost use Rattle.sheet.specs.declared.Reading.the-variants.{Taken};
 ghost use Rattle.sheet.specs.Layout.{sheetOf};
 ghost use Rattle.sheet.specs.Fits.{Fits};
+ghost use Rattle.sheet.specs.Refusals.{first, sheetRows};
+ghost use Rattle.sheet.specs.inner.Changed.{withTiers};
 ghost use Rattle.bay_wind.specs.Exposure.{sheetInBay};
 ghost use Rattle.bay_rows.specs.Refusals.{rowReading};
-ghost use Rattle.bay_answer.specs.Rows.{rowBytes, massOf};
-ghost use Rattle.bay_answer.specs.inner.Totalled.{answerOf, rowTotals, Bounded};
-ghost use Rattle.bay_put.specs.inner.Answered.{answerIn};
+ghost use Rattle.bay_answer.specs.Rows.{rowBytes};
+ghost use Rattle.bay_answer.specs.inner.Totalled.{rowTotals, Bounded};
+ghost use Rattle.bay_put.specs.inner.Answered.{answerIn, Answered, RowPut};
 use answer::Outcome;
 use bay_answer::Totals;
 use bay_wind::Neighbours;
-use sheet::Sheet;
+use sheet::Tier;
 
-// The answer to a sheet within the limits, from the buffer's start: its length. There is room, so it is never refused.
-fn answer_row(t: Sheet, answer: &mut [u8]) -> usize
-    requires { ⌜ Fits t × (834 ≤ length (now answer)) ⌝ }
-    ensures { λ r. ⌜ (r ≡ length (answerOf t))
-        × (now (answer .exit) ≡ answerOf t ++ drop (length (answerOf t)) (now (answer .entry))) ⌝ }
+// The answer to a row that has no refusal, with these tiers in place of its own, from the buffer's start: its length. There is room, so it
+// is never refused.
+fn answer_row(row: &[u8], tiers: [Tier; 10], answer: &mut [u8]) -> usize
+    requires { ⌜ (first (sheetRows (now row)) ≡ Taken) × Fits (withTiers tiers (sheetOf (now row))) × (834 ≤ length (now answer)) ⌝ }
+    ensures { λ r. ⌜ Answered (withTiers tiers (sheetOf (now (row .entry)))) (now (answer .entry)) (now (answer .exit)) r ⌝ }
 {
-    let rule = load_rules::rule_of(t);
-    let outcome = stack_check::answer_to(t, rule, answer);
+    let rule = load_rules::rule_of(sheet_fields::head_of(row));
+    let outcome = stack_check::answer_with(row, tiers, rule, answer);
     match outcome {
         Outcome::Taken(n) => n,
         Outcome::Refused(_, _) => 0,
@@ -42,15 +44,16 @@ fn put_length(report: &mut [u8], n: usize)
     report[1] = (n / 256 % 256) as u8;
 }
 
-// The answer to a sheet within the limits, of this mass, behind its length, from the buffer's start; and what the report takes from it.
-fn put_answer(t: Sheet, mass: u64, report: &mut [u8]) -> Totals
-    requires { ⌜ Fits t × (mass ≡ massOf t) × (mass ≤ 655350) × (836 ≤ length (now report)) ⌝ }
-    ensures { λ r. ⌜ (r ≡ rowTotals t (answerOf t)) × Bounded 1 r
-        × (now (report .exit) ≡ rowBytes (answerOf t) ++ drop (length (rowBytes (answerOf t))) (now (report .entry))) ⌝ }
+// The answer to a row that has no refusal, behind its length, from the buffer's start; and what the report takes from it.
+fn put_answer(row: &[u8], near: Neighbours, report: &mut [u8]) -> Totals
+    requires { ⌜ (first (sheetRows (now row)) ≡ Taken) × (836 ≤ length (now report)) ⌝ }
+    ensures { λ r. ⌜ RowPut near (now (row .entry)) (now (report .entry)) (now (report .exit)) r ⌝ }
 {
-    let ntiers = t.ntiers;
-    let ndoor = t.ndoor;
-    let n = answer_row(t, &mut report[2..]);
+    let ntiers = sheet_fields::byte_at(row, 8) as usize;
+    let ndoor = sheet_fields::byte_at(row, sheet_fields::door_place(row)) as usize;
+    let mass = bay_answer::mass_of(row, ntiers);
+    let tiers = bay_sheet::tiers_in_bay(row, ntiers, near);
+    let n = answer_row(row, tiers, &mut report[2..]);
     put_length(report, n);
     let end = 2 + n;
     bay_answer::totals_of(&report[2..end], ntiers, ndoor, mass)
@@ -72,6 +75,5 @@ pub fn put_row(row: &[u8], near: Neighbours, report: &mut [u8]) -> Totals
             racking: 0,
         };
     }
-    let mass = bay_answer::mass_of(row, sheet_fields::byte_at(row, 8) as usize);
-    put_answer(bay_sheet::sheet_in_bay(row, near), mass, report)
+    put_answer(row, near, report)
 }

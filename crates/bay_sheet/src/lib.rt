@@ -1,4 +1,4 @@
-// A row's sheet as it stands in its bay (document 02, P6): read from its bytes, the wind parts of its tiers worked out afresh.
+// A row's tiers as they stand in its bay (document 02, P6): read from its bytes, their wind parts worked out afresh.
 
 ghost use mathlib.Core.Path.{_≡_};
 ghost use Rattle.sheet.specs.declared.Reading.the-variants.{Taken};
@@ -6,7 +6,6 @@ ghost use Rattle.sheet.specs.Layout.{windCode, tierCount, sheetOf};
 ghost use Rattle.sheet.specs.Refusals.{first, sheetRows};
 ghost use Rattle.bay_wind.specs.Exposure.{withWind, sheetInBay};
 use bay_wind::Neighbours;
-use sheet::Sheet;
 use sheet::Tier;
 
 fn wind_code(exposed: bool, turned: bool) -> u8
@@ -25,7 +24,7 @@ fn with_wind(t: Tier, exposed: bool) -> Tier
 }
 
 // The n tiers of a row, bottom first, with their wind parts worked out afresh. All are of one size, so the cover is the same for each.
-fn tiers_in_bay(row: &[u8], n: usize, near: Neighbours) -> [Tier; 10]
+pub fn tiers_in_bay(row: &[u8], n: usize, near: Neighbours) -> [Tier; 10]
     requires { ⌜ (first (sheetRows (now row)) ≡ Taken) × (n ≡ tierCount (now row)) ⌝ }
     ensures { λ r. ⌜ r ≡ sheetInBay near (sheetOf (now (row .entry))) .tiers ⌝ }
 {
@@ -40,25 +39,4 @@ fn tiers_in_bay(row: &[u8], n: usize, near: Neighbours) -> [Tier; 10]
         k += 1;
     }
     tiers
-}
-
-// The sheet of a row that has no refusal, with the wind codes that it has between these neighbours.
-pub fn sheet_in_bay(row: &[u8], near: Neighbours) -> Sheet
-    requires { ⌜ first (sheetRows (now row)) ≡ Taken ⌝ }
-    ensures { λ r. ⌜ r ≡ sheetInBay near (sheetOf (now (row .entry))) ⌝ }
-{
-    let ntiers = sheet_fields::byte_at(row, 8) as usize;
-    let door = sheet_fields::door_place(row);
-    let ndoor = sheet_fields::byte_at(row, door) as usize;
-    let closed = sheet_fields::closed_place(row);
-    let nclosed = sheet_fields::byte_at(row, closed) as usize;
-    Sheet {
-        head: sheet_fields::head_of(row),
-        tiers: tiers_in_bay(row, ntiers, near),
-        ntiers: ntiers,
-        door: sheet_fields::lashes_of(row, door, ndoor),
-        ndoor: ndoor,
-        closed: sheet_fields::lashes_of(row, closed, nclosed),
-        nclosed: nclosed,
-    }
 }

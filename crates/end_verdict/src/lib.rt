@@ -8,7 +8,7 @@ ghost use Rattle.answer.specs.Limits.{rackingLimit};
 ghost use Rattle.answer_put.specs.inner.Puts.{lashLimit};
 ghost use Rattle.statics.specs.inner.InArrays.{figuresIn, Lengths};
 ghost use Rattle.end_verdict.specs.inner.NoneOver.{noneOver, noneFound};
-use answer_put::size;
+use answer_put::racking_over;
 use limits::Limits;
 use limits::PullLimit;
 use limits::safe_load;
@@ -22,7 +22,7 @@ fn rackings_kept(xs: &[i32], n: usize) -> bool
     let mut kept = true;
     let mut k = 0;
     while k < n {
-        kept = kept & !(Limits::RACKING < size(xs[k]));
+        kept = kept & !racking_over(xs[k]);
         k += 1;
     }
     kept

@@ -1,6 +1,6 @@
 -- What turns a taken sheet back, in its order, and what its answer is then.
 use mathlib.Core.Bool.{true, false, not, _||_}
-use mathlib.Core.Path.{_≡_, refl, ap, sym, subst, _∙_}
+use mathlib.Core.Path.{_≡_, refl, ap, ap₂, sym, subst, _∙_}
 use mathlib.Core.List.{List, [], _∷_}
 use Prim.Native.Nat.{ℕ, _<_}
 use borrow.Author.Tests.{eq-eqb, ne-eqb, eqb-false}
@@ -9,22 +9,21 @@ use lib.Dec.{leb, eqb}
 use lib.ListN.{length}
 use Rattle.sheet.specs.declared.Reading.{Reading}
 use Rattle.sheet.specs.declared.Reading.the-variants.{Taken, Refused}
-use Rattle.sheet.specs.declared.Decoded.{Decoded}
 use Rattle.sheet.specs.declared.Sheet.{Sheet}
+use Rattle.sheet.specs.declared.Tier.{Tier}
 use Rattle.sheet.specs.Layout.{headOf, sheetOf}
-use Rattle.sheet.specs.Fits.{Fits}
-use Rattle.sheet.specs.Refusals.{row13, first, decoded, longestAnswer}
+use Rattle.sheet.specs.Refusals.{row13, first, sheetRows, longestAnswer}
+use Rattle.sheet.specs.inner.Changed.{withTiers}
 use Rattle.sheet.proofs.Bools.{or-false}
-use Rattle.sheet.proofs.Refusal.{decoded-sheet, refusal-of, refused-by-sheet}
+use Rattle.sheet.proofs.Refusal.{decoded-reading, refusal-of, refused-by-sheet}
 use Rattle.sheet.proofs.Rows.{row-holds, row-passed, orElse}
-use Rattle.sheet.proofs.TakenSheets.{decoded-fits}
 use Rattle.statics.specs.declared.LoadRule.{LoadRule}
 use Rattle.answer.specs.declared.Outcome.{Outcome}
 use Rattle.answer.specs.declared.Outcome.the-variants as O
 use Rattle.answer.specs.Checked.{roomFor, kept}
 use Rattle.answer.specs.inner.Named.{answerBy, returnedAs, writtenAs}
 use Rattle.forecast.specs.Forecasts.{row21, forecastRows, forecastRefusal, Forecast}
-use Rattle.forecast.specs.inner.Named.{forecastLoadRule, forecastBytes, ownReading, forecastReturned, forecastWritten}
+use Rattle.forecast.specs.inner.Named.{forecastLoadRule, forecastBytes, ownReading, OwnAnswer, forecastReturned, forecastWritten}
 use Rattle.forecast.proofs.Named.{forecast-named}
 
 -- what is returned and written, by cases on a refusal
@@ -38,10 +37,10 @@ by-same :
     By p bytes before after r
 by-same bytes before {q} {p} {after} {r} e y = subst (λ (x : Reading). By x bytes before after r) (sym e) y
 
--- a sheet within the limits
+-- a taken sheet
 module _ (t : Sheet) (h b hours : ℕ) (before : List ℕ) where
-  abbrev pub Own : List ℕ → Outcome → Type 0
-  Own after r = By (ownReading t b hours (length before)) (forecastBytes h b t) before after r
+  abbrev Own : List ℕ → Outcome → Type 0
+  Own after r = OwnAnswer t h b hours before after r
 
   pub other-route : (t .head .route ≡ 0 → ⊥) → Own before (O.Refused 20 0)
   other-route n = by-same (forecastBytes h b t) before (row-holds _ _ (ap not (ne-eqb _ _ n))) (refl, refl)
@@ -58,11 +57,15 @@ module _ (t : Sheet) (h b hours : ℕ) (before : List ℕ) where
       some-breadth = omega (arith, eqb-false b 0 (or-false (leb 72 hours) (eqb b 0) e .1))
 
       pub answered :
-          {c : LoadRule} {after : List ℕ} {r : Outcome} →
+          {c : LoadRule} {tiers : List Tier} {after : List ℕ} {r : Outcome} →
           c ≡ forecastLoadRule h b t →
-          By (roomFor (length before)) (answerBy c t) before after r →
+          tiers ≡ t .tiers →
+          By (roomFor (length before)) (answerBy c (withTiers tiers t)) before after r →
           Own after r
-      answered is y = by-same (forecastBytes h b t) before (past-route ∙ row-passed _ _ e) (rw (← is) y)
+      answered {c} {tiers} {after} {r} is own y =
+          let bytes = ap₂ (λ (c : LoadRule) (ts : List Tier). answerBy c (withTiers ts t)) is own in
+          by-same (forecastBytes h b t) before (past-route ∙ row-passed _ _ e)
+          (subst (λ (bs : List ℕ). By (roomFor (length before)) bs before after r) bytes y)
 
 -- a sheet's bytes
 module _ (s : List ℕ) (h b hours : ℕ) (before : List ℕ) where
@@ -78,28 +81,18 @@ module _ (s : List ℕ) (h b hours : ℕ) (before : List ℕ) where
   unfolding forecastReturned forecastWritten
   by-refusal (e, g) = (rw (e, g) (forecast-named s h b hours before), (e, g))
 
-  module _ (d : Decoded) (is : d ≡ decoded s) where
-    reading-is : {q : Reading} → d .reading ≡ q → decoded s .reading ≡ q
-    reading-is e = sym (ap (λ (x : Decoded). x .reading) is) ∙ e
+  pub refused : {n p : ℕ} → first (sheetRows s) ≡ Refused n p → Says before (O.Refused n p)
+  refused {n} {p} e =
+      by-refusal
+      (by-same (forecastBytes h b (sheetOf s)) before
+      (refused-by-sheet s (forecastRows (headOf s .route) b hours) longestAnswer (length before) (decoded-reading s ∙ e)) (refl, refl))
 
-    pub refused : {n p : ℕ} → d .reading ≡ Refused n p → Says before (O.Refused n p)
-    refused {n} {p} e =
-        by-refusal
-        (by-same (forecastBytes h b (sheetOf s)) before
-        (refused-by-sheet s (forecastRows (headOf s .route) b hours) longestAnswer (length before) (reading-is e)) (refl, refl))
+  module _ (e : first (sheetRows s) ≡ Taken) where
+    past-sheet : forecastRefusal s b hours (length before) ≡ ownReading (sheetOf s) b hours (length before)
+    unfolding sheetOf
+    past-sheet =
+        refusal-of s (forecastRows (headOf s .route) b hours) longestAnswer (length before)
+        ∙ ap (λ (q : Reading). orElse q (ownReading (sheetOf s) b hours (length before))) (decoded-reading s ∙ e)
 
-    module _ (e : d .reading ≡ Taken) where
-      pub taken-fits : Fits (d .sheet)
-      taken-fits = decoded-fits s d is e
-
-      past-sheet : forecastRefusal s b hours (length before) ≡ ownReading (sheetOf s) b hours (length before)
-      unfolding sheetOf
-      past-sheet =
-          refusal-of s (forecastRows (headOf s .route) b hours) longestAnswer (length before)
-          ∙ ap (λ (q : Reading). orElse q (ownReading (sheetOf s) b hours (length before))) (reading-is e)
-
-      pub taken : {after : List ℕ} {r : Outcome} → Own (d .sheet) h b hours before after r → Says after r
-      taken {after} {r} own =
-          let same : d .sheet ≡ sheetOf s = ap (λ (x : Decoded). x .sheet) is ∙ decoded-sheet s (reading-is e) in
-          let held = subst (λ (t : Sheet). Own t h b hours before after r) same own in
-          by-refusal (by-same (forecastBytes h b (sheetOf s)) before past-sheet held)
+    pub taken : {after : List ℕ} {r : Outcome} → OwnAnswer (sheetOf s) h b hours before after r → Says after r
+    taken own = by-refusal (by-same (forecastBytes h b (sheetOf s)) before past-sheet own)

@@ -2,9 +2,8 @@
 
 ghost use Prim.Native.Nat.{_≤_};
 ghost use mathlib.Core.Path.{_≡_};
-ghost use Rattle.sheet.specs.Fits.{Fits};
-ghost use Rattle.statics.specs.inner.Computed.{shareTwentieths, loadRuleOf};
-use sheet::Sheet;
+ghost use Rattle.statics.specs.inner.Computed.{shareTwentieths, loadRuleBy};
+use sheet::Head;
 use statics::LoadRule;
 
 // The share of F that a tier's own top takes, in twentieths: 0.45 by the class rule, half by the fleet standard.
@@ -22,12 +21,11 @@ pub fn share_of(number: u8) -> u64
     CLASS_SHARE
 }
 
-// What the loads of a sheet go by: the share of its rule number, and the route factor.
-pub fn rule_of(s: Sheet) -> LoadRule
-    requires { ⌜ Fits s ⌝ }
-    ensures { λ r. ⌜ (r ≡ loadRuleOf s) × (r .share ≤ 20) × (r .factor ≤ 1000) ⌝ }
+// What the loads of a sheet go by, from its head: the share of its rule number, and the route factor.
+pub fn rule_of(head: Head) -> LoadRule
+    requires { ⌜ head .route ≤ 12 ⌝ }
+    ensures { λ r. ⌜ (r ≡ loadRuleBy head) × (r .share ≤ 20) × (r .factor ≤ 1000) ⌝ }
 {
-    let head = s.head;
     LoadRule {
         share: share_of(head.rule),
         factor: 10 * sheet::route_percent(head.route),

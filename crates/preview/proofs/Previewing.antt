@@ -6,14 +6,10 @@ use mathlib.Core.Path.{_≡_, refl, sym, ap, subst, _∙_}
 use lib.ListN.{length}
 use Rattle.sheet.specs.declared.Reading.{Reading}
 use Rattle.sheet.specs.declared.Reading.the-variants.{Taken, Refused}
-use Rattle.sheet.specs.declared.Decoded.{Decoded}
 use Rattle.sheet.specs.declared.Sheet.{Sheet}
 use Rattle.sheet.specs.Layout.{tierCount, sheetOf}
-use Rattle.sheet.specs.Fits.{Fits}
-use Rattle.sheet.specs.Refusals.{first, sheetRows, decoded, refusal}
-use Rattle.sheet.proofs.Refusal.{decoded-reading, decoded-sheet}
+use Rattle.sheet.specs.Refusals.{first, sheetRows, refusal}
 use Rattle.sheet.proofs.Rows.{row-holds, row-passed}
-use Rattle.sheet.proofs.TakenSheets.{decoded-fits}
 use Rattle.statics.specs.inner.Computed.{loadRuleOf}
 use Rattle.answer.specs.declared.Outcome.{Outcome}
 use Rattle.answer.specs.declared.Outcome.the-variants as O
@@ -25,8 +21,8 @@ use Rattle.preview_moves.specs.inner.Moved.{AsChecked, movedRefusal, movedBytes
 use Rattle.preview_moves.proofs.Copies.{copy-holds}
 use Rattle.preview_moves.proofs.Order.{stack-has, lacking, sheet-first, lacks-tier, has-tier, copy-refusal}
 
--- a sheet's bytes s, decoded as d
-module _ (s : List ℕ) (tier mass : ℕ) (before : List ℕ) (d : Decoded) (is : d ≡ decoded s) where
+-- a sheet's bytes s
+module _ (s : List ℕ) (tier mass : ℕ) (before : List ℕ) where
   abbrev copy : List ℕ
   copy = withMass tier mass s
 
@@ -53,22 +49,10 @@ module _ (s : List ℕ) (tier mass : ℕ) (before : List ℕ) (d : Decoded) (is 
       by-name
       (subst (λ q. UnlessTurnedBack q before after r ((r ≡ returned copy (length before)) × (after ≡ written copy before))) (sym e) h)
 
-  reading-is : {q : Reading} → d .reading ≡ q → first (sheetRows s) ≡ q
-  reading-is e = sym (ap (λ (x : Decoded). x .reading) is ∙ decoded-reading s) ∙ e
+  pub refused : {n p : ℕ} → first (sheetRows s) ≡ Refused n p → Previews before (O.Refused n p)
+  refused e = by-refusal (sheet-first s tier e) (record { refused = refl; untouched = refl })
 
-  pub refused : {n p : ℕ} → d .reading ≡ Refused n p → Previews before (O.Refused n p)
-  refused e = by-refusal (sheet-first s tier (reading-is e)) (record { refused = refl; untouched = refl })
-
-  module _ (e : d .reading ≡ Taken) where
-    pub taken-fits : Fits (d .sheet)
-    taken-fits = decoded-fits s d is e
-
-    taken : first (sheetRows s) ≡ Taken
-    taken = reading-is e
-
-    same : d .sheet ≡ sheetOf s
-    same = ap (λ (x : Decoded). x .sheet) is ∙ decoded-sheet s (decoded-reading s ∙ taken)
-
+  module _ (taken : first (sheetRows s) ≡ Taken) where
     -- the check of the copy, where the stack has the tier
     module _ (small : mass < 65536) (some : 1 ≤ tier) (has : tier ≤ tierCount s) where
       returned-as :
@@ -83,8 +67,8 @@ module _ (s : List ℕ) (tier mass : ℕ) (before : List ℕ) (d : Decoded) (is 
       bytes-are : checkBytes copy ≡ movedBytes (sheetOf s) tier mass
       bytes-are = ap (λ (t : Sheet). answerBy (loadRuleOf t) t) (copy-holds s taken tier mass some has small)
 
-    -- what the decoded sheet with the new mass is answered is what the check answers to the copy
-    module _ {after : List ℕ} {r : Outcome} (small : mass < 65536) (h : Answers (d .sheet) tier mass before after r) where
+    -- what the sheet with the new mass is answered is what the check answers to the copy
+    module _ {after : List ℕ} {r : Outcome} (small : mass < 65536) (h : Answers (sheetOf s) tier mass before after r) where
       abbrev bytes : List ℕ
       bytes = movedBytes (sheetOf s) tier mass
 
@@ -92,9 +76,7 @@ module _ (s : List ℕ) (tier mass : ℕ) (before : List ℕ) (d : Decoded) (is 
           {q : Reading} →
           movedRefusal (sheetOf s) tier mass (length before) ≡ q →
           (r ≡ returnedAs q bytes) × (after ≡ writtenAs q bytes before)
-      by e =
-          subst (λ q. (r ≡ returnedAs q bytes) × (after ≡ writtenAs q bytes before)) e
-          (subst (λ (t : Sheet). Answers t tier mass before after r) same h)
+      by e = subst (λ q. (r ≡ returnedAs q bytes) × (after ≡ writtenAs q bytes before)) e h
 
       without : lacking s tier ≡ true → Previews after r
       unfolding sheetOf

@@ -2,7 +2,7 @@
 use Prim.Native.Nat.{ℕ, _+_, _*_, _-_, _<_, _≤_}
 use mathlib.Core.Bool.{Bool, true, false, not, _||_, true≢false}
 use mathlib.Core.List.{List}
-use mathlib.Core.Path.{_≡_, refl, sym, ap, subst, _∙_}
+use mathlib.Core.Path.{_≡_, refl, sym, ap, ap₂, subst, _∙_}
 use native.Mathlib.Nat.{lt-of-not-le}
 use native.Mathlib.Omega.{arith}
 use borrow.Author.Tests.{eqb-true, eqb-false}
@@ -14,6 +14,7 @@ use Rattle.sheet.specs.declared.Sheet.{Sheet}
 use Rattle.sheet.specs.declared.Tier.{Tier}
 use Rattle.sheet.specs.Layout.{tierFits, within, blankTier}
 use Rattle.sheet.specs.Fits.{Fits, tierAt}
+use Rattle.sheet.specs.inner.Changed.{withTiers}
 use Rattle.sheet.proofs.OtherTiers.{with-tiers-fit}
 use Rattle.sheet.proofs.Rows.{row-holds, row-passed}
 use Rattle.statics.specs.declared.LoadRule.{LoadRule}
@@ -95,16 +96,16 @@ module _ (t : Sheet) (tier mass : ℕ) (before : List ℕ) where
 
     pub with-mass :
         not fits ≡ false →
-        {c : LoadRule} {copy : Sheet} {after : List ℕ} {r : Outcome} →
-        copy ≡ moved (tier - 1) mass t →
-        c ≡ loadRuleOf copy →
-        (r ≡ returnedAs (roomFor (length before)) (answerBy c copy))
-        × (after ≡ writtenAs (roomFor (length before)) (answerBy c copy) before) →
+        {c : LoadRule} {tiers : List Tier} {after : List ℕ} {r : Outcome} →
+        c ≡ loadRuleOf t →
+        tiers ≡ moved (tier - 1) mass t .tiers →
+        (r ≡ returnedAs (roomFor (length before)) (answerBy c (withTiers tiers t)))
+        × (after ≡ writtenAs (roomFor (length before)) (answerBy c (withTiers tiers t)) before) →
         Answers t tier mass before after r
-    with-mass g {c} {copy} is rule (u, v) =
+    with-mass g {c} {tiers} rule is (u, v) =
         by-refusal (row-passed _ _ e ∙ row-passed _ _ g)
         (u ∙ ap (returnedAs (roomFor (length before))) bytes)
         (v ∙ ap (λ (b : List ℕ). writtenAs (roomFor (length before)) b before) bytes)
       where
-        bytes : answerBy c copy ≡ movedBytes t tier mass
-        bytes = ap (λ (c : LoadRule). answerBy c copy) rule ∙ ap (λ (t : Sheet). answerBy (loadRuleOf t) t) is
+        bytes : answerBy c (withTiers tiers t) ≡ movedBytes t tier mass
+        bytes = ap₂ (λ (c : LoadRule) (ts : List Tier). answerBy c (withTiers ts t)) rule is

@@ -1,17 +1,18 @@
-// Preview of a move (document 02, P7): the decoded sheet with another mass in one tier.
+// Preview of a move (document 02, P7): the tiers of a sheet with another mass in one of them.
 
 ghost use mathlib.Core.Path.{_≡_};
 ghost use Prim.Native.Nat.{_<_};
-ghost use Rattle.sheet.specs.Fits.{Fits};
-ghost use Rattle.preview_moves.specs.inner.Moved.{moved};
-use sheet::Sheet;
+ghost use lib.ListN.{set};
+ghost use Rattle.sheet.specs.Fits.{tierAt};
+ghost use Rattle.preview_moves.specs.inner.Moved.{weighing};
+use sheet::Tier;
 
-// The sheet with another mass in its k-th tier, from 0.
-pub fn with_mass(t: Sheet, k: usize, mass: u16) -> Sheet
-    requires { ⌜ Fits t × (k < t .ntiers) ⌝ }
-    ensures { λ r. ⌜ r ≡ moved k mass t ⌝ }
+// The tiers with another mass in the k-th, from 0.
+pub fn with_mass(tiers: [Tier; 10], k: usize, mass: u16) -> [Tier; 10]
+    requires { ⌜ k < 10 ⌝ }
+    ensures { λ r. ⌜ r ≡ set tiers k (weighing mass (tierAt tiers k)) ⌝ }
 {
-    let mut copy = t;
-    copy.tiers[k].mass = mass;
+    let mut copy = tiers;
+    copy[k].mass = mass;
     copy
 }

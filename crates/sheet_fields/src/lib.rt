@@ -8,6 +8,7 @@ ghost use Rattle.sheet.specs.declared.Reading.the-variants.{Taken};
 ghost use Rattle.sheet.specs.Layout.{headOf, tierOf, lashOf, tierPlace, lashPlace, doorPlace, closedPlace, sparePlace};
 ghost use Rattle.sheet.specs.Layout.{tiersIn, lashesIn, sheetOf, blankTier, blankLash, blankSheet};
 ghost use Rattle.sheet.specs.Refusals.{first, sheetRows};
+ghost use Rattle.sheet.specs.inner.Changed.{withTiers};
 use arith::bytes::read1;
 use arith::bytes::read2;
 use arith::bytes::read4;
@@ -194,7 +195,37 @@ pub fn lashes_of(s: &[u8], at: usize, n: usize) -> [Lash; 8]
     lashes
 }
 
-// What a sheet holds that no row of the table turns back.
+// The tiers of a taken sheet.
+pub fn own_tiers(s: &[u8]) -> [Tier; 10]
+    requires { ⌜ first (sheetRows (now s)) ≡ Taken ⌝ }
+    ensures { λ r. ⌜ r ≡ sheetOf (now (s .entry)) .tiers ⌝ }
+{
+    tiers_of(s, byte_at(s, 8) as usize)
+}
+
+// What a taken sheet holds, with these tiers in place of its own.
+pub fn sheet_with(s: &[u8], tiers: [Tier; 10]) -> Sheet
+    requires { ⌜ first (sheetRows (now s)) ≡ Taken ⌝ }
+    ensures { λ r. ⌜ r ≡ withTiers tiers (sheetOf (now (s .entry))) ⌝ }
+{
+    let n = byte_at(s, 8) as usize;
+    let door = door_place(s);
+    let ndoor = byte_at(s, door) as usize;
+    let closed = closed_place(s);
+    let nclosed = byte_at(s, closed) as usize;
+    Sheet {
+        head: head_of(s),
+        tiers: tiers,
+        ntiers: n,
+        door: lashes_of(s, door, ndoor),
+        ndoor: ndoor,
+        closed: lashes_of(s, closed, nclosed),
+        nclosed: nclosed,
+    }
+}
+
+// What a sheet holds that no row of the table turns back. Not by sheet_with: each has one caller, so the compiler puts both into theirs,
+// and copies no sheet.
 pub fn sheet_of(s: &[u8]) -> Sheet
     requires { ⌜ first (sheetRows (now s)) ≡ Taken ⌝ }
     ensures { λ r. ⌜ r ≡ sheetOf (now (s .entry)) ⌝ }

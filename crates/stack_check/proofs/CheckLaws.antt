@@ -1,20 +1,20 @@
 -- What `check` and `answer_to` give is what Named names: by the refusals in their order, then the answer.
-use mathlib.Core.Path.{_≡_, refl, sym, ap, subst, _∙_}
+use mathlib.Core.Path.{_≡_, refl, sym, ap, ap₂, subst, _∙_}
 use mathlib.Core.List.{List, _++_}
 use Prim.Native.Nat.{ℕ, _≤_, _<_}
 use borrow.Author.Tests.{lt-ltb, le-ltb}
 use lib.ListN.{drop, length}
 use Rattle.sheet.specs.declared.Reading.{Reading}
 use Rattle.sheet.specs.declared.Reading.the-variants.{Taken, Refused}
-use Rattle.sheet.specs.declared.Decoded.{Decoded}
 use Rattle.sheet.specs.declared.Sheet.{Sheet}
+use Rattle.sheet.specs.declared.Tier.{Tier}
 use Rattle.sheet.specs.Layout.{sheetOf}
-use Rattle.sheet.specs.Refusals.{first, decoded, refusal}
+use Rattle.sheet.specs.Refusals.{first, sheetRows, refusal}
 use Rattle.sheet.specs.Fits.{Fits}
-use Rattle.sheet.proofs.Refusal.{decoded-sheet, sheet-refused, room-last}
+use Rattle.sheet.specs.inner.Changed.{withTiers}
+use Rattle.sheet.proofs.Refusal.{decoded-reading, sheet-refused, room-last}
 use Rattle.sheet.specs.Ends.{door, closed}
 use Rattle.sheet.proofs.SheetLimits.{sheet-limits}
-use Rattle.sheet.proofs.TakenSheets.{decoded-fits}
 use Rattle.statics.specs.declared.LoadRule.{LoadRule}
 use Rattle.statics.specs.declared.EndFigures.{EndFigures}
 use Rattle.statics.specs.declared.Figures.{Figures}
@@ -90,23 +90,19 @@ module _ (s before : List ℕ) where
       (g ∙ ap (λ (q : Reading). returnedAs q (checkBytes s)) (sym e))
       (h ∙ ap (λ (q : Reading). writtenAs q (checkBytes s) before) (sym e))
 
-  module _ (d : Decoded) (is : d ≡ decoded s) where
-    reading-is : {q : Reading} → d .reading ≡ q → decoded s .reading ≡ q
-    reading-is e = sym (ap (λ (x : Decoded). x .reading) is) ∙ e
+  pub refused : {n p : ℕ} → first (sheetRows s) ≡ Refused n p → Checks before (O.Refused n p)
+  refused {n} {p} e = by-refusal (Refused n p) (sheet-refused s (length before) (decoded-reading s ∙ e)) refl refl
 
-    pub refused : {n p : ℕ} → d .reading ≡ Refused n p → Checks before (O.Refused n p)
-    refused {n} {p} e = by-refusal (Refused n p) (sheet-refused s (length before) (reading-is e)) refl refl
-
-    module _ (e : d .reading ≡ Taken) where
-      pub taken-fits : Fits (d .sheet)
-      taken-fits = decoded-fits s d is e
-
-      pub taken :
-          {c : LoadRule} {after : List ℕ} {r : Outcome} → c ≡ loadRuleOf (d .sheet) → ByName c (d .sheet) before after r → Checks after r
-      taken {c} {after} {r} rule (g, h) =
-          let same : d .sheet ≡ sheetOf s = ap (λ (x : Decoded). x .sheet) is ∙ decoded-sheet s (reading-is e) in
-          let bytes : answerBy c (d .sheet) ≡ checkBytes s =
-          ap (λ (c : LoadRule). answerBy c (d .sheet)) rule ∙ ap (λ (t : Sheet). answerBy (loadRuleOf t) t) same in
-          by-refusal (roomFor (length before)) (room-last s (length before) (reading-is e))
-          (g ∙ ap (λ (b : List ℕ). returnedAs (roomFor (length before)) b) bytes)
-          (h ∙ ap (λ (b : List ℕ). writtenAs (roomFor (length before)) b before) bytes)
+  pub taken :
+      first (sheetRows s) ≡ Taken →
+      {c : LoadRule} {tiers : List Tier} {after : List ℕ} {r : Outcome} →
+      c ≡ loadRuleOf (sheetOf s) →
+      tiers ≡ sheetOf s .tiers →
+      ByName c (withTiers tiers (sheetOf s)) before after r →
+      Checks after r
+  taken e {c} {tiers} rule same (g, h) =
+      let bytes : answerBy c (withTiers tiers (sheetOf s)) ≡ checkBytes s =
+      ap₂ (λ (c : LoadRule) (ts : List Tier). answerBy c (withTiers ts (sheetOf s))) rule same in
+      by-refusal (roomFor (length before)) (room-last s (length before) (decoded-reading s ∙ e))
+      (g ∙ ap (λ (b : List ℕ). returnedAs (roomFor (length before)) b) bytes)
+      (h ∙ ap (λ (b : List ℕ). writtenAs (roomFor (length before)) b before) bytes)

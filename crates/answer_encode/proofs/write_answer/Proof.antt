@@ -51,16 +51,11 @@ write1-requires-2 c κs =
     let w = marked a in
     let g = found w in
     let s = entered g in
-    let k = g .put-findings .ensures .within in
+    let k = g .put-findings .ensures .few in
     (omega (arith, k), omega (arith, k))
 
-add-first : tie.Need-add-first
-add-first c = search needs
-
-mul-size : tie.Need-mul-size
-mul-size c =
-    let g = found (marked (door (closed (c .before .before)))) in
-    omega (arith, g .put-findings .ensures .within)
+add-write-found : tie.Need-add-write-found
+add-write-found c = search needs
 
 slice-aggregate-write-found : tie.Need-slice-aggregate-write-found
 slice-aggregate-write-found c =
@@ -76,17 +71,7 @@ write-found-requires c κs =
     let g = found w in
     let s = entered g in
     let f = g .put-findings .ensures in
-    (omega (arith, f .within, f .put .room), omega (arith, f .within))
-
-add-result : tie.Need-add-result
-add-result c =
-    let d = c .before .before .before .before .before .before .before in
-    let b = closed d in
-    let a = door b in
-    let w = marked a in
-    let g = found w in
-    let s = entered g in
-    omega (arith, g .put-findings .ensures .within)
+    (f .few, omega (arith, f .few, f .put .room), omega (arith, f .few))
 
 same-length : tie.Need-same-length
 same-length c = search needs
@@ -106,11 +91,12 @@ returns c =
     bothIn (x .doorRacking .now) (x .doorLevels .now) (x .doorForces .now) (x .closedRacking .now) (x .closedLevels .now)
     (x .closedForces .now) in
     let found = g .put-findings .ensures in
-    let h : b .write-end2 .result + 1 + 3 * (g .put-findings .result / 3) ≤ 834 =
-    omega (arith, found .within, b .write-end2 .ensures .1, a .write-end .ensures .1, z .tiers, z .door-few, z .closed-few) in
+    let r = v .write-found .ensures in
+    let h : v .write-found .result ≤ 834 =
+    omega (arith, found .few, r .1, b .write-end2 .ensures .1, a .write-end .ensures .1, z .tiers, z .door-few, z .closed-few) in
     let p =
     whole (x .t) f z found (w .write1 .ensures) (w .before .verdict-of .ensures .0) (a .write-end .ensures .0)
-    (b .write-end2 .ensures .0) (d .write12 .ensures) (v .write-found .ensures) in
+    (b .write-end2 .ensures .0) (d .write12 .ensures) (r .0) in
     (p .place ∙ zero-add _, from-start p (le-trans h (s .pre .0 .1)))
 
 pub write-answer-spec : {M : Type 1} → statement M
@@ -124,10 +110,8 @@ write-answer-spec =
     write-end-requires
     write-end-requires-2
     write1-requires-2
-    add-first
-    mul-size
+    add-write-found
     slice-aggregate-write-found
     write-found-requires
-    add-result
     same-length
     returns)

@@ -37,12 +37,11 @@ lashFindings end ls m f =
     ++ findingsOver end 6 0 (λ j. getD (f .vertical) j 0) (λ j. lashVerticalLimit) m
     ++ findingsOver end 7 0 (λ j. getD (f .athwart) j 0) (λ j. lashAthwartLimit) m
 
--- the findings' bytes, three each, put into a buffer from its start, and the place behind them
-pub record PutFindings (t : Sheet) (f : Figures) (before after : List ℕ) (next : ℕ) : Type 0 where
-  pub put : Put before 0 (flatMap findingBytes (findings t f)) after next
-  pub three : next ≡ 3 * length (findings t f)
-  pub few : length (findings t f) ≤ 108
-  pub within : next ≤ 324
+-- the findings put into a buffer of words from its start, and their count
+pub record PutFindings (t : Sheet) (f : Figures) (before after : List ℕ) (count : ℕ) : Type 0 where
+  pub put : Put before 0 (flatMap findingBytes (findings t f)) after count
+  pub counts : count ≡ length (findings t f)
+  pub few : count ≤ 108
 
 -- the figures of both ends, the door end's three arrays first
 abbrev pub bothIn : List ℤ → List ℕ → List ℕ → List ℤ → List ℕ → List ℕ → Figures

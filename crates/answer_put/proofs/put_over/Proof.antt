@@ -11,7 +11,7 @@ use Rattle.answer_put.proofs.put_over.Tie as tie
 
 abbrev Inv-loop : tie.InvT-loop
 Inv-loop found₀ at end kind first xs limit n next₀ k₀ found next k =
-    (k ≤ n) × (next ≤ at + 3 * k) × Put found₀ at (findingsOver end kind first (λ i. getD xs i 0) (λ i. limit) k) found next
+    (k ≤ n) × (next ≤ at + k) × Put found₀ at (findingsOver end kind first (λ i. getD xs i 0) (λ i. limit) k) found next
 
 abbrev μ-loop : tie.MeasureT-loop
 μ-loop found₀ at end kind first xs limit n next₀ k₀ found next k = n - k

@@ -10,7 +10,7 @@ use Rattle.answer_put.proofs.put_pulls.Tie as tie
 
 abbrev Inv-loop : tie.InvT-loop
 Inv-loop found₀ at end xs m lashes next₀ j₀ found next j =
-    (j ≤ m) × (next ≤ at + 3 * j) × Put found₀ at (findingsOver end 5 0 (λ k. getD xs k 0) (lashLimit lashes) j) found next
+    (j ≤ m) × (next ≤ at + j) × Put found₀ at (findingsOver end 5 0 (λ k. getD xs k 0) (lashLimit lashes) j) found next
 
 abbrev μ-loop : tie.MeasureT-loop
 μ-loop found₀ at end xs m lashes next₀ j₀ found next j = m - j

@@ -2,6 +2,7 @@
 use Prim.Native.Nat.{ℕ, _+_, _*_, _≤_, _-_}
 use mathlib.Core.Path.{_≡_, refl, ap, _∙_}
 use native.Mathlib.Omega.{arith}
+use lib.Dec.{ltb}
 use lib.ListN.{getD}
 use lib.IntN.{pos, natAbs}
 use mir.Syntax.{w32}
@@ -16,7 +17,7 @@ use Rattle.answer_put.proofs.put_rackings.Tie as tie
 
 abbrev Inv-loop : tie.InvT-loop
 Inv-loop found₀ at end xs n next₀ k₀ found next k =
-    (k ≤ n) × (next ≤ at + 3 * k) × Put found₀ at
+    (k ≤ n) × (next ≤ at + k) × Put found₀ at
     (findingsOver end 1 1 (λ i. natAbs (getD xs (i - 1) (pos 0))) (λ i. rackingLimit) k) found next
 
 abbrev μ-loop : tie.MeasureT-loop
@@ -28,14 +29,14 @@ loop-holds c = (omega arith, omega arith, over-none _ _ _ _ _ _ _)
 add-put-where : tie.Need-add-put-where Inv-loop μ-loop
 add-put-where c = search needs
 
-mul-size : tie.Need-mul-size Inv-loop μ-loop
-mul-size c = search needs
+mul-racking-over : tie.Need-mul-racking-over Inv-loop μ-loop
+mul-racking-over c = search needs
 
-shared-slice-copy-out-size : tie.Need-shared-slice-copy-out-size Inv-loop μ-loop
-shared-slice-copy-out-size c = search needs
+shared-slice-copy-out-racking-over : tie.Need-shared-slice-copy-out-racking-over Inv-loop μ-loop
+shared-slice-copy-out-racking-over c = search needs
 
-size-requires : tie.Need-size-requires Inv-loop μ-loop
-size-requires c κs = search needs
+racking-over-requires : tie.Need-racking-over-requires Inv-loop μ-loop
+racking-over-requires c κs = search needs
 
 put-where-requires : tie.Need-put-where-requires Inv-loop μ-loop
 put-where-requires c κs = search needs
@@ -53,7 +54,8 @@ loop-again c =
     let xs = w .before .before .before .before .before .before .before .args .xs .now in
     let g : SFits w32 (getD xs (l .k) (pos 0)) = search needs in
     let b : l .k ≡ 1 + l .k - 1 = omega arith in
-    let e = (rw (toZ-ofZ w32 _ g) at (w .before .size .ensures)) ∙ ap (λ (i : ℕ). natAbs (getD xs i (pos 0))) b in
+    let e =
+    (rw (toZ-ofZ w32 _ g) at (w .before .racking-over .ensures)) ∙ ap (λ (i : ℕ). ltb rackingLimit (natAbs (getD xs i (pos 0)))) b in
     (omega arith, omega arith, over-more _ _ _ _ _ (l .k) (l .inv .2) refl (rw e at (w .put-where .ensures .0 .0)))
 
 same-length : tie.Need-same-length Inv-loop μ-loop
@@ -72,9 +74,9 @@ put-rackings-spec =
     μ-loop
     loop-holds
     add-put-where
-    mul-size
-    shared-slice-copy-out-size
-    size-requires
+    mul-racking-over
+    shared-slice-copy-out-racking-over
+    racking-over-requires
     put-where-requires
     add-k
     loop-less

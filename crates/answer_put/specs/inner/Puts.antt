@@ -1,20 +1,23 @@
--- Contracts of inner functions: bytes put into a buffer, and the bytes of the findings of one kind. Nothing here need be believed.
+-- Contracts of inner functions: findings put into a buffer, and the bytes of the findings of one kind. Nothing here need be believed.
 use mathlib.Core.Path.{_≡_}
 use mathlib.Core.Bool.{cond}
 use mathlib.Core.List.{List, [], _∷_, _++_, flatMap}
-use Prim.Native.Nat.{ℕ, _+_}
+use Prim.Native.Nat.{ℕ, _+_, _*_, _/_, _%_}
 use lib.Dec.{ltb}
-use lib.ListN.{getD, length, take, drop}
+use lib.ListN.{getD, length, take}
 use Rattle.sheet.specs.Layout.{blankLash}
 use Rattle.sheet.specs.declared.Lash.{Lash}
 use Rattle.answer.specs.Limits.{safeLoad}
 use Rattle.arith.specs.Lists.{below}
 
--- `bytes` put into a buffer from `at` on, and the place behind them; up to three bytes behind that place may have changed
+-- the three bytes of a finding in one word: end, kind and index, least first
+abbrev pub wordBytes : ℕ → List ℕ
+wordBytes w = w % 256 ∷ w / 256 % 256 ∷ w / 65536 % 256 ∷ []
+
+-- the findings of these bytes put into a buffer of words from `at` on, and the place behind them; what stands there may have changed
 pub record Put (before : List ℕ) (at : ℕ) (bytes after : List ℕ) (next : ℕ) : Type 0 where
-  pub stored : take next after ≡ take at before ++ bytes
-  pub place : next ≡ at + length bytes
-  pub behind : drop (next + 3) after ≡ drop (next + 3) before
+  pub stored : flatMap wordBytes (take next after) ≡ flatMap wordBytes (take at before) ++ bytes
+  pub place : 3 * next ≡ 3 * at + length bytes
   pub room : length after ≡ length before
 
 -- the safe load of lash j

@@ -11,7 +11,7 @@ use Rattle.arrangements.proofs.write_list.Tie as tie
 
 -- from each step to the one before it
 abbrev start : tie.After-loads-of → tie.Start
-start c = c .before .before .before .before .before .before .before
+start c = c .before .before .before .before .before .before .before .before
 
 abbrev loaded : tie.After-springs-of → tie.After-loads-of
 loaded c = c .before .before .before .before .before .before
@@ -20,7 +20,7 @@ abbrev sprung : tie.After-lash-stiffnesses → tie.After-springs-of
 sprung c = c .before .before .before .before .before .before
 
 abbrev measured : tie.After-lower-of → tie.After-lash-stiffnesses
-measured c = c .before .before .before .before .before .before
+measured c = c .before .before .before .before .before
 
 rule-of-requires : tie.Need-rule-of-requires
 rule-of-requires c κs = search needs
@@ -37,7 +37,7 @@ slice-aggregate-loads-of-3 c = search needs
 loads-of-requires : tie.Need-loads-of-requires
 loads-of-requires c κs =
     let r = c .before .before .before in
-    let p = r .before .before .before .pre in
+    let p = r .before .before .before .before .pre in
     let e = r .rule-of .ensures in
     ((p .0 .few, e .1, e .2), (sheet-limits (p .0) .each, (refl, refl, refl)))
 

@@ -25,14 +25,14 @@ abbrev μ-loop : tie.MeasureT-loop
 loop-holds : tie.Need-loop-holds Inv-loop μ-loop
 loop-holds c = (omega arith, kept-none _ _ _)
 
-mul-size : tie.Need-mul-size Inv-loop μ-loop
-mul-size c = search needs
+mul-racking-over : tie.Need-mul-racking-over Inv-loop μ-loop
+mul-racking-over c = search needs
 
-shared-slice-copy-out-size : tie.Need-shared-slice-copy-out-size Inv-loop μ-loop
-shared-slice-copy-out-size c = search needs
+shared-slice-copy-out-racking-over : tie.Need-shared-slice-copy-out-racking-over Inv-loop μ-loop
+shared-slice-copy-out-racking-over c = search needs
 
-size-requires : tie.Need-size-requires Inv-loop μ-loop
-size-requires c κs = search needs
+racking-over-requires : tie.Need-racking-over-requires Inv-loop μ-loop
+racking-over-requires c κs = search needs
 
 add-k : tie.Need-add-k Inv-loop μ-loop
 add-k c = search needs
@@ -46,8 +46,8 @@ loop-again c =
     let xs = c .before .before .before .before .args .xs .now in
     let g : SFits w32 (getD xs (l .k) (pos 0)) = search needs in
     let b : l .k ≡ 1 + l .k - 1 = omega arith in
-    let e = (rw (toZ-ofZ w32 _ g) at (c .size .ensures)) ∙ ap (λ (i : ℕ). natAbs (getD xs i (pos 0))) b in
-    (omega arith, kept-more _ _ _ (l .k) (l .inv .1) (ap (ltb rackingLimit) e))
+    let e = (rw (toZ-ofZ w32 _ g) at (c .racking-over .ensures)) ∙ ap (λ (i : ℕ). ltb rackingLimit (natAbs (getD xs i (pos 0)))) b in
+    (omega arith, kept-more _ _ _ (l .k) (l .inv .1) e)
 
 returns : tie.Need-returns Inv-loop μ-loop
 returns c =
@@ -61,9 +61,9 @@ rackings-kept-spec =
     Inv-loop
     μ-loop
     loop-holds
-    mul-size
-    shared-slice-copy-out-size
-    size-requires
+    mul-racking-over
+    shared-slice-copy-out-racking-over
+    racking-over-requires
     add-k
     loop-less
     loop-again

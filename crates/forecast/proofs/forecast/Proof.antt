@@ -1,15 +1,24 @@
 -- `forecast::forecast`: the sheet's own refusals, then what `answer_sheet` says of a taken one (Refusals).
+use mathlib.Core.Path.{_≡_, sym, _∙_}
 use borrow.Author.Needs.{needs}
-use Rattle.forecast.proofs.Refusals.{refused, taken-fits, taken}
+use Rattle.sheet.specs.declared.Reading.the-variants.{Taken}
+use Rattle.sheet.specs.Refusals.{first, sheetRows}
+use Rattle.forecast.proofs.Refusals.{refused, taken}
 use Rattle.forecast.proofs.forecast.Statement.{statement}
 use Rattle.forecast.proofs.forecast.Tie as tie
 
--- from the reading to the start
-abbrev entered : tie.After-decode → tie.Start
+-- from each step to the one before it
+abbrev entered : tie.After-test-sheet → tie.Start
 entered c = c .before .before .before
 
-decode-requires : tie.Need-decode-requires
-decode-requires c κs = search needs
+abbrev tested : tie.After-enum-told → tie.After-test-sheet
+tested c = c .before .before
+
+passed : (c : tie.After-enum-told) → first (sheetRows (entered (tested c) .args .sheet .now)) ≡ Taken
+passed c = sym (tested c .test-sheet .ensures) ∙ c .enum-told .given .1
+
+test-sheet-requires : tie.Need-test-sheet-requires
+test-sheet-requires c κs = search needs
 
 enum-known-reading : tie.Need-enum-known-reading
 enum-known-reading c = search needs
@@ -18,19 +27,14 @@ enum-told : tie.Need-enum-told
 enum-told c = search needs
 
 answer-sheet-requires : tie.Need-answer-sheet-requires
-answer-sheet-requires c κs =
-    let m = c .before in
-    let d = m .before .before in
-    let a = entered d .args in
-    taken-fits (a .sheet .now) (a .wave) (a .breadth) (a .hours) (a .answer .now) (d .decode .result) (d .decode .ensures)
-    (m .enum-told .given .1)
+answer-sheet-requires c κs = passed (c .before)
 
 returns : tie.Need-returns
 returns c =
-    let d = c .before .before .before in
-    let a = entered d .args in
-    refused (a .sheet .now) (a .wave) (a .breadth) (a .hours) (a .answer .now) (d .decode .result) (d .decode .ensures)
-    (c .before .reading .given .1)
+    let t = c .before .before .before in
+    let a = entered t .args in
+    refused (a .sheet .now) (a .wave) (a .breadth) (a .hours) (a .answer .now)
+    (sym (t .test-sheet .ensures) ∙ c .before .reading .given .1)
 
 same-length : tie.Need-same-length
 same-length c = search needs
@@ -39,16 +43,14 @@ returns-2 : tie.Need-returns-2
 returns-2 c =
     let w = c .before .before in
     let m = w .before .before in
-    let d = m .before .before in
-    let a = entered d .args in
-    taken (a .sheet .now) (a .wave) (a .breadth) (a .hours) (a .answer .now) (d .decode .result) (d .decode .ensures)
-    (m .enum-told .given .1) (w .answer-sheet .ensures)
+    let a = entered (tested m) .args in
+    taken (a .sheet .now) (a .wave) (a .breadth) (a .hours) (a .answer .now) (passed m) (w .answer-sheet .ensures)
 
 pub forecast-spec : {M : Type 1} → statement M
 forecast-spec =
     tie.close
     (tie.spec
-    decode-requires
+    test-sheet-requires
     enum-known-reading
     enum-told
     answer-sheet-requires

@@ -1,6 +1,7 @@
 -- What a forecast's call answers, by name: a function of its input, as the check's answer is. Theorems says what it is worth; nothing here
 -- need be believed.
 use mathlib.Core.List.{List, [], _∷_, _++_}
+use mathlib.Core.Path.{_≡_}
 use Prim.Native.Nat.{ℕ}
 use lib.ListN.{length}
 use Rattle.sheet.specs.declared.Reading.{Reading}
@@ -24,6 +25,12 @@ forecastBytes h b t = answerBy (forecastLoadRule h b t) t
 -- what a taken sheet may still be turned back for
 abbrev pub ownReading : Sheet → ℕ → ℕ → ℕ → Reading
 ownReading t b hours room = first (forecastRows (t .head .route) b hours ++ (row13 longestAnswer room ∷ []))
+
+-- what its call returns then, and leaves in a buffer that held `before`
+abbrev pub OwnAnswer : Sheet → ℕ → ℕ → ℕ → List ℕ → List ℕ → Outcome → Type 0
+OwnAnswer t h b hours before after r =
+    (r ≡ returnedAs (ownReading t b hours (length before)) (forecastBytes h b t))
+    × (after ≡ writtenAs (ownReading t b hours (length before)) (forecastBytes h b t) before)
 
 -- what is returned, and what a buffer that held `before` holds then
 unfoldable pub forecastReturned : List ℕ → ℕ → ℕ → ℕ → ℕ → Outcome

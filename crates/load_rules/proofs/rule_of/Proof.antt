@@ -13,8 +13,8 @@ share-of-requires c κs = search needs
 route-percent-requires : tie.Need-route-percent-requires
 route-percent-requires c κs = search needs
 
-mul-t5 : tie.Need-mul-t5
-mul-t5 c = search needs
+mul-t4 : tie.Need-mul-t4
+mul-t4 c = search needs
 
 returns : tie.Need-returns
 returns c =
@@ -26,4 +26,4 @@ returns c =
     )
 
 pub rule-of-spec : {M : Type 1} → statement M
-rule-of-spec = tie.close (tie.spec share-of-requires route-percent-requires mul-t5 returns)
+rule-of-spec = tie.close (tie.spec share-of-requires route-percent-requires mul-t4 returns)

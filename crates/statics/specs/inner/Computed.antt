@@ -8,6 +8,7 @@ use lib.IntN.{pos}
 use lib.ListN.{getD, length}
 use Rattle.arith.specs.Lists.{below, padded}
 use Rattle.springs.specs.inner.Elimination.{solved}
+use Rattle.sheet.specs.declared.Head.{Head}
 use Rattle.sheet.specs.declared.Tier.{Tier}
 use Rattle.sheet.specs.declared.Lash.{Lash}
 use Rattle.sheet.specs.declared.Sheet.{Sheet}
@@ -58,6 +59,9 @@ figuresBy c t = record { door = endFiguresBy c door t; closed = endFiguresBy c c
 abbrev pub shareTwentieths : ℕ → ℕ
 shareTwentieths number = cond (eqb number 2) 10 9
 
--- the rule of a sheet in whole numbers: the share of its rule number, and ten times the route's percents
+-- the rule of a sheet in whole numbers, by its head: the share of its rule number, and ten times the route's percents
+abbrev pub loadRuleBy : Head → LoadRule
+loadRuleBy h = record { share = shareTwentieths (h .rule); factor = 10 * routePercent (h .route) }
+
 abbrev pub loadRuleOf : Sheet → LoadRule
-loadRuleOf t = record { share = shareTwentieths (t .head .rule); factor = 10 * routePercent (t .head .route) }
+loadRuleOf t = loadRuleBy (t .head)
