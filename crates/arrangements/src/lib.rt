@@ -34,22 +34,17 @@ fn write_list(t: Sheet, lashes: [Lash; 8], m: usize, list: &mut [u8]) -> usize
     ensures { λ r. ⌜ Wrote (now (list .entry)) 0 (listFor t (take m lashes)) (now (list .exit)) r × (r ≤ 258) ⌝ }
 {
     let n = t.ntiers;
-    let tiers = t.tiers;
+    let ts = t.tiers;
     let head = t.head;
+    let rule = load_rules::rule_of(head);
     let mut loads = [0u64; 10];
     let mut vmax = [0u64; 11];
     let mut vmin = [0u64; 11];
-    loads_of(
-        n,
-        tiers,
-        load_rules::rule_of(head),
-        &mut loads,
-        &mut vmax,
-        &mut vmin,
-    );
+    let mut heights = [0u16; 10];
+    loads_of(n, ts, rule, &mut loads, &mut vmax, &mut vmin, &mut heights);
     let mut k = [DOOR_SPRING; 10];
     let mut h = [CLOSED_SPRING; 10];
-    springs_of(n, tiers, &mut k, &mut h);
+    springs_of(n, ts, &mut k, &mut h);
     let mut lengths = [0u64; 8];
     let mut stiffnesses = [0u64; 8];
     let mut levels = [0u64; 10];
@@ -64,6 +59,7 @@ fn write_list(t: Sheet, lashes: [Lash; 8], m: usize, list: &mut [u8]) -> usize
         &stiffnesses,
         &k,
         &h,
+        &heights,
         &loads,
         &vmax,
         &vmin,

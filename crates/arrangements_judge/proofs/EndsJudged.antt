@@ -1,5 +1,5 @@
 -- A stack with the same lashes at both ends: what an end's figures take, and that its findings are those of the check.
-use Prim.Native.Nat.{ℕ, _<_, _≤_}
+use Prim.Native.Nat.{ℕ, _≤_}
 use mathlib.Core.Bool.{Bool, true, false, not, _&&_}
 use mathlib.Core.List.{List}
 use mathlib.Core.Path.{_≡_, refl, sym, ap, ap₂, subst, _∙_}
@@ -9,10 +9,8 @@ use lib.ListN.{length, getD}
 use lib.Seq.{getD-take}
 use Rattle.sheet.specs.declared.Lash.{Lash}
 use Rattle.sheet.specs.declared.Sheet.{Sheet}
-use Rattle.sheet.specs.declared.Tier.{Tier}
 use Rattle.sheet.specs.Fits.{Fits}
 use Rattle.sheet.specs.Layout.{blankLash}
-use Rattle.sheet.specs.inner.Limits.{LashLimits}
 use Rattle.sheet.specs.Ends.{End, door, closed, tiersOf, lashesOf}
 use Rattle.sheet.proofs.Bools.{not-true, not-false}
 use Rattle.sheet.proofs.Limits.{lash-wider}
@@ -38,8 +36,8 @@ use Rattle.chosen_lashes.proofs.Held.{held-measured, held-levels}
 use Rattle.arrangements_judge.specs.inner.Judged.{lashesIn, EndGiven, noFinding, StackGiven, acceptedWith}
 
 -- an end that is given: its shifts can be solved
-module _ {n : ℕ} {k : List ℕ} {ts : List Tier} {m : ℕ} {ls : List Lash} {κ ω vmax vmin : List ℕ}
-    (e : EndGiven n k ts m ls κ ω vmax vmin) where
+module _ {n : ℕ} {k hs : List ℕ} {m : ℕ} {ls : List Lash} {κ ω vmax vmin : List ℕ}
+    (e : EndGiven n k hs m ls κ ω vmax vmin) where
   levels : LevelStiffnesses ls κ
   levels =
       let few : length ls ≤ 8 = omega (arith, e .counted, e .works .few-lashes) in
@@ -52,7 +50,7 @@ module _ {n : ℕ} {k : List ℕ} {ts : List Tier} {m : ℕ} {ls : List Lash} {�
       (end-solvable (e .works) (e .counted) levels, omega (arith, e .long), omega arith, omega (arith, e .long))
 
 -- a stack that is given, with lashes with which it fits
-module _ {t : Sheet} {pull : PullLimit} {k h ω vmax vmin : List ℕ} (given : StackGiven t pull k h ω vmax vmin) {g : Chosen}
+module _ {t : Sheet} {pull : PullLimit} {k h hs ω vmax vmin : List ℕ} (given : StackGiven t pull k h hs ω vmax vmin) {g : Chosen}
     (held : g ≡ heldOf (lashesIn g))
     (fits : Fits (withLashes (lashesIn g) t)) where
   abbrev with-them : Sheet
@@ -76,26 +74,26 @@ module _ {t : Sheet} {pull : PullLimit} {k h ω vmax vmin : List ℕ} (given : S
   counted : g .count ≡ length (lashesIn g)
   counted = ap (λ (x : Chosen). x .count) held
 
-  pub end-given : (e : End) → EndGiven (t .ntiers) (springs e) (tiersOf t) (g .count) (lashesIn g) (g .levels) ω vmax vmin
+  pub end-given : (e : End) → EndGiven (t .ntiers) (springs e) hs (g .count) (lashesIn g) (g .levels) ω vmax vmin
   end-given e =
       record {
         works = rw (springs-are e, same e) works;
         counted = sym counted;
         levelled = ap (λ (x : Chosen). x .levels) held;
-        long = (ap length (springs-are e) ∙ springs-long e (tiersOf t), given .long .0, given .long .1, given .long .2);
+        long = (ap length (springs-are e) ∙ springs-long e (tiersOf t), given .long .0, given .long .1, given .long .2, given .long .3);
       }
     where
-      works : Workable (t .ntiers) (springsOf e (tiersOf t)) (tiersOf t) (g .count) (lashesOf e with-them) ω vmax vmin
+      works : Workable (t .ntiers) (springsOf e (tiersOf t)) hs (g .count) (lashesOf e with-them) ω vmax vmin
       works =
-          workable (sheet-limits fits) e (loadRuleOf t) (g .count) ω vmax vmin (omega (arith, counted, fits .door .few)) (given .loaded)
-          (given .weighed)
+          workable (sheet-limits fits) e (loadRuleOf t) (g .count) hs ω vmax vmin (omega (arith, counted, fits .door .few)) (given .loaded)
+          (given .measured)
 
   pub given-measured : LashesMeasured (g .count) (lashesIn g) (g .lengths) (g .stiffnesses)
   given-measured =
       subst (λ (x : Chosen). LashesMeasured (x .count) (lashesIn g) (x .lengths) (x .stiffnesses)) (sym held)
       (held-measured (lashesIn g) few (λ j q. lash-wider (works .few) (works .each j q)))
     where
-      works : Workable (t .ntiers) (springs door) (tiersOf t) (g .count) (lashesIn g) ω vmax vmin
+      works : Workable (t .ntiers) (springs door) hs (g .count) (lashesIn g) ω vmax vmin
       works = end-given door .works
 
       few : length (lashesIn g) ≤ 8

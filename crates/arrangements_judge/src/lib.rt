@@ -1,8 +1,11 @@
 // Whether the check accepts a stack with the same lashes at both ends (document 02, P13). What does not depend on the lashes is given.
 
 ghost use mathlib.Core.Path.{_≡_};
+ghost use mathlib.Core.List.{List};
 ghost use lib.ListN.{take};
 ghost use Rattle.sheet.specs.Fits.{Fits};
+ghost use Rattle.sheet.specs.declared.Tier.{Tier};
+ghost use Rattle.figures_tiers.specs.inner.Loads.{TiersMeasured};
 ghost use Rattle.figures_lashes.specs.inner.Lashes.{LashesMeasured};
 ghost use Rattle.gear.specs.Gear.{withLashes};
 ghost use Rattle.chosen_lashes.specs.inner.Gathered.{heldOf};
@@ -13,13 +16,13 @@ use figures::figures_at;
 use limits::PullLimit;
 use sheet::Lash;
 use sheet::Sheet;
-use sheet::Tier;
 
-// Whether an end has no finding: n tiers with springs k, m lashes of these lengths and stiffnesses, whose sums by level are kappa.
+// Whether an end has no finding: n tiers with springs k, m lashes of these lengths and stiffnesses, whose sums by level are kappa. Of the
+// tiers only the heights are needed, as in figures_at.
 fn end_without_finding(
     n: usize,
     k: &[u64; 10],
-    tiers: [Tier; 10],
+    heights: &[u16; 10],
     lashes: [Lash; 8],
     m: usize,
     lengths: &[u64; 8],
@@ -30,9 +33,10 @@ fn end_without_finding(
     vmax: &[u64; 11],
     vmin: &[u64; 11],
 ) -> bool
-    requires { ⌜ EndGiven n (now k) (take n tiers) m (take m lashes) (now kappa) (now loads) (now vmax) (now vmin) ⌝ }
+    requires { ⌜ EndGiven n (now k) (now heights) m (take m lashes) (now kappa) (now loads) (now vmax) (now vmin) ⌝ }
     requires { ⌜ LashesMeasured m (take m lashes) (now lengths) (now stiffnesses) ⌝ }
-    ensures { λ r. ⌜ r ≡ noFinding n (now (k .entry)) (take n tiers) lashes m pull (now (loads .entry)) ⌝ }
+    ensures { λ r. ⌜ ((ts : List Tier) → TiersMeasured n ts (now (heights .entry)) (now (vmax .entry)) (now (vmin .entry))
+        → r ≡ noFinding n (now (k .entry)) ts lashes m pull (now (loads .entry))) ⌝ }
 {
     let d = springs_solve::solve(n, k, kappa, loads);
     let mut racking = [0i32; 10];
@@ -41,7 +45,7 @@ fn end_without_finding(
     figures_at(
         n,
         k,
-        tiers,
+        heights,
         lashes,
         m,
         lengths,
@@ -63,16 +67,16 @@ pub fn accepts(
     pull: PullLimit,
     k: &[u64; 10],
     h: &[u64; 10],
+    heights: &[u16; 10],
     loads: &[u64; 10],
     vmax: &[u64; 11],
     vmin: &[u64; 11],
 ) -> bool
-    requires { ⌜ StackGiven t pull (now k) (now h) (now loads) (now vmax) (now vmin) ⌝ }
+    requires { ⌜ StackGiven t pull (now k) (now h) (now heights) (now loads) (now vmax) (now vmin) ⌝ }
     requires { ⌜ (g ≡ heldOf (take (g .count) (g .lashes))) × Fits (withLashes (take (g .count) (g .lashes)) t) ⌝ }
     ensures { λ r. ⌜ r ≡ acceptedWith (take (g .count) (g .lashes)) t ⌝ }
 {
     let n = t.ntiers;
-    let tiers = t.tiers;
     let lashes = g.lashes;
     let m = g.count;
     let lengths = g.lengths;
@@ -81,7 +85,7 @@ pub fn accepts(
     if !end_without_finding(
         n,
         k,
-        tiers,
+        heights,
         lashes,
         m,
         &lengths,
@@ -97,7 +101,7 @@ pub fn accepts(
     end_without_finding(
         n,
         h,
-        tiers,
+        heights,
         lashes,
         m,
         &lengths,

@@ -41,11 +41,12 @@ fn judge(
     stiffnesses: &[u64; 8],
     k: &[u64; 10],
     h: &[u64; 10],
+    heights: &[u16; 10],
     loads: &[u64; 10],
     vmax: &[u64; 11],
     vmin: &[u64; 11],
 ) -> bool
-    requires { ⌜ StackGiven t pull (now k) (now h) (now loads) (now vmax) (now vmin) ⌝ }
+    requires { ⌜ StackGiven t pull (now k) (now h) (now heights) (now loads) (now vmax) (now vmin) ⌝ }
     requires { ⌜ GearGiven t m (take m lashes) (now lengths) (now stiffnesses) ⌝ }
     ensures { λ r. ⌜ r ≡ ltb choice all && acceptedWith (chosen choice (take m lashes)) t ⌝ }
 {
@@ -53,7 +54,7 @@ fn judge(
         return false;
     }
     let g = gather(choice, lashes, m, lengths, stiffnesses);
-    accepts(t, g, pull, k, h, loads, vmax, vmin)
+    accepts(t, g, pull, k, h, heights, loads, vmax, vmin)
 }
 
 // A choice's byte at `at` if it is accepted, and the place behind it.
@@ -79,12 +80,13 @@ pub fn put_choices(
     stiffnesses: &[u64; 8],
     k: &[u64; 10],
     h: &[u64; 10],
+    heights: &[u16; 10],
     loads: &[u64; 10],
     vmax: &[u64; 11],
     vmin: &[u64; 11],
     list: &mut [u8],
 ) -> usize
-    requires { ⌜ StackGiven t pull (now k) (now h) (now loads) (now vmax) (now vmin) ⌝ }
+    requires { ⌜ StackGiven t pull (now k) (now h) (now heights) (now loads) (now vmax) (now vmin) ⌝ }
     requires { ⌜ GearGiven t m (take m lashes) (now lengths) (now stiffnesses) × (258 ≤ length (now list)) ⌝ }
     ensures { λ r. ⌜ Wrote (now (list .entry)) 2 (acceptedChoices t (take m lashes) m) (now (list .exit)) r × (r ≤ 258) ⌝ }
 {
@@ -104,6 +106,7 @@ pub fn put_choices(
             stiffnesses,
             k,
             h,
+            heights,
             loads,
             vmax,
             vmin,

@@ -1,12 +1,12 @@
 -- The figures of an end, put together from the steps that compute them.
-use Prim.Native.Nat.{ℕ, suc, _^_, _<_, _≤_}
-use mathlib.Core.List.{List, [], map}
+use Prim.Native.Nat.{ℕ, zero, suc, _^_, _<_, _≤_}
+use mathlib.Core.List.{List, [], _∷_, map}
 use mathlib.Core.Path.{_≡_, refl, sym, ap, _∙_}
 use native.Mathlib.Omega.{arith}
 use lib.Dec.{lit≤}
-use lib.IntN.{ℤ, pos}
-use lib.ListN.{length, getD}
-use lib.Seq.{ext-getD}
+use lib.IntN.{ℤ, pos, _+ℤ_, _*ℤ_}
+use lib.ListN.{length, getD, List·getD-map, take, drop}
+use lib.Seq.{ext-getD, getD-take}
 use Rattle.sheet.specs.Layout.{blankLash, blankTier}
 use Rattle.sheet.proofs.Limits.{lash-wider}
 use Rattle.springs.specs.inner.Promise.{Solvable}
@@ -22,9 +22,9 @@ use Rattle.sheet.specs.Ends.{End, tiersOf, lashesOf}
 use Rattle.statics.specs.inner.WholeNumbers.{Filled, levelStiffness, leePart, windwardPart, rackingPart, rackingFigure}
 use Rattle.statics.specs.inner.WholeNumbers.{momentPart, compressionFigure, tensionFigure, pullFigure, athwartFigure, verticalFigure}
 use Rattle.statics.specs.inner.Computed.{springsOf, stiffnessesOf, figuresAt}
-use Rattle.figures_tiers.specs.inner.Loads.{Loaded, Weighed}
+use Rattle.figures_tiers.specs.inner.Loads.{Loaded, TiersMeasured}
 use Rattle.figures.specs.inner.Ends.{Workable, endFigures}
-use Rattle.figures_levels.specs.inner.Levels.{LevelInputs, LevelsFigured}
+use Rattle.figures_levels.specs.inner.Levels.{momentBy, LevelInputs, LevelsFigured}
 use Rattle.figures_lashes.specs.inner.Lashes.{LevelStiffnesses, LashesFigured, VerticalsOn}
 use Rattle.arith.specs.Lists.{below}
 use Rattle.arith.proofs.Arrays.{length-entries}
@@ -38,11 +38,22 @@ refilled :
     ((i : ℕ) → i < n → P i ≡ Q i) → Filled size blank n P r → Filled size blank n Q r
 refilled e f = record { long = f .long; each = λ i h. f .each i h ∙ e i h; rest = f .rest }
 
+-- the moment by the heights of the tiers is theirs
+drop-map : {A B : Type 0} (f : A → B) (l : List A) (j : ℕ) → drop j (map f l) ≡ map f (drop j l)
+drop-map f l zero = refl
+drop-map f [] (suc j) = refl
+drop-map f (x ∷ l) (suc j) = drop-map f l j
+
+moment-by : (k d : List ℕ) (ts : List Tier) (i : ℕ) → momentBy k d (map (λ t. t .height) ts) i ≡ momentPart k d ts i
+unfolding momentBy momentPart
+moment-by k d [] i = refl
+moment-by k d (t ∷ ts) i = ap (λ (z : ℤ). pos (t .height) *ℤ rackingPart (getD k i 0) d i +ℤ z) (moment-by k d ts (suc i))
+
 -- at shifts that are given, the loads do not matter
 pub without-loads :
-    {n : ℕ} {k : List ℕ} {ts : List Tier} {m : ℕ} {ls : List Lash} {ω vmax vmin : List ℕ} →
-    Workable n k ts m ls ω vmax vmin →
-    Workable n k ts m ls [] vmax vmin
+    {n : ℕ} {k heights : List ℕ} {m : ℕ} {ls : List Lash} {ω vmax vmin : List ℕ} →
+    Workable n k heights m ls ω vmax vmin →
+    Workable n k heights m ls [] vmax vmin
 without-loads h =
     record {
       few = h .few;
@@ -52,11 +63,12 @@ without-loads h =
       each = h .each;
       at-level = h .at-level;
       loaded = λ i q. lit≤ tt;
-      weighed = h .weighed;
+      vmax-light = h .vmax-light;
+      vmin-light = h .vmin-light;
     }
 
-module _ {n : ℕ} {k : List ℕ} {ts : List Tier} {m : ℕ} {ls : List Lash} {ω vmax vmin : List ℕ}
-    (h : Workable n k ts m ls ω vmax vmin) (counted : length ls ≡ m) where
+module _ {n : ℕ} {k heights : List ℕ} {m : ℕ} {ls : List Lash} {ω vmax vmin : List ℕ}
+    (h : Workable n k heights m ls ω vmax vmin) (counted : length ls ≡ m) where
   pub each-ten : (j : ℕ) → j < m → LashLimits 10 (getD ls j blankLash)
   each-ten j q = lash-wider (h .few) (h .each j (omega arith))
 
@@ -74,15 +86,15 @@ module _ {n : ℕ} {k : List ℕ} {ts : List Tier} {m : ℕ} {ls : List Lash} {�
       ((i : ℕ) → getD d i 0 ≤ 2 ^ 40) →
       VerticalsOn leePart ls d lee →
       VerticalsOn windwardPart ls d windward →
-      LevelInputs n k ts d vmax vmin lee windward
+      LevelInputs n k heights d vmax vmin lee windward
   end-measured far u v =
       record {
         few = h .few;
         springs = λ i q. h .springs i q .1;
         heights = h .heights;
         shifts = far;
-        vmax-light = h .weighed .most-light;
-        vmin-light = h .weighed .least-light;
+        vmax-light = h .vmax-light;
+        vmin-light = h .vmin-light;
         lee-small = u .small;
         windward-small = v .small;
         lee-long = u .long;
@@ -91,11 +103,12 @@ module _ {n : ℕ} {k : List ℕ} {ts : List Tier} {m : ℕ} {ls : List Lash} {�
 
   -- the figures put together are those of the definition
   pub end-named :
-      {d lash-tension athwart vertical lee windward : List ℕ} {racking : List ℤ} {compression tension : List ℕ} →
+      {ts : List Tier} {d lash-tension athwart vertical lee windward : List ℕ} {racking : List ℤ} {compression tension : List ℕ} →
       LashesFigured m ls d lash-tension athwart vertical →
       VerticalsOn leePart ls d lee →
       VerticalsOn windwardPart ls d windward →
-      LevelsFigured n k ts d vmax vmin lee windward racking compression tension →
+      LevelsFigured n k heights d vmax vmin lee windward racking compression tension →
+      TiersMeasured n ts heights vmax vmin →
       record {
         racking = racking;
         compression = compression;
@@ -105,15 +118,15 @@ module _ {n : ℕ} {k : List ℕ} {ts : List Tier} {m : ℕ} {ls : List Lash} {�
         vertical = vertical;
       }
       ≡ figuresAt n k ts ls d
-  unfolding figuresAt compressionFigure tensionFigure momentPart
-  end-named {d} {lash-tension} {athwart} {vertical} {lee} {windward} {racking} {compression} {tension} u x y l =
+  unfolding figuresAt compressionFigure tensionFigure
+  end-named {ts} {d} {lash-tension} {athwart} {vertical} {lee} {windward} {racking} {compression} {tension} u x y l w =
       rw (
         filled-padded (λ i. rackingFigure (rackingPart (getD k i 0) d i)) (pos 0) 10 n racking (h .few) (l .racking-is),
         filled-padded (compressionFigure k ts ls d) 0 11 (suc n) compression (omega (arith, h .few))
-            (refilled (λ i q. rw (h .weighed .vmax-is i, lees .pressing i (omega arith), windwards .pressing i (omega arith)) refl)
+            (refilled (λ i q. rw (w .vmax-is i, moment i, lees .pressing i (omega arith), windwards .pressing i (omega arith)) refl)
             (l .compression-is)),
         filled-padded (tensionFigure k ts ls d) 0 10 n tension (h .few)
-            (refilled (λ i q. rw (h .weighed .vmin-is i, lees .pulling i q, windwards .pulling i q) refl) (l .tension-is)),
+            (refilled (λ i q. rw (w .vmin-is i, moment i, lees .pulling i q, windwards .pulling i q) refl) (l .tension-is)),
         filled-padded (λ j. pullFigure d (getD ls j blankLash)) 0 8 (length ls) lash-tension (omega (arith, h .few-lashes))
             (rw counted (u .lash-tension-is)),
         filled-padded (λ j. athwartFigure d (getD ls j blankLash)) 0 8 (length ls) athwart (omega (arith, h .few-lashes))
@@ -122,6 +135,9 @@ module _ {n : ℕ} {k : List ℕ} {ts : List Tier} {m : ℕ} {ls : List Lash} {�
             (rw counted (u .vertical-is)),
       ) refl
     where
+      moment : (i : ℕ) → momentBy k d (drop i (take n heights)) i ≡ momentPart k d (drop i ts) i
+      moment i = rw (w .heights-are, drop-map (λ (t : Tier). t .height) ts i) (moment-by k d (drop i ts) i)
+
       lees : ByCorner leePart n d ls lee
       lees = by-corner leePart n d ls lee (omega (arith, h .few, x .long)) (record { at = h .each }) (x .each)
 
@@ -150,29 +166,33 @@ end-solved e t k κ ω long levels ed ef =
 
 -- an end's figures may be computed
 module _ {t : Sheet} (f : SheetLimits t) (e : End) where
-  pub each-lash : {m : ℕ} → length (lashesOf e t) ≡ m → (j : ℕ) → j < m → LashLimits 10 (getD (lashesOf e t) j blankLash)
-  each-lash counted j q = lash-wider (f .few) (f .ends e .each j (omega arith))
-
   pub workable :
-      (rule : LoadRule) (m : ℕ) (ω vmax vmin : List ℕ) →
+      (rule : LoadRule) (m : ℕ) (heights ω vmax vmin : List ℕ) →
       m ≤ 8 →
       Loaded rule (t .ntiers) (tiersOf t) ω →
-      Weighed (tiersOf t) vmax vmin →
-      Workable (t .ntiers) (springsOf e (tiersOf t)) (tiersOf t) m (lashesOf e t) ω vmax vmin
-  workable rule m ω vmax vmin few l v =
+      TiersMeasured (t .ntiers) (tiersOf t) heights vmax vmin →
+      Workable (t .ntiers) (springsOf e (tiersOf t)) heights m (lashesOf e t) ω vmax vmin
+  workable rule m heights ω vmax vmin few l v =
       record {
         few = f .few;
         springs = λ i h. rw (spring-at i h) (spring-least e (tier i), spring-most e (tier i));
-        heights = λ i h. f .each i h .height;
+        heights = λ i h. rw (height-at i h) (f .each i h .height);
         few-lashes = few;
         each = f .ends e .each;
         at-level = f .ends e .at-level;
         loaded = l .small;
-        weighed = v;
+        vmax-light = v .most-light;
+        vmin-light = v .least-light;
       }
     where
       tier : ℕ → Tier
       tier i = getD (tiersOf t) i blankTier
+
+      height-at : (i : ℕ) → i < t .ntiers → getD heights i 0 ≡ tier i .height
+      height-at i h =
+          sym (getD-take (t .ntiers) heights i 0 h)
+          ∙ ap (λ (l : List ℕ). getD l i 0) (v .heights-are)
+          ∙ List·getD-map (λ (t : Tier). t .height) (tiersOf t) i blankTier
 
       spring-at : (i : ℕ) → i < t .ntiers → getD (springsOf e (tiersOf t)) i 0 ≡ springOf e (tier i)
       spring-at i h = entry-at (λ i. springOf e (tier i)) 0 10 i (omega (arith, f .few))

@@ -1,14 +1,16 @@
 // Every reported force of a stack: rackings, posts and lashes of both ends.
 
 ghost use Prim.Native.Nat.{ℕ, _^_, _≤_};
-ghost use mathlib.Core.List.{[]};
+ghost use mathlib.Core.List.{List, []};
 ghost use mathlib.Core.Path.{_≡_};
 ghost use lib.IntN.{pos};
 ghost use lib.ListN.{getD, length, replicate, take};
 ghost use Rattle.sheet.specs.Ends.{door, closed, tiersOf, lashesOf};
 ghost use Rattle.sheet.specs.Fits.{Fits};
+ghost use Rattle.sheet.specs.declared.Tier.{Tier};
 ghost use Rattle.statics.specs.inner.Computed.{figuresAt, figuresBy};
 ghost use Rattle.statics.specs.inner.InArrays.{figuresIn, Lengths};
+ghost use Rattle.figures_tiers.specs.inner.Loads.{TiersMeasured};
 ghost use Rattle.figures_lashes.specs.inner.Lashes.{LashesMeasured, LevelStiffnesses};
 ghost use Rattle.figures.specs.inner.Ends.{Workable, endFigures};
 use figures_lashes::lash_figures;
@@ -17,19 +19,19 @@ use figures_levels::level_figures;
 use figures_tiers::loads_of;
 use sheet::Lash;
 use sheet::Sheet;
-use sheet::Tier;
 use springs_solve::solve_both;
 use statics::LoadRule;
 use tier_springs::CLOSED_SPRING;
 use tier_springs::DOOR_SPRING;
 use tier_springs::springs_of;
 
-// The figures of one end at the shifts d of its levels: n tiers with a spring for each, m lashes of these lengths and stiffnesses, and half
-// of the weights above the levels. The loads are in the shifts.
+// The figures of one end at the shifts d of its levels: n tiers with a spring and a height for each, m lashes of these lengths and
+// stiffnesses, and half of the weights above the levels. The loads are in the shifts. Tiers of the same heights and weights have the same
+// figures, so that the tiers need not be handed on.
 pub fn figures_at(
     n: usize,
     k: &[u64],
-    tiers: [Tier; 10],
+    heights: &[u16],
     lashes: [Lash; 8],
     m: usize,
     lengths: &[u64],
@@ -41,13 +43,15 @@ pub fn figures_at(
     levels: &mut [u64],
     forces: &mut [u64],
 )
-    requires { ⌜ Workable n (now k) (take n tiers) m (take m lashes) [] (now vmax) (now vmin) ⌝ }
-    requires { ⌜ (length (now k) ≡ 10) × (length (now d) ≡ 11) × (length (now vmax) ≡ 11) × (length (now vmin) ≡ 11) ⌝ }
+    requires { ⌜ Workable n (now k) (now heights) m (take m lashes) [] (now vmax) (now vmin) ⌝ }
+    requires { ⌜ (length (now k) ≡ 10) × (length (now heights) ≡ 10) × (length (now d) ≡ 11) × (length (now vmax) ≡ 11)
+        × (length (now vmin) ≡ 11) ⌝ }
     requires { ⌜ LashesMeasured m (take m lashes) (now lengths) (now stiffnesses) × ((i : ℕ) → getD (now d) i 0 ≤ 2 ^ 40) ⌝ }
     requires { ⌜ (length (now lengths) ≡ 8) × (length (now stiffnesses) ≡ 8) ⌝ }
     requires { ⌜ (now racking ≡ replicate 10 (pos 0)) × (now levels ≡ replicate 21 0) × (now forces ≡ replicate 24 0) ⌝ }
-    ensures { λ _. ⌜ (figuresIn (now (racking .exit)) (now (levels .exit)) (now (forces .exit))
-        ≡ figuresAt n (now (k .entry)) (take n tiers) (take m lashes) (now (d .entry)))
+    ensures { λ _. ⌜ ((ts : List Tier) → TiersMeasured n ts (now (heights .entry)) (now (vmax .entry)) (now (vmin .entry))
+        → figuresIn (now (racking .exit)) (now (levels .exit)) (now (forces .exit))
+        ≡ figuresAt n (now (k .entry)) ts (take m lashes) (now (d .entry)))
         × Lengths (now (racking .exit)) (now (levels .exit)) (now (forces .exit)) ⌝ }
 {
     let mut lee = [0u64; 22];
@@ -62,7 +66,18 @@ pub fn figures_at(
         &mut windward,
         forces,
     );
-    level_figures(n, k, tiers, d, vmax, vmin, &lee, &windward, racking, levels);
+    level_figures(
+        n,
+        k,
+        heights,
+        d,
+        vmax,
+        vmin,
+        &lee,
+        &windward,
+        racking,
+        levels,
+    );
 }
 
 // The figures of both ends, whose lashes are measured, under the loads that they share: springs k and stiffnesses kappa by level are the
@@ -71,6 +86,7 @@ fn figures_both(
     s: Sheet,
     k: &[u64],
     h: &[u64],
+    heights: &[u16],
     doorLengths: &[u64],
     doorStiffs: &[u64],
     closedLengths: &[u64],
@@ -87,13 +103,14 @@ fn figures_both(
     closedLevels: &mut [u64],
     closedForces: &mut [u64],
 )
-    requires { ⌜ Workable (s .ntiers) (now k) (tiersOf s) (s .ndoor) (lashesOf door s) (now loads) (now vmax) (now vmin) ⌝ }
-    requires { ⌜ Workable (s .ntiers) (now h) (tiersOf s) (s .nclosed) (lashesOf closed s) (now loads) (now vmax) (now vmin) ⌝ }
+    requires { ⌜ Workable (s .ntiers) (now k) (now heights) (s .ndoor) (lashesOf door s) (now loads) (now vmax) (now vmin) ⌝ }
+    requires { ⌜ Workable (s .ntiers) (now h) (now heights) (s .nclosed) (lashesOf closed s) (now loads) (now vmax) (now vmin) ⌝ }
     requires { ⌜ LashesMeasured (s .ndoor) (lashesOf door s) (now doorLengths) (now doorStiffs)
-        × LashesMeasured (s .nclosed) (lashesOf closed s) (now closedLengths) (now closedStiffs) ⌝ }
+        × LashesMeasured (s .nclosed) (lashesOf closed s) (now closedLengths) (now closedStiffs)
+        × TiersMeasured (s .ntiers) (tiersOf s) (now heights) (now vmax) (now vmin) ⌝ }
     requires { ⌜ LevelStiffnesses (lashesOf door s) (now kappa) × LevelStiffnesses (lashesOf closed s) (now eta) ⌝ }
     requires { ⌜ (length (now k) ≡ 10) × (length (now h) ≡ 10) × (length (now kappa) ≡ 10) × (length (now eta) ≡ 10)
-        × (length (now loads) ≡ 10) × (length (now vmax) ≡ 11) × (length (now vmin) ≡ 11) ⌝ }
+        × (length (now loads) ≡ 10) × (length (now vmax) ≡ 11) × (length (now vmin) ≡ 11) × (length (now heights) ≡ 10) ⌝ }
     requires { ⌜ (now doorRacking ≡ replicate 10 (pos 0)) × (now doorLevels ≡ replicate 21 0) × (now doorForces ≡ replicate 24 0) ⌝ }
     requires { ⌜ (now closedRacking ≡ replicate 10 (pos 0)) × (now closedLevels ≡ replicate 21 0) × (now closedForces ≡ replicate 24 0) ⌝ }
     ensures { λ _. ⌜ (figuresIn (now (doorRacking .exit)) (now (doorLevels .exit)) (now (doorForces .exit))
@@ -104,7 +121,6 @@ fn figures_both(
         × Lengths (now (closedRacking .exit)) (now (closedLevels .exit)) (now (closedForces .exit)) ⌝ }
 {
     let n = s.ntiers;
-    let tiers = s.tiers;
     let door = s.door;
     let closed = s.closed;
     let mut d = [0u64; 11];
@@ -113,7 +129,7 @@ fn figures_both(
     figures_at(
         n,
         k,
-        tiers,
+        heights,
         door,
         s.ndoor,
         doorLengths,
@@ -128,7 +144,7 @@ fn figures_both(
     figures_at(
         n,
         h,
-        tiers,
+        heights,
         closed,
         s.nclosed,
         closedLengths,
@@ -142,7 +158,71 @@ fn figures_both(
     );
 }
 
-// The figures of both ends, with what the loads go by. What has _h belongs to the closed end, whose springs are h.
+// The figures of both ends under loads that are found: here the lashes of each are measured. What has _h belongs to the closed end, whose
+// springs are h.
+fn figures_loaded(
+    s: Sheet,
+    k: &[u64],
+    h: &[u64],
+    heights: &[u16],
+    loads: &[u64],
+    vmax: &[u64],
+    vmin: &[u64],
+    doorRacking: &mut [i32],
+    doorLevels: &mut [u64],
+    doorForces: &mut [u64],
+    closedRacking: &mut [i32],
+    closedLevels: &mut [u64],
+    closedForces: &mut [u64],
+)
+    requires { ⌜ Workable (s .ntiers) (now k) (now heights) (s .ndoor) (lashesOf door s) (now loads) (now vmax) (now vmin) ⌝ }
+    requires { ⌜ Workable (s .ntiers) (now h) (now heights) (s .nclosed) (lashesOf closed s) (now loads) (now vmax) (now vmin) ⌝ }
+    requires { ⌜ TiersMeasured (s .ntiers) (tiersOf s) (now heights) (now vmax) (now vmin) ⌝ }
+    requires { ⌜ (length (now k) ≡ 10) × (length (now h) ≡ 10) × (length (now heights) ≡ 10) × (length (now loads) ≡ 10)
+        × (length (now vmax) ≡ 11) × (length (now vmin) ≡ 11) ⌝ }
+    requires { ⌜ (now doorRacking ≡ replicate 10 (pos 0)) × (now doorLevels ≡ replicate 21 0) × (now doorForces ≡ replicate 24 0) ⌝ }
+    requires { ⌜ (now closedRacking ≡ replicate 10 (pos 0)) × (now closedLevels ≡ replicate 21 0) × (now closedForces ≡ replicate 24 0) ⌝ }
+    ensures { λ _. ⌜ (figuresIn (now (doorRacking .exit)) (now (doorLevels .exit)) (now (doorForces .exit))
+        ≡ endFigures door s (now (k .entry)) (now (loads .entry)))
+        × Lengths (now (doorRacking .exit)) (now (doorLevels .exit)) (now (doorForces .exit)) ⌝ }
+    ensures { λ _. ⌜ (figuresIn (now (closedRacking .exit)) (now (closedLevels .exit)) (now (closedForces .exit))
+        ≡ endFigures closed s (now (h .entry)) (now (loads .entry)))
+        × Lengths (now (closedRacking .exit)) (now (closedLevels .exit)) (now (closedForces .exit)) ⌝ }
+{
+    let door = s.door;
+    let closed = s.closed;
+    let mut lengths = [0u64; 8];
+    let mut stiffs = [0u64; 8];
+    let mut kappa = [0u64; 10];
+    lash_stiffnesses(door, s.ndoor, &mut lengths, &mut stiffs, &mut kappa);
+    let mut lengths_h = [0u64; 8];
+    let mut stiffs_h = [0u64; 8];
+    let mut eta = [0u64; 10];
+    lash_stiffnesses(closed, s.nclosed, &mut lengths_h, &mut stiffs_h, &mut eta);
+    figures_both(
+        s,
+        k,
+        h,
+        heights,
+        &lengths,
+        &stiffs,
+        &lengths_h,
+        &stiffs_h,
+        &kappa,
+        &eta,
+        loads,
+        vmax,
+        vmin,
+        doorRacking,
+        doorLevels,
+        doorForces,
+        closedRacking,
+        closedLevels,
+        closedForces,
+    );
+}
+
+// The figures of both ends, with what the loads go by: here what does not depend on the lashes.
 pub fn figures_by(
     s: Sheet,
     rule: LoadRule,
@@ -165,33 +245,27 @@ pub fn figures_by(
 {
     let n = s.ntiers;
     let tiers = s.tiers;
-    let door = s.door;
-    let closed = s.closed;
     let mut loads = [0u64; 10];
     let mut vmax = [0u64; 11];
     let mut vmin = [0u64; 11];
-    loads_of(n, tiers, rule, &mut loads, &mut vmax, &mut vmin);
+    let mut heights = [0u16; 10];
+    loads_of(
+        n,
+        tiers,
+        rule,
+        &mut loads,
+        &mut vmax,
+        &mut vmin,
+        &mut heights,
+    );
     let mut k = [DOOR_SPRING; 10];
     let mut h = [CLOSED_SPRING; 10];
     springs_of(n, tiers, &mut k, &mut h);
-    let mut lengths = [0u64; 8];
-    let mut stiffs = [0u64; 8];
-    let mut kappa = [0u64; 10];
-    lash_stiffnesses(door, s.ndoor, &mut lengths, &mut stiffs, &mut kappa);
-    let mut lengths_h = [0u64; 8];
-    let mut stiffs_h = [0u64; 8];
-    let mut eta = [0u64; 10];
-    lash_stiffnesses(closed, s.nclosed, &mut lengths_h, &mut stiffs_h, &mut eta);
-    figures_both(
+    figures_loaded(
         s,
         &k,
         &h,
-        &lengths,
-        &stiffs,
-        &lengths_h,
-        &stiffs_h,
-        &kappa,
-        &eta,
+        &heights,
         &loads,
         &vmax,
         &vmin,

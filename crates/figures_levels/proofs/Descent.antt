@@ -5,15 +5,13 @@ use mathlib.Core.List.{List}
 use native.Mathlib.Omega.{arith}
 use lib.IntN.{ℤ, pos, _+ℤ_, _-ℤ_, _*ℤ_}
 use lib.ListN.{length, getD, set, take, drop, replicate, length-set}
-use lib.Seq.{drop-cons, drop-length, take-set-le, take-set-lt, drop-set-lt, drop-set-add}
+use lib.Seq.{take-set-le, take-set-lt, drop-set-lt, drop-set-add}
 use lib.Signed.{quotZ}
-use Rattle.sheet.specs.Layout.{blankTier}
 use Rattle.arith.specs.inner.Sizes.{Small}
 use Rattle.arith.proofs.Sizes.{small-weaken, small-add, small-pos}
-use Rattle.sheet.specs.declared.Tier.{Tier}
 use Rattle.springs.specs.Equations.{closedSpring}
-use Rattle.statics.specs.inner.WholeNumbers.{rackingPart, rackingFigure, momentPart, compressionFrom, tensionFrom}
-use Rattle.figures_levels.specs.inner.Levels.{total, LevelInputs, compressionAt, tensionAt, LevelsFigured}
+use Rattle.statics.specs.inner.WholeNumbers.{rackingPart, rackingFigure, compressionFrom, tensionFrom}
+use Rattle.figures_levels.specs.inner.Levels.{total, momentBy, LevelInputs, compressionAt, tensionAt, LevelsFigured}
 use Rattle.statics.proofs.Arrays.{Between, between-none, fill-below, fill-above, filled, peel, peeled-off}
 use Rattle.figures_posts.proofs.LevelLaws.{tier-moment-small, racking-small}
 
@@ -30,17 +28,18 @@ total-top : (v : List ℕ) (n : ℕ) → suc n ≤ length v → getD v n 0 ≡ t
 total-top v n room = omega (arith, total-peel v (suc n) n (omega arith) room, total-off v (suc n) room)
 
 -- moments: none at the top, and one tier more
-moment-off : (k d : List ℕ) (ts : List Tier) (n : ℕ) → length ts ≡ n → momentPart k d (drop n ts) n ≡ pos 0
-unfolding momentPart
-moment-off k d ts n e = rw (← e, drop-length ts) refl
+moment-off : (k d hs : List ℕ) (n : ℕ) → n ≤ length hs → momentBy k d (drop n (take n hs)) n ≡ pos 0
+unfolding momentBy
+moment-off k d hs n room = rw (peeled-off hs n room) refl
 
 moment-peel :
-    (k d : List ℕ) (ts : List Tier) (j : ℕ) →
-    j < length ts →
-    momentPart k d (drop j ts) j
-    ≡ pos (getD ts j blankTier .height) *ℤ rackingPart (getD k j 0) d j +ℤ momentPart k d (drop (suc j) ts) (suc j)
-unfolding momentPart
-moment-peel k d ts j h = rw (drop-cons ts j blankTier h) refl
+    (k d hs : List ℕ) (n j : ℕ) →
+    j < n →
+    n ≤ length hs →
+    momentBy k d (drop j (take n hs)) j
+    ≡ pos (getD hs j 0) *ℤ rackingPart (getD k j 0) d j +ℤ momentBy k d (drop (suc j) (take n hs)) (suc j)
+unfolding momentBy
+moment-peel k d hs n j h room = rw (peel hs n j 0 h room) refl
 
 part-small :
     (k d : List ℕ) (j : ℕ) →
@@ -71,29 +70,29 @@ module _ (levels : List ℕ) {j : ℕ} (h : j < 11) (compression tension : ℕ) 
   tensions-set = rw (drop-set-add 11 (set levels j compression) j tension, drop-set-lt 11 levels j compression h) refl
 
 pub record FiguredFrom
-    (n : ℕ) (k : List ℕ) (ts : List Tier) (d vmax vmin lee windward : List ℕ)
+    (n : ℕ) (k hs d vmax vmin lee windward : List ℕ)
     (racking : List ℤ) (levels : List ℕ) (moment : ℤ) (lees windwards i : ℕ) : Type 0 where
   pub within : i ≤ n
   pub racked : Between (pos 0) (λ j x. x ≡ rackingFigure (rackingPart (getD k j 0) d j)) 10 i n racking
-  pub pressed : Between 0 (λ j x. x ≡ compressionAt n k ts d vmax vmin lee windward j) 11 i (suc n) (take 11 levels)
-  pub tensed : Between 0 (λ j x. x ≡ tensionAt n k ts d vmax vmin lee windward j) 10 i n (drop 11 levels)
+  pub pressed : Between 0 (λ j x. x ≡ compressionAt n k hs d vmax vmin lee windward j) 11 i (suc n) (take 11 levels)
+  pub tensed : Between 0 (λ j x. x ≡ tensionAt n k hs d vmax vmin lee windward j) 10 i n (drop 11 levels)
   pub levels-long : length levels ≡ 21
-  pub moment-is : moment ≡ momentPart k d (drop i ts) i
+  pub moment-is : moment ≡ momentBy k d (drop i (take n hs)) i
   pub lees-are : lees ≡ from-corner n lee (2 * i)
   pub windwards-are : windwards ≡ from-corner n windward (2 * i)
   pub moment-small : Small ((n - i) * most-turn) moment
   pub lees-small : lees ≤ suc (2 * (n - i)) * 2 ^ 57
   pub windwards-small : windwards ≤ suc (2 * (n - i)) * 2 ^ 57
 
-module _ {n : ℕ} {k : List ℕ} {ts : List Tier} {d vmax vmin lee windward : List ℕ}
-    (m : LevelInputs n k ts d vmax vmin lee windward) (stacked : length ts ≡ n) where
+module _ {n : ℕ} {k hs d vmax vmin lee windward : List ℕ}
+    (m : LevelInputs n k hs d vmax vmin lee windward) (stacked : n ≤ length hs) where
   pub at-top :
       {v : ℕ} →
       v ≡ compressionFrom (getD vmax n 0) (pos 0) (getD lee (2 * n) 0) (getD windward (2 * n) 0) →
       FiguredFrom
       n
       k
-      ts
+      hs
       d
       vmax
       vmin
@@ -107,7 +106,7 @@ module _ {n : ℕ} {k : List ℕ} {ts : List Tier} {d vmax vmin lee windward : L
       n
   at-top {v} e =
       let low : n < 11 = omega (arith, m .few) in
-      let no-moment = moment-off k d ts n stacked in
+      let no-moment = moment-off k d hs n stacked in
       let top-lee = total-top lee (2 * n) (omega (arith, m .few, m .lee-long)) in
       let top-windward = total-top windward (2 * n) (omega (arith, m .few, m .windward-long)) in
       record {
@@ -153,9 +152,9 @@ module _ {n : ℕ} {k : List ℕ} {ts : List Tier} {d vmax vmin lee windward : L
     -- lee post and on the windward one, tl and tw those of the top hooks
     to-under :
         {j : ℕ} {p : ℤ} {h : ℕ} {r : ℤ} {bl bw tl tw compression tension : ℕ} {moment′ : ℤ} {lees′ windwards′ : ℕ} →
-        FiguredFrom n k ts d vmax vmin lee windward racking levels moment lees windwards (suc j) →
+        FiguredFrom n k hs d vmax vmin lee windward racking levels moment lees windwards (suc j) →
         p ≡ rackingPart (getD k j 0) d j →
-        h ≡ getD ts j blankTier .height →
+        h ≡ getD hs j 0 →
         r ≡ rackingFigure p →
         bl ≡ getD lee (2 * j + 1) 0 →
         bw ≡ getD windward (2 * j + 1) 0 →
@@ -169,7 +168,7 @@ module _ {n : ℕ} {k : List ℕ} {ts : List Tier} {d vmax vmin lee windward : L
         FiguredFrom
         n
         k
-        ts
+        hs
         d
         vmax
         vmin
@@ -205,9 +204,9 @@ module _ {n : ℕ} {k : List ℕ} {ts : List Tier} {d vmax vmin lee windward : L
         low : j < 11
         low = omega (arith, m .few, s .within)
 
-        moment-under : pos h *ℤ p +ℤ moment ≡ momentPart k d (drop j ts) j
+        moment-under : pos h *ℤ p +ℤ moment ≡ momentBy k d (drop j (take n hs)) j
         moment-under =
-            rw (ep, eh, s .moment-is) (sym (moment-peel k d ts j (omega (arith, s .within))))
+            rw (ep, eh, s .moment-is) (sym (moment-peel k d hs n j (s .within) stacked))
 
         lee-under : Both lee lees bl tl j
         lee-under = both lee (s .within) (omega (arith, m .few, m .lee-long)) (s .lees-are) ebl etl
@@ -224,9 +223,9 @@ module _ {n : ℕ} {k : List ℕ} {ts : List Tier} {d vmax vmin lee windward : L
     pub turned-once :
         {i : ℕ} {p : ℤ} {h : ℕ} {r : ℤ} {bl bw tl tw compression tension : ℕ} {moment′ : ℤ} {lees′ windwards′ : ℕ} →
         0 < i →
-        FiguredFrom n k ts d vmax vmin lee windward racking levels moment lees windwards i →
+        FiguredFrom n k hs d vmax vmin lee windward racking levels moment lees windwards i →
         p ≡ quotZ (pos (getD k (i - 1) 0 * getD d i 0) -ℤ pos (getD k (i - 1) 0 * getD d (i - 1) 0)) (pos 1024) →
-        h ≡ getD ts (i - 1) blankTier .height →
+        h ≡ getD hs (i - 1) 0 →
         r ≡ rackingFigure p →
         bl ≡ getD lee (2 * (i - 1) + 1) 0 →
         bw ≡ getD windward (2 * (i - 1) + 1) 0 →
@@ -240,7 +239,7 @@ module _ {n : ℕ} {k : List ℕ} {ts : List Tier} {d vmax vmin lee windward : L
         FiguredFrom
         n
         k
-        ts
+        hs
         d
         vmax
         vmin
@@ -256,15 +255,15 @@ module _ {n : ℕ} {k : List ℕ} {ts : List Tier} {d vmax vmin lee windward : L
     turned-once {i} up s ep =
         let e : i ≡ suc (i - 1) = omega arith in
         to-under
-        (subst (λ (z : ℕ). FiguredFrom n k ts d vmax vmin lee windward racking levels moment lees windwards z) e s)
+        (subst (λ (z : ℕ). FiguredFrom n k hs d vmax vmin lee windward racking levels moment lees windwards z) e s)
         (ep ∙ ap (λ (z : ℕ). quotZ (pos (getD k (i - 1) 0 * getD d z 0) -ℤ pos (getD k (i - 1) 0 * getD d (i - 1) 0)) (pos 1024)) e)
 
     pub at-foot :
         {i : ℕ} →
         i ≤ 0 →
-        FiguredFrom n k ts d vmax vmin lee windward racking levels moment lees windwards i →
-        LevelsFigured n k ts d vmax vmin lee windward racking (take 11 levels) (drop 11 levels)
+        FiguredFrom n k hs d vmax vmin lee windward racking levels moment lees windwards i →
+        LevelsFigured n k hs d vmax vmin lee windward racking (take 11 levels) (drop 11 levels)
     at-foot {i} h s =
         let e : i ≡ 0 = omega arith in
-        let f = subst (λ (z : ℕ). FiguredFrom n k ts d vmax vmin lee windward racking levels moment lees windwards z) e s in
+        let f = subst (λ (z : ℕ). FiguredFrom n k hs d vmax vmin lee windward racking levels moment lees windwards z) e s in
         record { racking-is = filled (f .racked); compression-is = filled (f .pressed); tension-is = filled (f .tensed) }

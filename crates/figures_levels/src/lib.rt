@@ -10,7 +10,6 @@ use figures_posts::racking_figure;
 use figures_posts::racking_part;
 use figures_under::Above;
 use figures_under::level_under;
-use sheet::Tier;
 use statics::PostParts;
 
 // The vertical parts at a corner.
@@ -29,7 +28,7 @@ fn parts_at(lee: &[u64], windward: &[u64], corner: usize) -> PostParts
 pub fn level_figures(
     n: usize,
     k: &[u64],
-    tiers: [Tier; 10],
+    heights: &[u16],
     d: &[u64],
     vmax: &[u64],
     vmin: &[u64],
@@ -38,10 +37,11 @@ pub fn level_figures(
     racking: &mut [i32],
     levels: &mut [u64],
 )
-    requires { ⌜ LevelInputs n (now k) (take n tiers) (now d) (now vmax) (now vmin) (now lee) (now windward) ⌝ }
-    requires { ⌜ (length (now k) ≡ 10) × (length (now d) ≡ 11) × (length (now vmax) ≡ 11) × (length (now vmin) ≡ 11) ⌝ }
+    requires { ⌜ LevelInputs n (now k) (now heights) (now d) (now vmax) (now vmin) (now lee) (now windward) ⌝ }
+    requires { ⌜ (length (now k) ≡ 10) × (length (now heights) ≡ 10) × (length (now d) ≡ 11) × (length (now vmax) ≡ 11)
+        × (length (now vmin) ≡ 11) ⌝ }
     requires { ⌜ (now racking ≡ replicate 10 (pos 0)) × (now levels ≡ replicate 21 0) ⌝ }
-    ensures { λ _. ⌜ LevelsFigured n (now (k .entry)) (take n tiers) (now (d .entry)) (now (vmax .entry)) (now (vmin .entry))
+    ensures { λ _. ⌜ LevelsFigured n (now (k .entry)) (now (heights .entry)) (now (d .entry)) (now (vmax .entry)) (now (vmin .entry))
         (now (lee .entry)) (now (windward .entry)) (now (racking .exit)) (take 11 (now (levels .exit))) (drop 11 (now (levels .exit))) ⌝ }
     ensures { λ _. ⌜ (length (now (racking .exit)) ≡ 10) × (length (now (levels .exit)) ≡ 21) ⌝ }
 {
@@ -55,11 +55,10 @@ pub fn level_figures(
     while 0 < i {
         let upper = d[i];
         i -= 1;
-        let t = tiers[i];
         let part = racking_part(k[i], upper, d[i]);
         let bottom = parts_at(lee, windward, 2 * i + 1);
         let top = parts_at(lee, windward, 2 * i);
-        let l = level_under(above, part, t.height, bottom, top, vmax[i], vmin[i]);
+        let l = level_under(above, part, heights[i], bottom, top, vmax[i], vmin[i]);
         let force = racking_figure(part);
         racking[i] = force;
         levels[i] = l.compression;

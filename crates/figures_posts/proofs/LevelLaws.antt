@@ -14,7 +14,8 @@ use Rattle.arith.proofs.Sizes.{small-weaken, small-pos, small-add, small-sub, s
 use Rattle.springs.specs.Equations.{closedSpring}
 use Rattle.statics.specs.Posts.{postSpacing}
 use Rattle.statics.specs.inner.WholeNumbers.{rackingPad, rackingFigure, postPad, notBelow, postFigure}
-use Rattle.figures_posts.specs.inner.Posts.{greaterOf}
+use Rattle.statics.specs.declared.PostParts.{PostParts}
+use Rattle.figures_posts.specs.inner.Posts.{greaterOf, leeOf, windwardOf}
 use Rattle.figures_posts.proofs.Words.{not-below, small-quot}
 
 -- a racking
@@ -124,3 +125,34 @@ unfolding postFigure
 post-rounded x y =
     cut-off (greaterOf x y +ℤ pos postPad) (2 ^ 18) (lit< tt)
     ∙ ap (λ (n : ℕ). roundedUp n (2 ^ 18)) (greater-padded x y postPad)
+
+-- from 0 on there is nothing to cut off
+pub pressed-rounded :
+    (x y : ℤ) →
+    greaterOf x y ≡ pos (natAbs (greaterOf x y)) →
+    roundedUpZ (greaterOf x y +ℤ pos postPad) (2 ^ 18) ≡ pos (postFigure x y)
+unfolding roundedUpZ
+pressed-rounded x y e =
+    let z : roundedUpZ (greaterOf x y +ℤ pos postPad) (2 ^ 18) ≡ pos (roundedUp (natAbs (greaterOf x y) + postPad) (2 ^ 18)) =
+    ap (λ (g : ℤ). roundedUpZ (g +ℤ pos postPad) (2 ^ 18)) e in
+    z ∙ ap pos (sym (ap notBelow z) ∙ post-rounded x y)
+
+-- of the two posts of a level the moment presses one down
+either : (k m : ℕ) (less : Bool) → cond less (pos m) (pos k) ≡ pos (natAbs (cond less (pos m) (pos k)))
+either k m true = refl
+either k m false = refl
+
+first-pressed : (k : ℕ) (y : ℤ) → greaterOf (pos k) y ≡ pos (natAbs (greaterOf (pos k) y))
+first-pressed k (pos m) = either k m (ltb k m)
+first-pressed k (negsuc m) = refl
+
+second-pressed : (x : ℤ) (k : ℕ) → greaterOf x (pos k) ≡ pos (natAbs (greaterOf x (pos k)))
+second-pressed (pos m) k = either m k (ltb m k)
+second-pressed (negsuc m) k = refl
+
+pub one-pressed :
+    (weight : ℕ) (couple : ℤ) (parts : PostParts) →
+    greaterOf (leeOf weight couple parts) (windwardOf weight couple parts)
+    ≡ pos (natAbs (greaterOf (leeOf weight couple parts) (windwardOf weight couple parts)))
+one-pressed weight (pos n) parts = first-pressed (weight + n + parts .lee) (windwardOf weight (pos n) parts)
+one-pressed weight (negsuc n) parts = second-pressed (leeOf weight (negsuc n) parts) (weight + suc n + parts .windward)

@@ -93,6 +93,14 @@ fn post_figure(x: i64, y: i64) -> u64
     not_below(newtons_up(greater(x, y) + POST_PAD))
 }
 
+// The same of two sums of which one is not below 0: there is nothing to cut off.
+fn pressed_figure(x: i64, y: i64) -> u64
+    requires { ⌜ Small (3 * 2 ^ 61) x × Small (3 * 2 ^ 61) y × (greaterOf x y ≡ pos (natAbs (greaterOf x y))) ⌝ }
+    ensures { λ r. ⌜ r ≡ postFigure x y ⌝ }
+{
+    newtons_up(greater(x, y) + POST_PAD) as u64
+}
+
 // The sum of a post: half the weight above, what the moment adds, and the vertical parts.
 fn post_sum(weight: u64, couple: i64, vertical: u64) -> i64
     requires { ⌜ (weight ≤ 2 ^ 40) × Small (2 ^ 50) couple × (vertical ≤ 2 ^ 62) ⌝ }
@@ -101,12 +109,13 @@ fn post_sum(weight: u64, couple: i64, vertical: u64) -> i64
     (weight as i64) + couple + (vertical as i64)
 }
 
-// Compression at a level, from half the weight above it, the moment over the post spacing, and the vertical parts on the posts.
+// Compression at a level, from half the weight above it, the moment over the post spacing, and the vertical parts on the posts. The moment
+// presses one of them.
 pub fn compression_of(weight: u64, couple: i64, parts: PostParts) -> u64
     requires { ⌜ (weight ≤ 2 ^ 40) × Small (2 ^ 50) couple × (parts .lee ≤ 2 ^ 62) × (parts .windward ≤ 2 ^ 62) ⌝ }
     ensures { λ r. ⌜ r ≡ postFigure (leeOf weight couple parts) (windwardOf weight couple parts) ⌝ }
 {
-    post_figure(
+    pressed_figure(
         post_sum(weight, couple, parts.lee),
         post_sum(weight, negative(couple), parts.windward),
     )

@@ -1,18 +1,18 @@
--- Loads on the levels and weights above them: ranges, and the loops over the tiers from the top down.
+-- Loads on the levels, weights above them and heights: ranges, and the loops over the tiers from the top down.
 use Prim.Native.Nat.{ℕ, suc, _+_, _*_, _-_, _/_, _^_, _<_, _≤_}
-use mathlib.Core.Path.{_≡_, refl, sym, ap, subst}
-use mathlib.Core.List.{List}
+use mathlib.Core.Path.{_≡_, refl, sym, ap, subst, _∙_}
+use mathlib.Core.List.{List, _∷_, map}
 use native.Mathlib.Nat.{mul-le-mul, mul-le-mul-left}
 use native.Mathlib.Decide.{decLt}
 use native.Mathlib.Omega.{arith}
-use lib.ListN.{length, getD, set, drop, replicate, List·getD-eq-default, drop-of-length-le}
-use lib.Seq.{drop-cons}
+use lib.ListN.{length, length-set, getD, set, take, drop, replicate, List·getD-eq-default, drop-of-length-le}
+use lib.Seq.{drop-cons, drop-set-lt, getD-set-same, take-set-lt}
 use Rattle.sheet.specs.Layout.{blankTier}
 use Rattle.sheet.specs.declared.Tier.{Tier}
 use Rattle.statics.specs.inner.WholeNumbers.{transverseUnits, windUnits, levelLoad, verticalUnits, halfWeight}
 use Rattle.statics.specs.declared.LoadRule.{LoadRule}
 use Rattle.statics.specs.inner.Computed.{loadsOf}
-use Rattle.statics.proofs.Arrays.{filled-padded, Between, between-none, fill-below}
+use Rattle.statics.proofs.Arrays.{filled-padded, Between, between-none, fill-below, peel, peeled-off}
 
 -- a share of one tier's transverseUnits and the rest of the other's
 module _ {share factor p q : ℕ} (hs : share ≤ 20) (hf : factor ≤ 1000) (hp : p ≤ 30480 * 1500) (hq : q ≤ 30480 * 1500) where
@@ -166,3 +166,49 @@ module _ {acceleration : Tier → ℕ} {n : ℕ} {ts : List Tier} (stacked : len
         | yes q ↦ s .weighed .each j (omega arith) q
         | no ne ↦ rw (s .weighed .rest j (omega arith), units-off acceleration ts j (omega arith)) (refl, omega arith)
       ]
+
+abbrev Stored : ℕ → List Tier → List ℕ → ℕ → Type 0
+Stored n ts heights i = drop i (take n heights) ≡ map (λ t. t .height) (drop i ts)
+
+-- the heights of the tiers from number i on
+pub record HeightsDown (n : ℕ) (ts : List Tier) (heights : List ℕ) (i : ℕ) : Type 0 where
+  pub long : length heights ≡ 10
+  pub stored : Stored n ts heights i
+
+pub heights-all :
+    {n : ℕ} {ts : List Tier} {heights : List ℕ} {i : ℕ} →
+    i ≤ 0 → HeightsDown n ts heights i → take n heights ≡ map (λ t. t .height) ts
+heights-all {n} {ts} {heights} {i} h s = subst (Stored n ts heights) {x = i} {y = 0} (omega arith) (s .stored)
+
+module _ {n : ℕ} {ts : List Tier} {heights : List ℕ} (stacked : length ts ≡ n) (few : n ≤ 10) where
+  pub heights-none : length heights ≡ 10 → HeightsDown n ts heights n
+  heights-none long =
+      record {
+        long = long;
+        stored = rw (peeled-off heights n (omega arith), drop-of-length-le ts {i = n} (omega arith)) refl;
+      }
+
+  pub heights-more :
+      {i h : ℕ} →
+      0 < i →
+      i ≤ n →
+      HeightsDown n ts heights i →
+      h ≡ getD ts (i - 1) blankTier .height →
+      HeightsDown n ts (set heights (i - 1) h) (i - 1)
+  heights-more {i} {h} up within s e =
+      record { long = long; stored = rw (own, drop-cons ts (i - 1) blankTier (omega arith), above, e) refl }
+    where
+      long : length (set heights (i - 1) h) ≡ 10
+      long = length-set heights (i - 1) h ∙ s .long
+
+      above : Stored n ts heights (suc (i - 1))
+      above = subst (Stored n ts heights) {x = i} {y = suc (i - 1)} (omega arith) (s .stored)
+
+      own : drop (i - 1) (take n (set heights (i - 1) h)) ≡ h ∷ drop (suc (i - 1)) (take n heights)
+      own =
+          rw (
+            peel (set heights (i - 1) h) n (i - 1) 0 (omega arith) (omega (arith, long)),
+            getD-set-same heights (i - 1) h 0 (omega (arith, s .long)),
+            take-set-lt n heights (i - 1) h (omega arith),
+            drop-set-lt (suc (i - 1)) (take n heights) (i - 1) h (omega arith),
+          ) refl

@@ -1,13 +1,14 @@
-// The load on each level and half of the weight above it: the same for both ends. Scales are those of statics/specs/inner/WholeNumbers.
+// The load on each level, half of the weight above it, and the heights: the same for both ends. Scales are those of
+// statics/specs/inner/WholeNumbers.
 
 ghost use mathlib.Core.Path.{_≡_};
 ghost use Prim.Native.Nat.{ℕ, _+_, _*_, _-_, _/_, _<_, _≤_, _^_};
-ghost use lib.ListN.{take, getD, replicate};
+ghost use lib.ListN.{length, take, getD, replicate};
 ghost use Rattle.sheet.specs.Layout.{blankTier};
 ghost use Rattle.sheet.specs.inner.Limits.{TierLimits};
 ghost use Rattle.statics.specs.inner.WholeNumbers.{transverseUnits, windUnits};
 ghost use Rattle.statics.specs.Loads.{boxLength};
-ghost use Rattle.figures_tiers.specs.inner.Loads.{Loaded, Weighed};
+ghost use Rattle.figures_tiers.specs.inner.Loads.{Loaded, TiersMeasured};
 use arith::rounding::scaled;
 use sheet::Tier;
 use statics::LoadRule;
@@ -90,7 +91,7 @@ fn half_weight(units: u64) -> u64
     981 * units * NEWTON / 400000
 }
 
-// The loads on levels 1 to n, and half of V above levels 0 to n, with A_Vmax and with A_Vmin.
+// The loads on levels 1 to n; half of V above levels 0 to n, with A_Vmax and with A_Vmin; and the heights of the tiers.
 pub fn loads_of(
     n: usize,
     tiers: [Tier; 10],
@@ -98,11 +99,14 @@ pub fn loads_of(
     loads: &mut [u64],
     vmax: &mut [u64],
     vmin: &mut [u64],
+    heights: &mut [u16],
 )
     requires { ⌜ (n ≤ 10) × (rule .share ≤ 20) × (rule .factor ≤ 1000) ⌝ }
     requires { ⌜ ((i : ℕ) → i < n → TierLimits (getD (take n tiers) i blankTier)) ⌝ }
-    requires { ⌜ (now loads ≡ replicate 10 0) × (now vmax ≡ replicate 11 0) × (now vmin ≡ replicate 11 0) ⌝ }
-    ensures { λ _. ⌜ Loaded rule n (take n tiers) (now (loads .exit)) × Weighed (take n tiers) (now (vmax .exit)) (now (vmin .exit)) ⌝ }
+    requires { ⌜ (now loads ≡ replicate 10 0) × (now vmax ≡ replicate 11 0) × (now vmin ≡ replicate 11 0)
+        × (length (now heights) ≡ 10) ⌝ }
+    ensures { λ _. ⌜ Loaded rule n (take n tiers) (now (loads .exit))
+        × TiersMeasured n (take n tiers) (now (heights .exit)) (now (vmax .exit)) (now (vmin .exit)) ⌝ }
 {
     let mut over = TierLoad {
         transverse: 0,
@@ -121,5 +125,6 @@ pub fn loads_of(
         vmin_units += mass_by(t.mass, t.aVmin);
         vmax[i] = half_weight(vmax_units);
         vmin[i] = half_weight(vmin_units);
+        heights[i] = t.height;
     }
 }

@@ -6,18 +6,18 @@ use Rattle.arrangements_judge.proofs.accepts.Tie as tie
 
 -- from the door end to the start
 abbrev start : tie.After-end-without-finding → tie.Start
-start c = c .before .before .before .before .before .before .before .before .before
+start c = c .before .before .before .before .before .before .before .before
 
 end-without-finding-requires : tie.Need-end-without-finding-requires
 end-without-finding-requires c κs =
-    let p = c .before .before .before .before .before .before .before .before .pre in
+    let p = c .before .before .before .before .before .before .before .pre in
     (end-given (p .0) (p .1 .0) (p .1 .1) door, given-measured (p .0) (p .1 .0) (p .1 .1))
 
 returns : tie.Need-returns
 returns c =
     let d = c .before in
     let p = start d .pre in
-    door-found (p .0) (p .1 .0) (p .1 .1) (d .end-without-finding .ensures) (c .if1 .taken)
+    door-found (p .0) (p .1 .0) (p .1 .1) (d .end-without-finding .ensures _ (p .0 .measured)) (c .if1 .taken)
 
 end-without-finding-requires-2 : tie.Need-end-without-finding-requires-2
 end-without-finding-requires-2 c κs =
@@ -29,7 +29,8 @@ returns-2 c =
     let e = c .before .before .before .before in
     let d = e .before in
     let p = start d .pre in
-    door-clear (p .0) (p .1 .0) (p .1 .1) (d .end-without-finding .ensures) (e .if1 .left) (c .end-without-finding2 .ensures)
+    door-clear (p .0) (p .1 .0) (p .1 .1) (d .end-without-finding .ensures _ (p .0 .measured)) (e .if1 .left)
+    (c .end-without-finding2 .ensures _ (p .0 .measured))
 
 pub accepts-spec : {M : Type 1} → statement M
 accepts-spec =

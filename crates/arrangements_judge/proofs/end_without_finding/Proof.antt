@@ -18,7 +18,7 @@ abbrev entered : tie.After-solve → tie.Start
 entered c = c .before .before .before .before
 
 abbrev shifts : tie.After-figures-at → tie.After-solve
-shifts c = c .before .before .before .before .before .before .before .before .before .before
+shifts c = c .before .before .before .before .before .before .before .before .before .before .before
 
 solve-requires : tie.Need-solve-requires
 solve-requires c κs = given-solvable (c .before .before .before .pre .0)
@@ -37,13 +37,13 @@ slice-aggregate-figures-at-4 c = search needs
 
 figures-at-requires : tie.Need-figures-at-requires
 figures-at-requires c κs =
-    let s = c .before .before .before .before .before .before .before .before .before in
+    let s = c .before .before .before .before .before .before .before .before .before .before in
     let p = entered s .pre in
     let e = p .0 in
     let l = p .1 in (
       without-loads (e .works),
       (
-        (e .long .0, s .solve .ok .1 .0 .1, e .long .2, e .long .3),
+        (e .long .0, e .long .1, s .solve .ok .1 .0 .1, e .long .3, e .long .4),
         ((l, s .solve .ensures .0 .far), ((l .long .long, l .stiff .long), (refl, refl, refl))),
       ),
     )
@@ -71,10 +71,10 @@ returns c =
     let a = b .args in
     let κ = ap (λ (κ : List ℕ). solved (a .n) (a .k .now) κ (a .loads .now)) (b .pre .0 .levelled) in
     let d = s .solve .ensures .1 ∙ κ in
-    c .no-finding .ensures
+    λ ts w. c .no-finding .ensures
     ∙ ap (λ (f : EndFigures). noneFound (a .n) (a .pull) (a .lashes) (a .m) f)
-    (f .figures-at .ensures .0
-    ∙ ap (λ (d : List ℕ). figuresAt (a .n) (a .k .now) (take (a .n) (a .tiers)) (take (a .m) (a .lashes)) d) d)
+    (f .figures-at .ensures .0 ts w
+    ∙ ap (λ (d : List ℕ). figuresAt (a .n) (a .k .now) ts (take (a .m) (a .lashes)) d) d)
 
 pub end-without-finding-spec : {M : Type 1} → statement M
 end-without-finding-spec =

@@ -11,7 +11,7 @@ use Rattle.sheet.specs.declared.Sheet.{Sheet}
 use Rattle.sheet.specs.Ends.{door, closed, tiersOf}
 use Rattle.springs.specs.inner.Elimination.{solved}
 use Rattle.statics.specs.inner.Computed.{springsOf, stiffnessesOf, figuresAt, figuresBy, loadRuleOf}
-use Rattle.figures_tiers.specs.inner.Loads.{Loaded, Weighed}
+use Rattle.figures_tiers.specs.inner.Loads.{Loaded, TiersMeasured}
 use Rattle.figures.specs.inner.Ends.{Workable}
 use Rattle.limits.specs.declared.PullLimit.{PullLimit}
 use Rattle.limits.specs.inner.LowerOf.{lowerOf}
@@ -20,33 +20,32 @@ use Rattle.answer.specs.Findings.{accepted}
 use Rattle.end_verdict.specs.inner.NoneOver.{noneFound}
 use Rattle.gear.specs.Gear.{withLashes}
 use Rattle.chosen_lashes.specs.declared.Chosen.{Chosen}
-use Rattle.chosen_lashes.specs.inner.Gathered.{heldOf}
 
 -- the lashes in arrays
 abbrev pub lashesIn : Chosen → List Lash
 lashesIn g = take (g .count) (g .lashes)
 
--- an end of n tiers ts with springs k and m lashes ls, whose stiffnesses by level are κ, loads ω on the levels and half of the weights
--- above them
-pub record EndGiven (n : ℕ) (k : List ℕ) (ts : List Tier) (m : ℕ) (ls : List Lash) (κ ω vmax vmin : List ℕ) : Type 0 where
-  pub works : Workable n k ts m ls ω vmax vmin
+-- an end of n tiers of heights hs with springs k and m lashes ls, whose stiffnesses by level are κ, loads ω on the levels and half of the
+-- weights above them
+pub record EndGiven (n : ℕ) (k hs : List ℕ) (m : ℕ) (ls : List Lash) (κ ω vmax vmin : List ℕ) : Type 0 where
+  pub works : Workable n k hs m ls ω vmax vmin
   pub counted : length ls ≡ m
   pub levelled : κ ≡ stiffnessesOf ls
-  pub long : (length k ≡ 10) × (length ω ≡ 10) × (length vmax ≡ 11) × (length vmin ≡ 11)
+  pub long : (length k ≡ 10) × (length hs ≡ 10) × (length ω ≡ 10) × (length vmax ≡ 11) × (length vmin ≡ 11)
 
 -- whether it has no finding, where its lashes are the first m of an array
 abbrev pub noFinding : ℕ → List ℕ → List Tier → List Lash → ℕ → PullLimit → List ℕ → Bool
 noFinding n k ts lashes m pull ω =
     noneFound n pull lashes m (figuresAt n k ts (take m lashes) (solved n k (stiffnessesOf (take m lashes)) ω))
 
--- what is given of a stack: the lower limit of a pull, the springs of the door end and of the closed end, loads and weights
-pub record StackGiven (t : Sheet) (pull : PullLimit) (k h ω vmax vmin : List ℕ) : Type 0 where
+-- what is given of a stack: the lower limit of a pull, the springs of the door end and of the closed end, heights, loads and weights
+pub record StackGiven (t : Sheet) (pull : PullLimit) (k h hs ω vmax vmin : List ℕ) : Type 0 where
   pub lower : pull ≡ lowerOf (safeLoad (t .head .lockMaterial) (t .head .lockBreakingLoad))
   pub door-springs : k ≡ springsOf door (tiersOf t)
   pub closed-springs : h ≡ springsOf closed (tiersOf t)
   pub loaded : Loaded (loadRuleOf t) (t .ntiers) (tiersOf t) ω
-  pub weighed : Weighed (tiersOf t) vmax vmin
-  pub long : (length ω ≡ 10) × (length vmax ≡ 11) × (length vmin ≡ 11)
+  pub measured : TiersMeasured (t .ntiers) (tiersOf t) hs vmax vmin
+  pub long : (length hs ≡ 10) × (length ω ≡ 10) × (length vmax ≡ 11) × (length vmin ≡ 11)
 
 -- whether the check accepts it with these lashes at both ends
 abbrev pub acceptedWith : List Lash → Sheet → Bool

@@ -74,7 +74,7 @@ figures-at-requires c κs =
     let d = s .solve-both in (
       without-loads (p .0),
       (
-        (long .0, d .kept .1 .1 .1 .1 .1 .1 .0, long .5, long .6),
+        (long .0, long .7, d .kept .1 .1 .1 .1 .1 .1 .0, long .5, long .6),
         ((lashes, d .ensures .0 .1 .far), ((lashes .long .long, lashes .stiff .long), p .1 .1 .1 .1 .1 .0)),
       ),
     )
@@ -91,7 +91,7 @@ figures-at-requires-2 c κs =
     let d = s .solve-both in (
       without-loads (p .1 .0),
       (
-        (long .1, d .kept .1 .1 .1 .1 .1 .1 .1 .0, long .5, long .6),
+        (long .1, long .7, d .kept .1 .1 .1 .1 .1 .1 .1 .0, long .5, long .6),
         ((lashes, d .ensures .1 .1 .far), ((lashes .long .long, lashes .stiff .long), p .1 .1 .1 .1 .1 .1)),
       ),
     )
@@ -121,13 +121,14 @@ returns c =
     let s = solved door-end in
     let b = entered s in
     let g = b .args in
+    let tiers = b .pre .1 .1 .0 .2 in
     let levels = b .pre .1 .1 .1 .0 in
     let long = b .pre .1 .1 .1 .1 .0 in
     let d = s .solve-both .ensures in
     let x = door-end .figures-at .ensures in
     let y = closed-end .figures-at2 .ensures in (
-      (end-solved door (g .s) (g .k .now) (g .kappa .now) (g .loads .now) (long .2) (levels .0) (d .0 .0) (x .0), x .1),
-      (end-solved closed (g .s) (g .h .now) (g .eta .now) (g .loads .now) (long .3) (levels .1) (d .1 .0) (y .0), y .1),
+      (end-solved door (g .s) (g .k .now) (g .kappa .now) (g .loads .now) (long .2) (levels .0) (d .0 .0) (x .0 _ tiers), x .1),
+      (end-solved closed (g .s) (g .h .now) (g .eta .now) (g .loads .now) (long .3) (levels .1) (d .1 .0) (y .0 _ tiers), y .1),
     )
 
 pub figures-both-spec : {M : Type 1} → statement M

@@ -3,8 +3,7 @@ use mathlib.Core.List.{List}
 use Prim.Native.Nat.{ℕ, _^_, _<_, _≤_}
 use lib.ListN.{getD, length}
 use Rattle.sheet.specs.inner.Limits.{atLevel, LashLimits}
-use Rattle.sheet.specs.Layout.{blankLash, blankTier}
-use Rattle.sheet.specs.declared.Tier.{Tier}
+use Rattle.sheet.specs.Layout.{blankLash}
 use Rattle.sheet.specs.declared.Lash.{Lash}
 use Rattle.sheet.specs.declared.Sheet.{Sheet}
 use Rattle.sheet.specs.Ends.{End, tiersOf, lashesOf}
@@ -12,18 +11,18 @@ use Rattle.springs.specs.inner.Elimination.{solved}
 use Rattle.statics.specs.declared.EndFigures.{EndFigures}
 use Rattle.statics.specs.inner.Computed.{stiffnessesOf, figuresAt}
 use Rattle.springs.specs.Equations.{doorSpring, closedSpring}
-use Rattle.figures_tiers.specs.inner.Loads.{Weighed}
 
--- an end may be worked: n tiers ts with springs k, m lashes ls, the loads ω on the levels, and half of the weights above them
-pub record Workable (n : ℕ) (k : List ℕ) (ts : List Tier) (m : ℕ) (ls : List Lash) (ω vmax vmin : List ℕ) : Type 0 where
+-- an end may be worked: n tiers of heights hs with springs k, m lashes ls, the loads ω on the levels, and half of the weights above them
+pub record Workable (n : ℕ) (k hs : List ℕ) (m : ℕ) (ls : List Lash) (ω vmax vmin : List ℕ) : Type 0 where
   pub few : n ≤ 10
   pub springs : (i : ℕ) → i < n → (doorSpring ≤ getD k i 0) × (getD k i 0 ≤ closedSpring)
-  pub heights : (i : ℕ) → i < n → getD ts i blankTier .height ≤ 2896
+  pub heights : (i : ℕ) → i < n → getD hs i 0 ≤ 2896
   pub few-lashes : m ≤ 8
   pub each : (j : ℕ) → j < length ls → LashLimits n (getD ls j blankLash)
   pub at-level : (i : ℕ) → atLevel i ls ≤ 4
   pub loaded : (i : ℕ) → i < n → getD ω i 0 ≤ 2 ^ 46
-  pub weighed : Weighed ts vmax vmin
+  pub vmax-light : (i : ℕ) → getD vmax i 0 ≤ 2 ^ 40
+  pub vmin-light : (i : ℕ) → getD vmin i 0 ≤ 2 ^ 40
 
 -- the figures of an end of a sheet, from its springs and loads
 abbrev pub endFigures : End → Sheet → List ℕ → List ℕ → EndFigures

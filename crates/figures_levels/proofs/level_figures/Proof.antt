@@ -1,16 +1,13 @@
 -- `figures_levels::level_figures`: one turn goes from a level to the level under it, with the sums of what stands above (Descent).
 use borrow.Author.Needs.{needs}
-use Prim.Native.Nat.{_*_, _<_, _-_}
-use mathlib.Core.Path.{_≡_, sym, ap, _∙_}
+use Prim.Native.Nat.{_*_, _<_, _≤_, _-_}
+use mathlib.Core.Path.{refl, ap, _∙_}
 use native.Mathlib.Omega.{arith}
 use lib.Dec.{lit<, lit≤}
-use lib.ListN.{length, length-set, take}
-use lib.Seq.{getD-take, length-take-le}
+use lib.ListN.{length, length-set}
 use mir.Syntax.{w32}
 use mir.ValLaws.{toZ-ofZ}
 use Rattle.arith.proofs.Sizes.{small-pos, small-weaken}
-use Rattle.sheet.specs.declared.Tier.{Tier}
-use Rattle.sheet.specs.Layout.{blankTier}
 use Rattle.statics.specs.inner.WholeNumbers.{leeFound, windwardFound}
 use Rattle.figures_levels.proofs.Descent.{FiguredFrom, at-top, turned-once, at-foot}
 use Rattle.figures_posts.proofs.Words.{held}
@@ -18,24 +15,24 @@ use Rattle.figures_levels.proofs.level_figures.Statement.{statement}
 use Rattle.figures_levels.proofs.level_figures.Tie as tie
 
 abbrev Inv-loop : tie.InvT-loop
-Inv-loop n k d vmax vmin lee windward racking₀ levels₀ tiers above₀ i₀ racking levels above i =
+Inv-loop n k heights d vmax vmin lee windward racking₀ levels₀ above₀ i₀ racking levels above i =
     let parts = above .parts in
-    FiguredFrom n k (take n tiers) d vmax vmin lee windward racking levels (above .moment) (parts .lee) (parts .windward) i
+    FiguredFrom n k heights d vmax vmin lee windward racking levels (above .moment) (parts .lee) (parts .windward) i
 
 abbrev μ-loop : tie.MeasureT-loop
-μ-loop n k d vmax vmin lee windward racking₀ levels₀ tiers above₀ i₀ racking levels above i =
+μ-loop n k heights d vmax vmin lee windward racking₀ levels₀ above₀ i₀ racking levels above i =
     i
 
 -- from the top level's parts, and from the loop, to the function's entry
 abbrev entry : tie.After-parts-at Inv-loop μ-loop → tie.Start Inv-loop μ-loop
-entry c = c .before .before .before .before .before .before .before .before
+entry c = c .before .before .before .before .before .before .before .before .before
 
 abbrev start : tie.At-loop Inv-loop μ-loop → tie.Start Inv-loop μ-loop
 start c = entry (c .before .before .before)
 
 -- from each step of a turn to the one before it
 abbrev turn : tie.After-racking-part Inv-loop μ-loop → tie.In-loop Inv-loop μ-loop
-turn c = c .before .before .before .before .before
+turn c = c .before .before .before .before
 
 abbrev racked : tie.After-parts-at2 Inv-loop μ-loop → tie.After-racking-part Inv-loop μ-loop
 racked c = c .before
@@ -44,7 +41,7 @@ abbrev bottomed : tie.After-parts-at3 Inv-loop μ-loop → tie.After-parts-at2 I
 bottomed c = c .before
 
 abbrev parted : tie.After-level-under Inv-loop μ-loop → tie.After-parts-at3 Inv-loop μ-loop
-parted c = c .before .before .before
+parted c = c .before .before .before .before
 
 -- the level under a tier of the stack
 under : (c : tie.In-loop Inv-loop μ-loop) → c .before .loop .i - 1 < start (c .before) .args .n
@@ -66,8 +63,8 @@ room-racking c = omega (arith, room c, turn (racked (bottomed c)) .before .loop 
 room-at-top : (c : tie.Start Inv-loop μ-loop) → c .args .n < length (c .args .levels .now)
 room-at-top c = rw (c .pre .1 .1 .1) (omega (arith, c .pre .0 .few))
 
-stacked : (c : tie.Start Inv-loop μ-loop) → length (take (c .args .n) (c .args .t3)) ≡ c .args .n
-stacked c = length-take-le (c .args .n) (c .args .t3) (omega (arith, c .pre .0 .few, c .good .1 .1 .0 .1 .0 .1))
+stacked : (c : tie.Start Inv-loop μ-loop) → c .args .n ≤ length (c .args .heights .now)
+stacked c = omega (arith, c .pre .0 .few, c .pre .1 .0 .1)
 
 mul-parts-at : tie.Need-mul-parts-at Inv-loop μ-loop
 mul-parts-at c = search needs
@@ -115,12 +112,6 @@ shared-slice-read-upper c = search needs
 sub-i : tie.Need-sub-i Inv-loop μ-loop
 sub-i c = search needs
 
-mul-t : tie.Need-mul-t Inv-loop μ-loop
-mul-t c = search needs
-
-array-copy-out-t : tie.Need-array-copy-out-t Inv-loop μ-loop
-array-copy-out-t c = search needs
-
 mul-racking-part : tie.Need-mul-racking-part Inv-loop μ-loop
 mul-racking-part c = search needs
 
@@ -135,7 +126,7 @@ shared-slice-read-racking-part-2 c = search needs
 
 racking-part-requires : tie.Need-racking-part-requires Inv-loop μ-loop
 racking-part-requires c κs =
-    let a = c .before .before .before .before .before in
+    let a = c .before .before .before .before in
     let m = start a .pre .0 in
     let l = a .loop in
     (m .springs (l .i - 1) (omega (arith, l .inv .within)), m .shifts (l .i), m .shifts (l .i - 1))
@@ -161,7 +152,7 @@ mul-level-under c = search (needs, room c)
 shared-slice-read-level-under : tie.Need-shared-slice-read-level-under Inv-loop μ-loop
 shared-slice-read-level-under c =
     let b = start (turn (racked (bottomed (c .before))) .before) in
-    search (needs, room (c .before), b .pre .1 .0 .2)
+    search (needs, room (c .before), b .pre .1 .0 .1)
 
 mul-level-under-2 : tie.Need-mul-level-under-2 Inv-loop μ-loop
 mul-level-under-2 c = search (needs, room (c .before))
@@ -171,9 +162,17 @@ shared-slice-read-level-under-2 c =
     let b = start (turn (racked (bottomed (c .before .before))) .before) in
     search (needs, room (c .before .before), b .pre .1 .0 .3)
 
+mul-level-under-3 : tie.Need-mul-level-under-3 Inv-loop μ-loop
+mul-level-under-3 c = search (needs, room (c .before .before))
+
+shared-slice-read-level-under-3 : tie.Need-shared-slice-read-level-under-3 Inv-loop μ-loop
+shared-slice-read-level-under-3 c =
+    let b = start (turn (racked (bottomed (c .before .before .before))) .before) in
+    search (needs, room (c .before .before .before), b .pre .1 .0 .4)
+
 level-under-requires : tie.Need-level-under-requires Inv-loop μ-loop
 level-under-requires c κs =
-    let o = c .before .before in
+    let o = c .before .before .before in
     let r = racked (bottomed o) in
     let t = turn r in
     let l = t .before .loop in
@@ -182,10 +181,9 @@ level-under-requires c κs =
     let j = l .i - 1 in
     let w = under t in
     let p = r .racking-part .ensures .1 in
-    let height = rw (getD-take (b .args .n) (b .args .t3) j blankTier w) at (m .heights j w) in
     let e = bottomed o .parts-at2 .ensures in
     let f = o .parts-at3 .ensures in (
-      (small-weaken (l .inv .moment-small) (omega (arith, m .few)), rw (held p (lit< tt)) p, height),
+      (small-weaken (l .inv .moment-small) (omega (arith, m .few)), rw (held p (lit< tt)) p, m .heights j w),
       (
         (omega (arith, l .inv .lees-small, m .few), omega (arith, l .inv .windwards-small, m .few)),
         (
@@ -251,7 +249,7 @@ loop-again c =
     (t .loop-test .taken)
     (l .inv)
     (h ∙ p .0)
-    (ap (λ (x : Tier). x .height) (sym (getD-take (b .args .n) (b .args .t3) (l .i - 1) blankTier (under t))))
+    refl
     (toZ-ofZ w32 (g .result) (record { sfits = g .ok }) ∙ g .ensures)
     (q .0)
     (q .1)
@@ -292,8 +290,6 @@ level-figures-spec =
     mul-upper
     shared-slice-read-upper
     sub-i
-    mul-t
-    array-copy-out-t
     mul-racking-part
     shared-slice-read-racking-part
     mul-racking-part-2
@@ -308,6 +304,8 @@ level-figures-spec =
     shared-slice-read-level-under
     mul-level-under-2
     shared-slice-read-level-under-2
+    mul-level-under-3
+    shared-slice-read-level-under-3
     level-under-requires
     racking-figure-requires
     mul-force

@@ -3,22 +3,25 @@ use mathlib.Core.Path.{_≡_}
 use mathlib.Core.List.{List, [], _∷_}
 use Prim.Native.Nat.{ℕ, suc, _+_, _*_, _^_, _<_, _≤_}
 use lib.ListN.{drop, take, getD, length}
-use lib.IntN.{ℤ, pos}
-use Rattle.sheet.specs.declared.Tier.{Tier}
-use Rattle.sheet.specs.Layout.{blankTier}
+use lib.IntN.{ℤ, pos, _+ℤ_, _*ℤ_}
 use Rattle.springs.specs.Equations.{closedSpring}
-use Rattle.statics.specs.inner.WholeNumbers.{Filled, rackingPart, rackingFigure, momentPart, compressionFrom, tensionFrom}
+use Rattle.statics.specs.inner.WholeNumbers.{Filled, rackingPart, rackingFigure, compressionFrom, tensionFrom}
 
 unfoldable pub total : List ℕ → ℕ
 total [] = 0
 total (x ∷ xs) = x + total xs
 
--- what the figures of the levels are computed from: vmax and vmin are half of V, with A_Vmax and A_Vmin; lee and windward the vertical
--- parts by corner, of which 2 i and 2 i + 1 lie at level i (figures_lashes, `cornerOf`)
-pub record LevelInputs (n : ℕ) (k : List ℕ) (ts : List Tier) (d vmax vmin lee windward : List ℕ) : Type 0 where
+-- the moment at a level, as momentPart, by the heights of the tiers from number i + 1 on
+unfoldable pub momentBy : List ℕ → List ℕ → List ℕ → ℕ → ℤ
+momentBy k d [] i = pos 0
+momentBy k d (h ∷ hs) i = pos h *ℤ rackingPart (getD k i 0) d i +ℤ momentBy k d hs (suc i)
+
+-- what the figures of the levels are computed from: hs are the heights of the tiers; vmax and vmin half of V, with A_Vmax and A_Vmin; lee
+-- and windward the vertical parts by corner, of which 2 i and 2 i + 1 lie at level i (figures_lashes, `cornerOf`)
+pub record LevelInputs (n : ℕ) (k hs d vmax vmin lee windward : List ℕ) : Type 0 where
   pub few : n ≤ 10
   pub springs : (i : ℕ) → i < n → getD k i 0 ≤ closedSpring
-  pub heights : (i : ℕ) → i < n → getD ts i blankTier .height ≤ 2896
+  pub heights : (i : ℕ) → i < n → getD hs i 0 ≤ 2896
   pub shifts : (i : ℕ) → getD d i 0 ≤ 2 ^ 40
   pub vmax-light : (i : ℕ) → getD vmax i 0 ≤ 2 ^ 40
   pub vmin-light : (i : ℕ) → getD vmin i 0 ≤ 2 ^ 40
@@ -27,12 +30,12 @@ pub record LevelInputs (n : ℕ) (k : List ℕ) (ts : List Tier) (d vmax vmin le
   pub lee-long : length lee ≡ 22
   pub windward-long : length windward ≡ 22
 
-module _ (n : ℕ) (k : List ℕ) (ts : List Tier) (d vmax vmin lee windward : List ℕ) where
+module _ (n : ℕ) (k hs d vmax vmin lee windward : List ℕ) where
   abbrev pub compressionAt : ℕ → ℕ
   compressionAt i =
       compressionFrom
       (getD vmax i 0)
-      (momentPart k d (drop i ts) i)
+      (momentBy k d (drop i (take n hs)) i)
       (total (drop (2 * i) (take (suc (2 * n)) lee)))
       (total (drop (2 * i) (take (suc (2 * n)) windward)))
 
@@ -40,7 +43,7 @@ module _ (n : ℕ) (k : List ℕ) (ts : List Tier) (d vmax vmin lee windward : L
   tensionAt i =
       tensionFrom
       (getD vmin i 0)
-      (momentPart k d (drop i ts) i)
+      (momentBy k d (drop i (take n hs)) i)
       (total (drop (suc (2 * i)) (take (suc (2 * n)) lee)))
       (total (drop (suc (2 * i)) (take (suc (2 * n)) windward)))
 

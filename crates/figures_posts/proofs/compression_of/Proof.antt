@@ -1,6 +1,9 @@
--- `figures_posts::compression_of`: the figure of the two sums, which are in range.
+-- `figures_posts::compression_of`: the figure of the two sums, which are in range, and of which the moment presses one.
+use mathlib.Core.Path.{_≡_}
 use Rattle.arith.proofs.Sizes.{small-neg, small-weaken}
 use lib.Dec.{lit<, lit≤}
+use Rattle.figures_posts.specs.inner.Posts.{leeOf, windwardOf}
+use Rattle.figures_posts.proofs.LevelLaws.{one-pressed}
 use Rattle.figures_posts.proofs.Words.{held}
 use borrow.Author.Needs.{needs}
 use Rattle.figures_posts.proofs.compression_of.Statement.{statement}
@@ -18,20 +21,40 @@ post-sum-requires-2 c κs =
     let n = small-neg (b .pre .1) in
     (b .pre .0, simp (held (b .pre .1) (lit< tt), c .negative .ensures, held n (lit< tt)) n, b .pre .3)
 
-post-figure-requires : tie.Need-post-figure-requires
-post-figure-requires c κs = search needs
+-- the two sums
+lee :
+    (c : tie.After-post-sum2) →
+    let a = c .before .before .before .args in
+    c .before .before .post-sum .result ≡ leeOf (a .weight) (a .couple) (a .parts)
+lee c = simp (held (c .before .before .before .pre .1) (lit< tt)) at (c .before .before .post-sum .ensures .0)
+
+windward :
+    (c : tie.After-post-sum2) →
+    let a = c .before .before .before .args in
+    c .post-sum2 .result ≡ windwardOf (a .weight) (a .couple) (a .parts)
+windward c =
+    let p = c .before .before .before .pre .1 in
+    let n = simp (held p (lit< tt)) at (c .before .negative .ensures) in
+    simp (held (small-neg p) (lit< tt)) at (simp n at (c .post-sum2 .ensures .0))
+
+pressed-figure-requires : tie.Need-pressed-figure-requires
+pressed-figure-requires c κs =
+    let s = c .before .before .post-sum .ensures .1 in
+    let t = c .post-sum2 .ensures .1 in
+    let a = c .before .before .before .args in (
+      search needs,
+      search needs,
+      simp (held s (lit< tt), held t (lit< tt)) (rw (lee c, windward c) (one-pressed (a .weight) (a .couple) (a .parts))),
+    )
 
 returns : tie.Need-returns
 returns c =
-    let entry = c .before .before .before .before in
-    let h = held (entry .pre .1) (lit< tt) in
-    let s = c .before .before .before .post-sum .ensures in
-    let t = c .before .post-sum2 .ensures in
-    let n = simp h at (c .before .before .negative .ensures) in
-    let y = simp (held (small-neg (entry .pre .1)) (lit< tt)) at (simp n at (t .0)) in
-    simp (simp h at (s .0), y) at (simp (held (s .1) (lit< tt), held (t .1) (lit< tt)) at (c .post-figure .ensures))
+    let b = c .before in
+    let s = b .before .before .post-sum .ensures .1 in
+    let t = b .post-sum2 .ensures .1 in
+    simp (lee b, windward b) at (simp (held s (lit< tt), held t (lit< tt)) at (c .pressed-figure .ensures))
 
 pub compression-of-spec : {M : Type 1} → statement M
 compression-of-spec =
     tie.close
-    (tie.spec post-sum-requires negative-requires post-sum-requires-2 post-figure-requires returns)
+    (tie.spec post-sum-requires negative-requires post-sum-requires-2 pressed-figure-requires returns)

@@ -1,5 +1,5 @@
--- `figures_tiers::loads_of`: from the top down, each level's load and the weights above it (LoadLaws).
-use mathlib.Core.Path.{_≡_}
+-- `figures_tiers::loads_of`: from the top down, each level's load, the weights above it, and the heights (LoadLaws).
+use mathlib.Core.Path.{_≡_, refl}
 use lib.ListN.{getD, length, take}
 use lib.Seq.{getD-take, length-take-le}
 use Prim.Native.Nat.{_-_}
@@ -8,23 +8,24 @@ use Rattle.sheet.specs.Layout.{blankTier}
 use Rattle.sheet.specs.inner.Limits.{TierLimits}
 use borrow.Author.Needs.{needs}
 use Rattle.figures_tiers.proofs.LoadLaws.{LoadedDown, loaded-none, loaded-more, loaded-all, Carried, carried-none, carried-more}
-use Rattle.figures_tiers.proofs.LoadLaws.{carried-all}
+use Rattle.figures_tiers.proofs.LoadLaws.{carried-all, HeightsDown, heights-none, heights-more, heights-all}
 use Rattle.figures_tiers.proofs.loads_of.Statement.{statement}
 use Rattle.figures_tiers.proofs.loads_of.Tie as tie
 
 abbrev Inv-loop : tie.InvT-loop
-Inv-loop n rule loads₀ vmax₀ vmin₀ tiers over₀ most-lifted₀ least-lifted₀ i₀ loads vmax vmin over vmax-units vmin-units i =
+Inv-loop n rule loads₀ vmax₀ vmin₀ heights₀ tiers over₀ most-lifted₀ least-lifted₀ i₀ loads vmax vmin heights over vmax-units vmin-units i =
     LoadedDown rule n (take n tiers) loads (over .transverse) (over .wind) i
     × Carried (λ t. t .aVmax) n (take n tiers) vmax vmax-units i
     × Carried (λ t. t .aVmin) n (take n tiers) vmin vmin-units i
+    × HeightsDown n (take n tiers) heights i
 
 abbrev μ-loop : tie.MeasureT-loop
-μ-loop n rule loads₀ vmax₀ vmin₀ tiers over₀ most-lifted₀ least-lifted₀ i₀ loads vmax vmin over vmax-units vmin-units i =
+μ-loop n rule loads₀ vmax₀ vmin₀ heights₀ tiers over₀ most-lifted₀ least-lifted₀ i₀ loads vmax vmin heights over vmax-units vmin-units i =
     i
 
 -- where the loop is entered from
 abbrev start : tie.At-loop Inv-loop μ-loop → tie.Start Inv-loop μ-loop
-start c = c .before .before .before .before
+start c = c .before .before .before .before .before
 
 stacked : (c : tie.Start Inv-loop μ-loop) → length (take (c .args .n) (c .args .t2)) ≡ c .args .n
 stacked c = length-take-le (c .args .n) (c .args .t2) (omega (arith, c .pre .0 .0, c .good .1 .0 .1 .0 .1))
@@ -45,9 +46,10 @@ limits c =
 
 loop-holds : tie.Need-loop-holds Inv-loop μ-loop
 loop-holds c =
-    let b = c .before .before .before in
+    let b = c .before .before .before .before in
     let p = b .pre .1 .1 in
-    rw (p .0, p .1, p .2) (loaded-none (stacked b), carried-none (stacked b), carried-none (stacked b))
+    rw (p .0, p .1, p .2)
+    (loaded-none (stacked b), carried-none (stacked b), carried-none (stacked b), heights-none (stacked b) (b .pre .0 .0) (p .3))
 
 sub-i : tie.Need-sub-i Inv-loop μ-loop
 sub-i c = search needs
@@ -112,6 +114,12 @@ mul-vmin c = search needs
 slice-write-vmin : tie.Need-slice-write-vmin Inv-loop μ-loop
 slice-write-vmin c = search needs
 
+mul-heights : tie.Need-mul-heights Inv-loop μ-loop
+mul-heights c = search needs
+
+slice-write-heights : tie.Need-slice-write-heights Inv-loop μ-loop
+slice-write-heights c = search needs
+
 loop-less : tie.Need-loop-less Inv-loop μ-loop
 loop-less c = search needs
 
@@ -133,6 +141,7 @@ loop-again c =
       loaded-more few up (l .inv .0) (rw (own t) (e .0)) (rw (own t) (e .2)) (e .1) (e .3) (r .0) (r .1),
       carried-more (stacked b) few up (l .inv .1) (rw (own t) (f .0)) (f .1) (x .0) (x .1),
       carried-more (stacked b) few up (l .inv .2) (rw (own t) (g .0)) (g .1) (y .0) (y .1),
+      heights-more (stacked b) few up (l .inv .0 .within) (l .inv .3) (rw (own t) refl),
     )
 
 same-length : tie.Need-same-length Inv-loop μ-loop
@@ -144,6 +153,9 @@ same-length-2 c = search needs
 same-length-3 : tie.Need-same-length-3 Inv-loop μ-loop
 same-length-3 c = search needs
 
+same-length-4 : tie.Need-same-length-4 Inv-loop μ-loop
+same-length-4 c = search needs
+
 returns : tie.Need-returns Inv-loop μ-loop
 returns c =
     let l = c .before .loop in
@@ -154,7 +166,13 @@ returns c =
         named = loaded-all (stacked b) (b .pre .0 .0) (c .loop-test .left) (l .inv .0);
         small = λ i h. l .inv .0 .loaded .each i (omega arith) h .1;
       },
-      record { vmax-is = λ i. m i .0; vmin-is = λ i. k i .0; most-light = λ i. m i .1; least-light = λ i. k i .1 },
+      record {
+        heights-are = heights-all (c .loop-test .left) (l .inv .3);
+        vmax-is = λ i. m i .0;
+        vmin-is = λ i. k i .0;
+        most-light = λ i. m i .1;
+        least-light = λ i. k i .1;
+      },
     )
 
 pub loads-of-spec : {M : Type 1} → statement M
@@ -181,9 +199,12 @@ loads-of-spec =
     half-weight-requires-2
     mul-vmin
     slice-write-vmin
+    mul-heights
+    slice-write-heights
     loop-less
     loop-again
     same-length
     same-length-2
     same-length-3
+    same-length-4
     returns)

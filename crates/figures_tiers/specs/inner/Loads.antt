@@ -1,8 +1,8 @@
--- Contracts of inner functions: the loads on the levels and the weights above them.
+-- Contracts of inner functions: the loads on the levels, the weights above them, and the heights.
 use mathlib.Core.Path.{_≡_}
-use mathlib.Core.List.{List}
+use mathlib.Core.List.{List, map}
 use Prim.Native.Nat.{ℕ, _^_, _<_, _≤_}
-use lib.ListN.{getD}
+use lib.ListN.{getD, take}
 use Rattle.sheet.specs.declared.Tier.{Tier}
 use Rattle.statics.specs.declared.LoadRule.{LoadRule}
 use Rattle.statics.specs.inner.WholeNumbers.{halfWeight}
@@ -13,8 +13,9 @@ pub record Loaded (rule : LoadRule) (n : ℕ) (ts : List Tier) (r : List ℕ) : 
   pub named : r ≡ loadsOf rule ts
   pub small : (i : ℕ) → i < n → getD r i 0 ≤ 2 ^ 46
 
--- half of the weight above each level
-pub record Weighed (ts : List Tier) (vmax vmin : List ℕ) : Type 0 where
+-- of n tiers the heights, and half of the weight above each level
+pub record TiersMeasured (n : ℕ) (ts : List Tier) (heights vmax vmin : List ℕ) : Type 0 where
+  pub heights-are : take n heights ≡ map (λ t. t .height) ts
   pub vmax-is : (i : ℕ) → getD vmax i 0 ≡ halfWeight (λ t. t .aVmax) ts i
   pub vmin-is : (i : ℕ) → getD vmin i 0 ≡ halfWeight (λ t. t .aVmin) ts i
   pub most-light : (i : ℕ) → getD vmax i 0 ≤ 2 ^ 40
