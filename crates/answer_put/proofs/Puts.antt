@@ -2,24 +2,32 @@
 use mathlib.Core.Path.{_≡_, refl, sym, ap, ap₂, _∙_}
 use mathlib.Core.Bool.{Bool, true, false, cond}
 use mathlib.Core.List.{List, [], _∷_, _++_, flatMap, append-nil, append-assoc}
-use Prim.Native.Nat.{ℕ, zero, suc, _+_, _*_, _/_, _%_, _<_, _≤_}
+use Prim.Native.Nat.{ℕ, zero, suc, _+_, _*_, _-_, _/_, _%_, _<_, _≤_}
 use native.Mathlib.Omega.{arith}
 use native.Mathlib.Numerals.{add-one}
 use lib.Dec.{ltb}
-use lib.ListN.{length, take, set, length-append, length-set}
+use lib.ListN.{length, take, drop, set, length-append, length-set}
+use lib.Seq.{drop-drop}
 use mir.Val.{boolByte}
 use Rattle.arith.specs.Lists.{from}
 use Rattle.answer_put.specs.inner.Puts.{Put, wordBytes, findingWhere, findingsOver}
 use Rattle.answer_put.proofs.Entries.{one-more}
 
 none : (l : List ℕ) (at : ℕ) → Put l at [] l at
-none l at = record { stored = sym (append-nil (flatMap wordBytes (take at l))); place = omega arith; room = refl }
+none l at = record { stored = sym (append-nil (flatMap wordBytes (take at l))); place = omega arith; behind = refl; room = refl }
+
+-- lists that agree from a place on agree from any later place on
+later : (l m : List ℕ) (a b : ℕ) → drop a m ≡ drop a l → a ≤ b → drop b m ≡ drop b l
+later l m a b e h =
+    let p : b ≡ a + (b - a) = omega arith in
+    rw p (sym (drop-drop (b - a) a m) ∙ ap (drop (b - a)) e ∙ drop-drop (b - a) a l)
 
 pub then : {l m n : List ℕ} {at p q : ℕ} {xs ys : List ℕ} → Put l at xs m p → Put m p ys n q → Put l at (xs ++ ys) n q
 then {l} {m} {n} {at} {p} {q} {xs} {ys} a b =
     record {
       stored = b .stored ∙ rw (a .stored) (append-assoc (flatMap wordBytes (take at l)) xs ys);
       place = rw (length-append xs ys) (omega (arith, a .place, b .place));
+      behind = b .behind ∙ later l m (p + 1) (q + 1) (a .behind) (omega (arith, b .place));
       room = b .room ∙ a .room;
     }
 
@@ -39,6 +47,13 @@ with-it : (l : List ℕ) (at w : ℕ) → at < length l → take (suc at) (set l
 with-it [] at w h = absurd (omega arith)
 with-it (x ∷ l) zero w h = refl
 with-it (x ∷ l) (suc at) w h = ap (λ (m : List ℕ). x ∷ m) (with-it l at w (omega arith))
+
+-- and so do those behind it
+rest : (l : List ℕ) (at w : ℕ) → drop (suc at) (set l at w) ≡ drop (suc at) l
+rest [] zero w = refl
+rest [] (suc at) w = refl
+rest (x ∷ l) zero w = refl
+rest (x ∷ l) (suc at) w = rest l at w
 
 pub words-append : (xs ys : List ℕ) → flatMap wordBytes (xs ++ ys) ≡ flatMap wordBytes xs ++ flatMap wordBytes ys
 unfolding flatMap
@@ -75,6 +90,7 @@ module _ (l : List ℕ) (at end kind index : ℕ) (room : at < length l) (byte :
             ∙ words-append (take at l) (word ∷ [])
             ∙ ap (λ (m : List ℕ). flatMap wordBytes (take at l) ++ m) told);
         place = omega arith;
+        behind = later l (set l at word) (suc at) (at + 1 + 1) (rest l at word) (omega arith);
         room = length-set l at word;
       }
   stored-where false =
@@ -82,6 +98,7 @@ module _ (l : List ℕ) (at end kind index : ℕ) (room : at < length l) (byte :
       record {
         stored = rw e (ap (flatMap wordBytes) (kept l at word room) ∙ sym (append-nil (flatMap wordBytes (take at l))));
         place = omega arith;
+        behind = later l (set l at word) (suc at) (at + 0 + 1) (rest l at word) (omega arith);
         room = length-set l at word;
       }
 

@@ -15,7 +15,7 @@ ghost use Rattle.bay_wind.specs.Exposure.{sheetInBay};
 ghost use Rattle.bay_rows.specs.Refusals.{rowReading};
 ghost use Rattle.bay_answer.specs.Rows.{rowBytes};
 ghost use Rattle.bay_answer.specs.inner.Totalled.{rowTotals, Bounded};
-ghost use Rattle.bay_put.specs.inner.Answered.{answerIn, Answered, RowPut};
+ghost use Rattle.bay_put.specs.inner.Answered.{answerIn, RowAnswered, RowPut};
 use answer::Outcome;
 use bay_answer::Totals;
 use bay_wind::Neighbours;
@@ -25,7 +25,7 @@ use sheet::Tier;
 // is never refused.
 fn answer_row(row: &[u8], tiers: [Tier; 10], answer: &mut [u8]) -> usize
     requires { ⌜ (first (sheetRows (now row)) ≡ Taken) × Fits (withTiers tiers (sheetOf (now row))) × (834 ≤ length (now answer)) ⌝ }
-    ensures { λ r. ⌜ Answered (withTiers tiers (sheetOf (now (row .entry)))) (now (answer .entry)) (now (answer .exit)) r ⌝ }
+    ensures { λ r. ⌜ RowAnswered (withTiers tiers (sheetOf (now (row .entry)))) (now (answer .entry)) (now (answer .exit)) r ⌝ }
 {
     let rule = load_rules::rule_of(sheet_fields::head_of(row));
     let outcome = stack_check::answer_with(row, tiers, rule, answer);

@@ -8,7 +8,7 @@ ghost use Rattle.arith.specs.inner.Rounding.{roundedUpZ};
 ghost use Rattle.arith.specs.inner.Sizes.{Small};
 ghost use Rattle.springs.specs.Equations.{closedSpring};
 ghost use Rattle.statics.specs.Posts.{postSpacing};
-ghost use Rattle.statics.specs.inner.WholeNumbers.{rackingFigure, postFigure, notBelow};
+ghost use Rattle.statics.specs.inner.WholeNumbers.{rackingFigure, postPad, postFigure, notBelow};
 ghost use Rattle.figures_posts.specs.inner.Posts.{greaterOf, leeOf, windwardOf};
 use statics::PostParts;
 
@@ -85,12 +85,20 @@ fn greater(x: i64, y: i64) -> i64
     x
 }
 
-// The figure of a post: the greater of two sums, padded, in N upwards, cut off at 0.
+// The greater of two sums of a post, padded, in N upwards.
+fn greater_newtons(x: i64, y: i64) -> i64
+    requires { ⌜ Small (3 * 2 ^ 61) x × Small (3 * 2 ^ 61) y ⌝ }
+    ensures { λ r. ⌜ r ≡ roundedUpZ (greaterOf x y +ℤ pos postPad) (2 ^ 18) ⌝ }
+{
+    newtons_up(greater(x, y) + POST_PAD)
+}
+
+// The figure of a post, cut off at 0.
 fn post_figure(x: i64, y: i64) -> u64
     requires { ⌜ Small (3 * 2 ^ 61) x × Small (3 * 2 ^ 61) y ⌝ }
     ensures { λ r. ⌜ r ≡ postFigure x y ⌝ }
 {
-    not_below(newtons_up(greater(x, y) + POST_PAD))
+    not_below(greater_newtons(x, y))
 }
 
 // The same of two sums of which one is not below 0: there is nothing to cut off.
@@ -98,7 +106,7 @@ fn pressed_figure(x: i64, y: i64) -> u64
     requires { ⌜ Small (3 * 2 ^ 61) x × Small (3 * 2 ^ 61) y × (greaterOf x y ≡ pos (natAbs (greaterOf x y))) ⌝ }
     ensures { λ r. ⌜ r ≡ postFigure x y ⌝ }
 {
-    newtons_up(greater(x, y) + POST_PAD) as u64
+    greater_newtons(x, y) as u64
 }
 
 // The sum of a post: half the weight above, what the moment adds, and the vertical parts.

@@ -4,7 +4,7 @@ use mathlib.Core.Bool.{cond}
 use mathlib.Core.List.{List, [], _∷_, _++_, flatMap}
 use Prim.Native.Nat.{ℕ, _+_, _*_, _/_, _%_}
 use lib.Dec.{ltb}
-use lib.ListN.{getD, length, take}
+use lib.ListN.{getD, length, take, drop}
 use Rattle.sheet.specs.Layout.{blankLash}
 use Rattle.sheet.specs.declared.Lash.{Lash}
 use Rattle.answer.specs.Limits.{safeLoad}
@@ -14,10 +14,11 @@ use Rattle.arith.specs.Lists.{below}
 abbrev pub wordBytes : ℕ → List ℕ
 wordBytes w = w % 256 ∷ w / 256 % 256 ∷ w / 65536 % 256 ∷ []
 
--- the findings of these bytes put into a buffer of words from `at` on, and the place behind them; what stands there may have changed
+-- the findings of these bytes put into a buffer of words from `at` on, and the place behind them; the one word there may have changed
 pub record Put (before : List ℕ) (at : ℕ) (bytes after : List ℕ) (next : ℕ) : Type 0 where
   pub stored : flatMap wordBytes (take next after) ≡ flatMap wordBytes (take at before) ++ bytes
   pub place : 3 * next ≡ 3 * at + length bytes
+  pub behind : drop (next + 1) after ≡ drop (next + 1) before
   pub room : length after ≡ length before
 
 -- the safe load of lash j

@@ -17,7 +17,7 @@ use Rattle.bay_wind.specs.Exposure.{sheetInBay}
 use Rattle.bay_wind.proofs.Fitting.{in-bay-fits}
 use Rattle.bay_answer.specs.Rows.{rowBytes}
 use Rattle.bay_answer.specs.inner.Totalled.{answerOf}
-use Rattle.bay_put.specs.inner.Answered.{Answered}
+use Rattle.bay_put.specs.inner.Answered.{RowAnswered}
 use Rattle.bay_put.proofs.Answers.{answer-short, row-stored, row-read}
 use Rattle.bay_put.proofs.Rows.{tiers-held, counts-fit, totals-are, put}
 use Rattle.bay_put.proofs.put_answer.Statement.{statement}
@@ -50,13 +50,13 @@ fits b = in-bay-fits (b .args .near) (taken-fits (b .args .row .now) (b .pre .0)
 answered :
     (a : tie.After-answer-row) →
     let xs = start a .args .report .now in
-    Answered (sheet (start a)) (midOf 2 (length xs - 2) xs) (a .answer-row .last .1 .1 .0) (a .answer-row .result)
+    RowAnswered (sheet (start a)) (midOf 2 (length xs - 2) xs) (a .answer-row .last .1 .1 .0) (a .answer-row .result)
 answered a =
     let b = start a in
     let xs = b .args .report .now in
     let row = b .args .row .now in
     subst (λ (ts : List Tier).
-    Answered (withTiers ts (sheetOf row)) (midOf 2 (length xs - 2) xs) (a .answer-row .last .1 .1 .0) (a .answer-row .result))
+    RowAnswered (withTiers ts (sheetOf row)) (midOf 2 (length xs - 2) xs) (a .answer-row .last .1 .1 .0) (a .answer-row .result))
     (tiers a .tiers-in-bay .ensures) (a .answer-row .ensures)
 
 room : (b : tie.Start) → 2 + length (answerOf (sheet b)) ≤ length (b .args .report .now)

@@ -18,8 +18,8 @@ unfoldable pub answerIn : Neighbours → List ℕ → List ℕ
 answerIn near row = cond (isEmpty row) [] (answerOf (sheetInBay near (sheetOf row)))
 
 -- the length of the answer to a sheet is returned, and it stands at the start of a buffer
-abbrev pub Answered : Sheet → List ℕ → List ℕ → ℕ → Type 0
-Answered t before after n = (n ≡ length (answerOf t)) × (after ≡ answerOf t ++ drop (length (answerOf t)) before)
+abbrev pub RowAnswered : Sheet → List ℕ → List ℕ → ℕ → Type 0
+RowAnswered t before after n = (n ≡ length (answerOf t)) × (after ≡ answerOf t ++ drop (length (answerOf t)) before)
 
 -- what is said of a row between these neighbours is returned, and its answer stands there behind its length
 abbrev pub RowPut : Neighbours → List ℕ → List ℕ → List ℕ → Totals → Type 0
