@@ -17,13 +17,13 @@ SOURCE = ROOT / "crates" / "lash_stiffness" / "src" / "lib.rt"
 # The steps that `candidate` below follows, as the crate has them.
 STEPS = (
     "let force = float_of(load) * float_of(side * 4194304);",
-    "near(force / float_of(cube) - 0.5) % 1099511627776",
+    "below(force / float_of(cube)) % 1099511627776",
 )
 
 
-def near(number):
-    """The whole number nearest to a double from 0 to 2^52, a tie to the even one: the last 52 bits of 2^52 more."""
-    return int.from_bytes(struct.pack("<d", number + 2.0**52), "little") % 2**52
+def below(number):
+    """The whole number nearest to half less than a double from 1 to 2^52, a tie to the even one: the last 52 bits of 2^52 - 0.5 more."""
+    return int.from_bytes(struct.pack("<d", number + (2.0**52 - 0.5)), "little") % 2**52
 
 
 def parts(lash):
@@ -34,7 +34,7 @@ def parts(lash):
 
 def candidate(load, side, long):
     force = float(load) * float(side * 2**22)
-    return near(force / float(long**3) - 0.5) % 2**40
+    return below(force / float(long**3)) % 2**40
 
 
 def quotient(load, side, long):

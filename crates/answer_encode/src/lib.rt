@@ -5,8 +5,7 @@ ghost use mathlib.Core.Bool.{cond};
 ghost use Prim.Native.Nat.{_≤_};
 ghost use lib.Dec.{eqb};
 ghost use lib.ListN.{length};
-ghost use Rattle.statics.specs.Reported.{Fitting};
-ghost use Rattle.statics.specs.inner.InArrays.{Lengths, figuresIn};
+ghost use Rattle.statics.specs.inner.InArrays.{Lengths};
 ghost use Rattle.answer.specs.Answers.{answerBytes};
 ghost use Rattle.answer_findings.specs.inner.Findings.{Sized, bothIn};
 ghost use Rattle.answer_encode.specs.inner.Stored.{Stored};
@@ -32,17 +31,14 @@ pub fn write_answer(
     answer: &mut [u8],
     t: Sheet,
     doorRacking: &[i32],
-    doorLevels: &[u64],
-    doorForces: &[u64],
+    doorLevels: &[u32],
+    doorForces: &[u32],
     closedRacking: &[i32],
-    closedLevels: &[u64],
-    closedForces: &[u64],
+    closedLevels: &[u32],
+    closedForces: &[u32],
 ) -> usize
-    requires { ⌜ Sized t × (834 ≤ length (now answer)) ⌝ }
-    requires { ⌜ Lengths (now doorRacking) (now doorLevels) (now doorForces)
-        × Fitting (figuresIn (now doorRacking) (now doorLevels) (now doorForces)) ⌝ }
-    requires { ⌜ Lengths (now closedRacking) (now closedLevels) (now closedForces)
-        × Fitting (figuresIn (now closedRacking) (now closedLevels) (now closedForces)) ⌝ }
+    requires { ⌜ Sized t × (834 ≤ length (now answer)) × Lengths (now doorRacking) (now doorLevels) (now doorForces)
+        × Lengths (now closedRacking) (now closedLevels) (now closedForces) ⌝ }
     ensures { λ r. ⌜ Stored (answerBytes t
         (bothIn (now (doorRacking .entry)) (now (doorLevels .entry)) (now (doorForces .entry))
         (now (closedRacking .entry)) (now (closedLevels .entry)) (now (closedForces .entry))))

@@ -28,8 +28,8 @@ pub fn put_end(
     lashes: [Lash; 8],
     m: usize,
     racking: &[i32],
-    levels: &[u64],
-    forces: &[u64],
+    levels: &[u32],
+    forces: &[u32],
 ) -> usize
     requires { ⌜ (n ≤ 10) × (m ≤ 8) × (at + 3 * n + 3 * m ≤ length (now found)) × Lengths (now racking) (now levels) (now forces) ⌝ }
     ensures { λ r. ⌜ Put (now (found .entry)) at
@@ -58,11 +58,11 @@ pub fn put_findings(
     found: &mut [u32],
     t: Sheet,
     doorRacking: &[i32],
-    doorLevels: &[u64],
-    doorForces: &[u64],
+    doorLevels: &[u32],
+    doorForces: &[u32],
     closedRacking: &[i32],
-    closedLevels: &[u64],
-    closedForces: &[u64],
+    closedLevels: &[u32],
+    closedForces: &[u32],
 ) -> usize
     requires { ⌜ Sized t × (108 ≤ length (now found)) × Lengths (now doorRacking) (now doorLevels) (now doorForces)
         × Lengths (now closedRacking) (now closedLevels) (now closedForces) ⌝ }
@@ -107,11 +107,11 @@ pub fn put_findings(
 pub fn accepted(
     t: Sheet,
     doorRacking: &[i32],
-    doorLevels: &[u64],
-    doorForces: &[u64],
+    doorLevels: &[u32],
+    doorForces: &[u32],
     closedRacking: &[i32],
-    closedLevels: &[u64],
-    closedForces: &[u64],
+    closedLevels: &[u32],
+    closedForces: &[u32],
 ) -> bool
     requires { ⌜ Sized t × Lengths (now doorRacking) (now doorLevels) (now doorForces)
         × Lengths (now closedRacking) (now closedLevels) (now closedForces) ⌝ }

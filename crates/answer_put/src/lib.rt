@@ -55,8 +55,8 @@ pub fn put_over(
     end: u8,
     kind: u8,
     first: usize,
-    xs: &[u64],
-    limit: u64,
+    xs: &[u32],
+    limit: u32,
     n: usize,
 ) -> usize
     requires { ⌜ (first ≤ 1) × (n ≤ 10) × (first + n ≤ length (now xs)) × (at + n ≤ length (now found)) ⌝ }
@@ -79,7 +79,7 @@ pub fn put_pulls(
     at: usize,
     end: u8,
     lashes: [Lash; 8],
-    xs: &[u64],
+    xs: &[u32],
     m: usize,
 ) -> usize
     requires { ⌜ (m ≤ 8) × (m ≤ length (now xs)) × (at + m ≤ length (now found)) ⌝ }

@@ -1,21 +1,14 @@
--- The figures of an end: each fits four bytes, and their sections written one behind another are the end's bytes.
-use Prim.Native.Nat.{ℕ, _+_, _-_, _<_}
+-- The figures of an end: their sections written one behind another are the end's bytes.
+use Prim.Native.Nat.{ℕ, _+_, _-_}
 use mathlib.Core.List.{List}
-use native.Mathlib.Omega.{arith}
 use lib.IntN.{ℤ, pos}
 use lib.ListN.{drop, getD, length, take}
 use Rattle.arith.specs.Bytes.{bytes4, twos}
 use Rattle.arith.specs.Lists.{counted}
-use Rattle.statics.specs.declared.EndFigures.{EndFigures}
-use Rattle.statics.specs.Forces.{Force}
-use Rattle.statics.specs.Reported.{reportedSize, Fitting}
 use Rattle.statics.specs.inner.InArrays.{figuresIn}
 use Rattle.statics.proofs.Sections.{rest}
 use Rattle.answer_write.specs.inner.Encoding.{Wrote, lashBytes, endBytesOf}
 use Rattle.answer_write.proofs.Stores.{then}
-
-pub fits-four : {f : EndFigures} → Fitting f → (x : Force) (i : ℕ) → reportedSize x f i < 4294967296
-fits-four h x i = omega (arith, h .small x i)
 
 -- the bytes of n figures
 abbrev figures : ℕ → List ℕ → List ℕ

@@ -2,11 +2,11 @@
 
 ghost use mathlib.Core.List.{flatMap};
 ghost use mathlib.Core.Path.{_≡_};
-ghost use Prim.Native.Nat.{ℕ, _+_, _*_, _<_, _≤_};
+ghost use Prim.Native.Nat.{_+_, _*_, _≤_};
 ghost use lib.IntN.{pos};
 ghost use lib.ListN.{length, getD, take};
+ghost use lib.Seq.{sets};
 ghost use Rattle.arith.specs.Bytes.{bytes4, twos};
-ghost use Rattle.statics.specs.Reported.{Fitting};
 ghost use Rattle.statics.specs.inner.InArrays.{Lengths, figuresIn};
 ghost use Rattle.arith.specs.Lists.{counted};
 ghost use Rattle.answer_put.specs.inner.Puts.{wordBytes};
@@ -32,9 +32,16 @@ fn write_rackings(answer: &mut [u8], at: usize, xs: &[i32], n: usize) -> usize
     next
 }
 
+fn write_figure(answer: &mut [u8], at: usize, x: u32)
+    requires { ⌜ at + 4 ≤ length (now answer) ⌝ }
+    ensures { λ _. ⌜ now (answer .exit) ≡ sets (now (answer .entry)) at (bytes4 x) ⌝ }
+{
+    write4(answer, at, x as u64);
+}
+
 // A count n and n figures.
-fn write_figures(answer: &mut [u8], at: usize, xs: &[u64], n: usize) -> usize
-    requires { ⌜ (n ≤ 11) × (n ≤ length (now xs)) × (at + 1 + 4 * n ≤ length (now answer)) × ((i : ℕ) → getD (now xs) i 0 < 4294967296) ⌝ }
+fn write_figures(answer: &mut [u8], at: usize, xs: &[u32], n: usize) -> usize
+    requires { ⌜ (n ≤ 11) × (n ≤ length (now xs)) × (at + 1 + 4 * n ≤ length (now answer)) ⌝ }
     ensures { λ r. ⌜ Wrote (now (answer .entry)) at (counted n (λ i. bytes4 (getD (now (xs .entry)) i 0)))
         (now (answer .exit)) r × (r ≡ at + 1 + 4 * n) ⌝ }
 {
@@ -42,7 +49,7 @@ fn write_figures(answer: &mut [u8], at: usize, xs: &[u64], n: usize) -> usize
     let mut next = at + 1;
     let mut i = 0;
     while i < n {
-        write4(answer, next, xs[i]);
+        write_figure(answer, next, xs[i]);
         next += 4;
         i += 1;
     }
@@ -50,13 +57,13 @@ fn write_figures(answer: &mut [u8], at: usize, xs: &[u64], n: usize) -> usize
 }
 
 // The three forces of a lash.
-fn write_lash(answer: &mut [u8], at: usize, pull: u64, athwart: u64, vertical: u64) -> usize
-    requires { ⌜ (at + 12 ≤ length (now answer)) × (pull < 4294967296) × (athwart < 4294967296) × (vertical < 4294967296) ⌝ }
+fn write_lash(answer: &mut [u8], at: usize, pull: u32, athwart: u32, vertical: u32) -> usize
+    requires { ⌜ at + 12 ≤ length (now answer) ⌝ }
     ensures { λ r. ⌜ Wrote (now (answer .entry)) at (lashBytes pull athwart vertical) (now (answer .exit)) r × (r ≡ at + 12) ⌝ }
 {
-    write4(answer, at, pull);
-    write4(answer, at + 4, athwart);
-    write4(answer, at + 8, vertical);
+    write_figure(answer, at, pull);
+    write_figure(answer, at + 4, athwart);
+    write_figure(answer, at + 8, vertical);
     at + 12
 }
 
@@ -64,14 +71,13 @@ fn write_lash(answer: &mut [u8], at: usize, pull: u64, athwart: u64, vertical: u
 fn write_lashes<'a>(
     answer: &mut [u8],
     at: usize,
-    pull: &'a [u64],
-    athwart: &'a [u64],
-    vertical: &'a [u64],
+    pull: &'a [u32],
+    athwart: &'a [u32],
+    vertical: &'a [u32],
     m: usize,
 ) -> usize
     requires { ⌜ (m ≤ 8) × (m ≤ length (now pull)) × (m ≤ length (now athwart)) × (m ≤ length (now vertical))
-        × (at + 1 + 12 * m ≤ length (now answer)) × ((j : ℕ) → getD (now pull) j 0 < 4294967296)
-        × ((j : ℕ) → getD (now athwart) j 0 < 4294967296) × ((j : ℕ) → getD (now vertical) j 0 < 4294967296) ⌝ }
+        × (at + 1 + 12 * m ≤ length (now answer)) ⌝ }
     ensures { λ r. ⌜ Wrote (now (answer .entry)) at
         (counted m (λ j. lashBytes (getD (now (pull .entry)) j 0) (getD (now (athwart .entry)) j 0) (getD (now (vertical .entry)) j 0)))
         (now (answer .exit)) r × (r ≡ at + 1 + 12 * m) ⌝ }
@@ -93,11 +99,10 @@ pub fn write_end(
     n: usize,
     m: usize,
     racking: &[i32],
-    levels: &[u64],
-    forces: &[u64],
+    levels: &[u32],
+    forces: &[u32],
 ) -> usize
-    requires { ⌜ (n ≤ 10) × (m ≤ 8) × (at + 8 + 12 * n + 12 * m ≤ length (now answer)) × Lengths (now racking) (now levels) (now forces)
-        × Fitting (figuresIn (now racking) (now levels) (now forces)) ⌝ }
+    requires { ⌜ (n ≤ 10) × (m ≤ 8) × (at + 8 + 12 * n + 12 * m ≤ length (now answer)) × Lengths (now racking) (now levels) (now forces) ⌝ }
     ensures { λ r. ⌜ Wrote (now (answer .entry)) at
         (endBytesOf n m (figuresIn (now (racking .entry)) (now (levels .entry)) (now (forces .entry)))) (now (answer .exit)) r
         × (r ≡ at + 8 + 12 * n + 12 * m) ⌝ }

@@ -38,10 +38,9 @@ fn write_list(t: Sheet, lashes: [Lash; 8], m: usize, list: &mut [u8]) -> usize
     let head = t.head;
     let rule = load_rules::rule_of(head);
     let mut loads = [0u64; 10];
-    let mut vmax = [0u64; 11];
-    let mut vmin = [0u64; 11];
+    let mut weights = [0u64; 22];
     let mut heights = [0u16; 10];
-    loads_of(n, ts, rule, &mut loads, &mut vmax, &mut vmin, &mut heights);
+    loads_of(n, ts, rule, &mut loads, &mut weights, &mut heights);
     let mut k = [DOOR_SPRING; 10];
     let mut h = [CLOSED_SPRING; 10];
     springs_of(n, ts, &mut k, &mut h);
@@ -61,8 +60,7 @@ fn write_list(t: Sheet, lashes: [Lash; 8], m: usize, list: &mut [u8]) -> usize
         &h,
         &heights,
         &loads,
-        &vmax,
-        &vmin,
+        &weights,
         list,
     );
     put_count(list, next - 2);

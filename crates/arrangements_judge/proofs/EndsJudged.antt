@@ -5,7 +5,7 @@ use mathlib.Core.List.{List}
 use mathlib.Core.Path.{_≡_, refl, sym, ap, ap₂, subst, _∙_}
 use native.Mathlib.Omega.{arith}
 use lib.Dec.{eqb}
-use lib.ListN.{length, getD}
+use lib.ListN.{length, getD, take}
 use lib.Seq.{getD-take}
 use Rattle.sheet.specs.declared.Lash.{Lash}
 use Rattle.sheet.specs.declared.Sheet.{Sheet}
@@ -16,13 +16,14 @@ use Rattle.sheet.proofs.Bools.{not-true, not-false}
 use Rattle.sheet.proofs.Limits.{lash-wider}
 use Rattle.sheet.proofs.SheetLimits.{sheet-limits}
 use Rattle.springs.specs.inner.Promise.{Solvable}
-use Rattle.springs.specs.inner.Elimination.{solved}
 use Rattle.statics.specs.declared.EndFigures.{EndFigures}
 use Rattle.statics.specs.declared.Figures.{Figures}
-use Rattle.statics.specs.inner.Computed.{springsOf, stiffnessesOf, figuresAt, endFiguresBy, figuresBy, loadRuleOf}
+use Rattle.statics.specs.Reported.{Fitting}
+use Rattle.statics.specs.inner.Computed.{springsOf, endFiguresBy, figuresBy, loadRuleOf}
+use Rattle.statics.proofs.EndChain.{rule-stands}
 use Rattle.figures_lashes.specs.inner.Lashes.{LashesMeasured, LevelStiffnesses}
 use Rattle.figures.specs.inner.Ends.{Workable}
-use Rattle.figures.proofs.EndLaws.{each-ten, end-solvable, workable, springs-long}
+use Rattle.figures.proofs.EndLaws.{each-ten, end-solvable, workable, named-fits, springs-long}
 use Rattle.limits.specs.declared.PullLimit.{PullLimit}
 use Rattle.answer.specs.Findings.{endCode, figuresOf, named, endFindings}
 use Rattle.answer_findings.proofs.FindingLaws.{end-none, ends-accepted}
@@ -30,14 +31,14 @@ use Rattle.end_verdict.specs.inner.NoneOver.{noneFound}
 use Rattle.end_verdict.proofs.NoneFound.{none-found}
 use Rattle.gear.specs.Gear.{withLashes}
 use Rattle.chosen_lashes.specs.declared.Chosen.{Chosen}
-use Rattle.chosen_lashes.specs.inner.Gathered.{heldOf}
+use Rattle.chosen_lashes.specs.inner.Gathered.{Held, heldIn, heldOf}
 use Rattle.chosen_lashes.proofs.Picked.{levels-long}
 use Rattle.chosen_lashes.proofs.Held.{held-measured, held-levels}
-use Rattle.arrangements_judge.specs.inner.Judged.{lashesIn, EndGiven, noFinding, StackGiven, acceptedWith}
+use Rattle.arrangements_judge.specs.inner.Judged.{lashesIn, EndGiven, figuresWith, noFinding, StackGiven, acceptedWith}
 
 -- an end that is given: its shifts can be solved
-module _ {n : ℕ} {k hs : List ℕ} {m : ℕ} {ls : List Lash} {κ ω vmax vmin : List ℕ}
-    (e : EndGiven n k hs m ls κ ω vmax vmin) where
+module _ {n : ℕ} {k hs : List ℕ} {m : ℕ} {ls : List Lash} {κ ω weights : List ℕ}
+    (e : EndGiven n k hs m ls κ ω weights) where
   levels : LevelStiffnesses ls κ
   levels =
       let few : length ls ≤ 8 = omega (arith, e .counted, e .works .few-lashes) in
@@ -50,8 +51,9 @@ module _ {n : ℕ} {k hs : List ℕ} {m : ℕ} {ls : List Lash} {κ ω vmax vmin
       (end-solvable (e .works) (e .counted) levels, omega (arith, e .long), omega arith, omega (arith, e .long))
 
 -- a stack that is given, with lashes with which it fits
-module _ {t : Sheet} {pull : PullLimit} {k h hs ω vmax vmin : List ℕ} (given : StackGiven t pull k h hs ω vmax vmin) {g : Chosen}
-    (held : g ≡ heldOf (lashesIn g))
+module _ {t : Sheet} {pull : PullLimit} {k h hs ω weights : List ℕ} (given : StackGiven t pull k h hs ω weights) {g : Chosen}
+    {lengths stiffs κ : List ℕ}
+    (held : heldIn g lengths stiffs κ ≡ heldOf (lashesIn g))
     (fits : Fits (withLashes (lashesIn g) t)) where
   abbrev with-them : Sheet
   with-them = withLashes (lashesIn g) t
@@ -68,50 +70,56 @@ module _ {t : Sheet} {pull : PullLimit} {k h hs ω vmax vmin : List ℕ} (given 
   springs-are closed = given .closed-springs
 
   same : (e : End) → lashesIn g ≡ lashesOf e with-them
-  same door = ap lashesIn held
-  same closed = ap lashesIn held
+  same door = ap (λ (x : Held). take (x .count) (x .lashes)) held
+  same closed = ap (λ (x : Held). take (x .count) (x .lashes)) held
 
   counted : g .count ≡ length (lashesIn g)
-  counted = ap (λ (x : Chosen). x .count) held
+  counted = ap (λ (x : Held). x .count) held
 
-  pub end-given : (e : End) → EndGiven (t .ntiers) (springs e) hs (g .count) (lashesIn g) (g .levels) ω vmax vmin
+  pub end-given : (e : End) → EndGiven (t .ntiers) (springs e) hs (g .count) (lashesIn g) κ ω weights
   end-given e =
       record {
         works = rw (springs-are e, same e) works;
         counted = sym counted;
-        levelled = ap (λ (x : Chosen). x .levels) held;
-        long = (ap length (springs-are e) ∙ springs-long e (tiersOf t), given .long .0, given .long .1, given .long .2, given .long .3);
+        levelled = ap (λ (x : Held). x .levels) held;
+        long = (ap length (springs-are e) ∙ springs-long e (tiersOf t), given .long .0, given .long .1, given .long .2);
       }
     where
-      works : Workable (t .ntiers) (springsOf e (tiersOf t)) hs (g .count) (lashesOf e with-them) ω vmax vmin
+      works : Workable (t .ntiers) (springsOf e (tiersOf t)) hs (g .count) (lashesOf e with-them) ω weights
       works =
-          workable (sheet-limits fits) e (loadRuleOf t) (g .count) hs ω vmax vmin (omega (arith, counted, fits .door .few)) (given .loaded)
+          workable (sheet-limits fits) e (loadRuleOf t) (g .count) hs ω weights (omega (arith, counted, fits .door .few)) (given .loaded)
           (given .measured)
 
-  pub given-measured : LashesMeasured (g .count) (lashesIn g) (g .lengths) (g .stiffnesses)
+  pub given-measured : LashesMeasured (g .count) (lashesIn g) lengths stiffs
   given-measured =
-      subst (λ (x : Chosen). LashesMeasured (x .count) (lashesIn g) (x .lengths) (x .stiffnesses)) (sym held)
+      subst (λ (x : Held). LashesMeasured (x .count) (lashesIn g) (x .lengths) (x .stiffnesses)) (sym held)
       (held-measured (lashesIn g) few (λ j q. lash-wider (works .few) (works .each j q)))
     where
-      works : Workable (t .ntiers) (springs door) hs (g .count) (lashesIn g) ω vmax vmin
+      works : Workable (t .ntiers) (springs door) hs (g .count) (lashesIn g) ω weights
       works = end-given door .works
 
       few : length (lashesIn g) ≤ 8
       few = omega (arith, counted, works .few-lashes)
 
   -- an end's figures by its springs, its lashes and the loads
-  abbrev figuresWith : List ℕ → List Lash → List ℕ → EndFigures
-  figuresWith k ls ω = figuresAt (t .ntiers) k (tiersOf t) ls (solved (t .ntiers) k (stiffnessesOf ls) ω)
+  abbrev by : List ℕ → List Lash → List ℕ → EndFigures
+  by k ls ω = figuresWith (t .ntiers) k (tiersOf t) ls ω
+
+  pub given-fits : (e : End) → Fitting (by (springs e) (lashesIn g) ω)
+  given-fits e =
+      let limits = sheet-limits fits in
+      subst (λ (ls : List Lash). Fitting (by (springs e) ls ω)) (sym (same e))
+      (named-fits limits e (rule-stands limits) (springs-are e) (given .loaded .named))
 
   by-name : (e : End) → endFiguresBy (loadRuleOf t) e with-them ≡ figuresOf e figures
   unfolding figuresBy
   by-name door = refl
   by-name closed = refl
 
-  end-figures : (e : End) → figuresWith (springs e) (lashesIn g) ω ≡ figuresOf e figures
+  end-figures : (e : End) → by (springs e) (lashesIn g) ω ≡ figuresOf e figures
   end-figures e =
-      ap (λ (k : List ℕ). figuresWith k (lashesIn g) ω) (springs-are e)
-      ∙ ap₂ (λ (ls : List Lash) (ω : List ℕ). figuresWith (springsOf e (tiersOf t)) ls ω) (same e) (given .loaded .named)
+      ap (λ (k : List ℕ). by k (lashesIn g) ω) (springs-are e)
+      ∙ ap₂ (λ (ls : List Lash) (ω : List ℕ). by (springsOf e (tiersOf t)) ls ω) (same e) (given .loaded .named)
       ∙ by-name e
 
   pub end-judged :

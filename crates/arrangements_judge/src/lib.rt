@@ -5,11 +5,12 @@ ghost use mathlib.Core.List.{List};
 ghost use lib.ListN.{take};
 ghost use Rattle.sheet.specs.Fits.{Fits};
 ghost use Rattle.sheet.specs.declared.Tier.{Tier};
+ghost use Rattle.statics.specs.Reported.{Fitting};
 ghost use Rattle.figures_tiers.specs.inner.Loads.{TiersMeasured};
 ghost use Rattle.figures_lashes.specs.inner.Lashes.{LashesMeasured};
 ghost use Rattle.gear.specs.Gear.{withLashes};
-ghost use Rattle.chosen_lashes.specs.inner.Gathered.{heldOf};
-ghost use Rattle.arrangements_judge.specs.inner.Judged.{EndGiven, noFinding, StackGiven, acceptedWith};
+ghost use Rattle.chosen_lashes.specs.inner.Gathered.{heldIn, heldOf};
+ghost use Rattle.arrangements_judge.specs.inner.Judged.{EndGiven, figuresWith, noFinding, StackGiven, acceptedWith};
 use chosen_lashes::Chosen;
 use end_verdict::no_finding;
 use figures::figures_at;
@@ -30,18 +31,18 @@ fn end_without_finding(
     kappa: &[u64; 10],
     pull: PullLimit,
     loads: &[u64; 10],
-    vmax: &[u64; 11],
-    vmin: &[u64; 11],
+    weights: &[u64; 22],
 ) -> bool
-    requires { ⌜ EndGiven n (now k) (now heights) m (take m lashes) (now kappa) (now loads) (now vmax) (now vmin) ⌝ }
+    requires { ⌜ EndGiven n (now k) (now heights) m (take m lashes) (now kappa) (now loads) (now weights) ⌝ }
     requires { ⌜ LashesMeasured m (take m lashes) (now lengths) (now stiffnesses) ⌝ }
-    ensures { λ r. ⌜ ((ts : List Tier) → TiersMeasured n ts (now (heights .entry)) (now (vmax .entry)) (now (vmin .entry))
+    ensures { λ r. ⌜ ((ts : List Tier) → TiersMeasured n ts (now (heights .entry)) (now (weights .entry))
+        → Fitting (figuresWith n (now (k .entry)) ts (take m lashes) (now (loads .entry)))
         → r ≡ noFinding n (now (k .entry)) ts lashes m pull (now (loads .entry))) ⌝ }
 {
     let d = springs_solve::solve(n, k, kappa, loads);
     let mut racking = [0i32; 10];
-    let mut levels = [0u64; 21];
-    let mut forces = [0u64; 24];
+    let mut levels = [0u32; 21];
+    let mut forces = [0u32; 24];
     figures_at(
         n,
         k,
@@ -51,8 +52,7 @@ fn end_without_finding(
         lengths,
         stiffnesses,
         &d,
-        vmax,
-        vmin,
+        weights,
         &mut racking,
         &mut levels,
         &mut forces,
@@ -60,41 +60,41 @@ fn end_without_finding(
     no_finding(n, pull, lashes, m, &racking, &levels, &forces)
 }
 
-// Whether a stack with these lashes at both ends is accepted: k and h are the springs of the door end and of the closed end.
+// Whether a stack with these lashes at both ends is accepted: kappa are the sums of their stiffnesses by level, k and h the springs of the
+// door end and of the closed end.
 pub fn accepts(
     t: Sheet,
     g: Chosen,
+    lengths: &[u64; 8],
+    stiffnesses: &[u64; 8],
+    kappa: &[u64; 10],
     pull: PullLimit,
     k: &[u64; 10],
     h: &[u64; 10],
     heights: &[u16; 10],
     loads: &[u64; 10],
-    vmax: &[u64; 11],
-    vmin: &[u64; 11],
+    weights: &[u64; 22],
 ) -> bool
-    requires { ⌜ StackGiven t pull (now k) (now h) (now heights) (now loads) (now vmax) (now vmin) ⌝ }
-    requires { ⌜ (g ≡ heldOf (take (g .count) (g .lashes))) × Fits (withLashes (take (g .count) (g .lashes)) t) ⌝ }
+    requires { ⌜ StackGiven t pull (now k) (now h) (now heights) (now loads) (now weights) ⌝ }
+    requires { ⌜ (heldIn g (now lengths) (now stiffnesses) (now kappa) ≡ heldOf (take (g .count) (g .lashes)))
+        × Fits (withLashes (take (g .count) (g .lashes)) t) ⌝ }
     ensures { λ r. ⌜ r ≡ acceptedWith (take (g .count) (g .lashes)) t ⌝ }
 {
     let n = t.ntiers;
     let lashes = g.lashes;
     let m = g.count;
-    let lengths = g.lengths;
-    let stiffs = g.stiffnesses;
-    let kappa = g.levels;
     if !end_without_finding(
         n,
         k,
         heights,
         lashes,
         m,
-        &lengths,
-        &stiffs,
-        &kappa,
+        lengths,
+        stiffnesses,
+        kappa,
         pull,
         loads,
-        vmax,
-        vmin,
+        weights,
     ) {
         return false;
     }
@@ -104,12 +104,11 @@ pub fn accepts(
         heights,
         lashes,
         m,
-        &lengths,
-        &stiffs,
-        &kappa,
+        lengths,
+        stiffnesses,
+        kappa,
         pull,
         loads,
-        vmax,
-        vmin,
+        weights,
     )
 }

@@ -43,18 +43,41 @@ fn judge(
     h: &[u64; 10],
     heights: &[u16; 10],
     loads: &[u64; 10],
-    vmax: &[u64; 11],
-    vmin: &[u64; 11],
+    weights: &[u64; 22],
 ) -> bool
-    requires { ⌜ StackGiven t pull (now k) (now h) (now heights) (now loads) (now vmax) (now vmin) ⌝ }
+    requires { ⌜ StackGiven t pull (now k) (now h) (now heights) (now loads) (now weights) ⌝ }
     requires { ⌜ GearGiven t m (take m lashes) (now lengths) (now stiffnesses) ⌝ }
     ensures { λ r. ⌜ r ≡ ltb choice all && acceptedWith (chosen choice (take m lashes)) t ⌝ }
 {
     if all <= choice as usize {
         return false;
     }
-    let g = gather(choice, lashes, m, lengths, stiffnesses);
-    accepts(t, g, pull, k, h, heights, loads, vmax, vmin)
+    let mut long = [0u64; 8];
+    let mut stiff = [0u64; 8];
+    let mut kappa = [0u64; 10];
+    let g = gather(
+        choice,
+        lashes,
+        m,
+        lengths,
+        stiffnesses,
+        &mut long,
+        &mut stiff,
+        &mut kappa,
+    );
+    accepts(
+        t,
+        g,
+        &long,
+        &stiff,
+        &kappa,
+        pull,
+        k,
+        h,
+        heights,
+        loads,
+        weights,
+    )
 }
 
 // A choice's byte at `at` if it is accepted, and the place behind it.
@@ -82,11 +105,10 @@ pub fn put_choices(
     h: &[u64; 10],
     heights: &[u16; 10],
     loads: &[u64; 10],
-    vmax: &[u64; 11],
-    vmin: &[u64; 11],
+    weights: &[u64; 22],
     list: &mut [u8],
 ) -> usize
-    requires { ⌜ StackGiven t pull (now k) (now h) (now heights) (now loads) (now vmax) (now vmin) ⌝ }
+    requires { ⌜ StackGiven t pull (now k) (now h) (now heights) (now loads) (now weights) ⌝ }
     requires { ⌜ GearGiven t m (take m lashes) (now lengths) (now stiffnesses) × (258 ≤ length (now list)) ⌝ }
     ensures { λ r. ⌜ Wrote (now (list .entry)) 2 (acceptedChoices t (take m lashes) m) (now (list .exit)) r × (r ≤ 258) ⌝ }
 {
@@ -108,8 +130,7 @@ pub fn put_choices(
             h,
             heights,
             loads,
-            vmax,
-            vmin,
+            weights,
         );
         next = put_choice(list, next, choice, accepted);
         i += 1;

@@ -24,8 +24,7 @@ use Rattle.statics.proofs.Arrays.{entry-at}
 use Rattle.statics.proofs.LashStiffness.{stiffness-most}
 use Rattle.choices.specs.Choices.{uses, chosen}
 use Rattle.choices.proofs.Chosen.{few-chosen}
-use Rattle.chosen_lashes.specs.declared.Chosen.{Chosen}
-use Rattle.chosen_lashes.specs.inner.Gathered.{heldOf}
+use Rattle.chosen_lashes.specs.inner.Gathered.{Held, heldOf}
 
 -- one more at the end of an array's entries
 module _ {A : Type 0} (blank : A) where
@@ -33,7 +32,10 @@ module _ {A : Type 0} (blank : A) where
   set-behind [] k v = refl
   set-behind (x ∷ xs) k v = ap (λ (l : List A). x ∷ l) (set-behind xs k v)
 
-  pub one-more : (size : ℕ) (xs : List A) (v : A) → length xs < size → set (padded size blank xs) (length xs) v ≡ padded size blank (xs ++ v ∷ [])
+  pub one-more :
+      (size : ℕ) (xs : List A) (v : A) →
+      length xs < size →
+      set (padded size blank xs) (length xs) v ≡ padded size blank (xs ++ v ∷ [])
   one-more size xs v h =
       let e : size - length xs ≡ suc (size - (length xs + 1)) = omega arith in
       rw (e, length-append xs (v ∷ [])) (set-behind xs (size - (length xs + 1)) v ∙ sym (append-assoc xs (v ∷ []) _))
@@ -132,7 +134,9 @@ pub record GatheredTo (c : ℕ) (ls : List Lash) (j rest count : ℕ) (held : Li
   pub bits : (k : ℕ) → uses rest k ≡ uses c (j + k)
   pub holds : record { lashes = held; lengths = long; stiffnesses = stiff; levels = levels; count = count } ≡ heldOf (chosen c (take j ls))
 
-pub gathered-none : (c : ℕ) (ls : List Lash) → GatheredTo c ls 0 c 0 (replicate 8 blankLash) (replicate 8 0) (replicate 8 0) (replicate 10 0)
+pub gathered-none :
+    (c : ℕ) (ls : List Lash) →
+    GatheredTo c ls 0 c 0 (replicate 8 blankLash) (replicate 8 0) (replicate 8 0) (replicate 10 0)
 unfolding chosen stiffnessesOf levelStiffness from
 gathered-none c ls = record { within = omega arith; short = omega arith; bits = λ k. ap (uses c) (sym (zero-add k)); holds = refl }
 
@@ -188,7 +192,7 @@ module _ {c : ℕ} {ls : List Lash} (few : length ls ≤ 8) (each : (k : ℕ) �
   picked-few = omega (arith, few-chosen c (take j ls), length-take-le j ls (omega arith))
 
   level-is : {at : ℕ} → at < 10 → getD levels at 0 ≡ levelStiffness picked (suc at)
-  level-is {at} low = ap (λ (g : Chosen). getD (g .levels) at 0) (s .holds) ∙ level-entry picked at low
+  level-is {at} low = ap (λ (g : Held). getD (g .levels) at 0) (s .holds) ∙ level-entry picked at low
 
   each-stiff : (k : ℕ) → k < length (take j ls) → stiffnessOf (getD (take j ls) k blankLash) ≤ 155000 * 2 ^ 22
   each-stiff k q =
@@ -221,11 +225,11 @@ module _ {c : ℕ} {ls : List Lash} (few : length ls ≤ 8) (each : (k : ℕ) �
         GatheredTo c ls (suc j) (rest / 2) (suc count) (set held count l) (set long count x) (set stiff count y)
         (set levels at (getD levels at 0 + y))
     gathered-use {x} {y} {at} ex ey ea low =
-        let n = ap (λ (g : Chosen). g .count) (s .holds) in
-        let lashes = ap (λ (g : Chosen). g .lashes) (s .holds) in
-        let lengths = ap (λ (g : Chosen). g .lengths) (s .holds) in
-        let stiffnesses = ap (λ (g : Chosen). g .stiffnesses) (s .holds) in
-        let sums = ap (λ (g : Chosen). g .levels) (s .holds) in
+        let n = ap (λ (g : Held). g .count) (s .holds) in
+        let lashes = ap (λ (g : Held). g .lashes) (s .holds) in
+        let lengths = ap (λ (g : Held). g .lengths) (s .holds) in
+        let stiffnesses = ap (λ (g : Held). g .stiffnesses) (s .holds) in
+        let sums = ap (λ (g : Held). g .levels) (s .holds) in
         record {
           within = h;
           short = omega (arith, s .short);

@@ -29,7 +29,7 @@ fn rackings_kept(xs: &[i32], n: usize) -> bool
 }
 
 // Whether none of n sizes exceeds one limit, at the indexes from `first` on.
-fn all_kept(first: usize, xs: &[u64], limit: u64, n: usize) -> bool
+fn all_kept(first: usize, xs: &[u32], limit: u32, n: usize) -> bool
     requires { ⌜ (first ≤ 1) × (n ≤ 10) × (first + n ≤ length (now xs)) ⌝ }
     ensures { λ r. ⌜ r ≡ noneOver (λ i. getD (now (xs .entry)) i 0) (λ i. limit) first n ⌝ }
 {
@@ -43,7 +43,7 @@ fn all_kept(first: usize, xs: &[u64], limit: u64, n: usize) -> bool
 }
 
 // Whether none of m tensions exceeds the safe load of its lash.
-fn pulls_kept(lashes: [Lash; 8], xs: &[u64], m: usize) -> bool
+fn pulls_kept(lashes: [Lash; 8], xs: &[u32], m: usize) -> bool
     requires { ⌜ (m ≤ 8) × (m ≤ length (now xs)) ⌝ }
     ensures { λ r. ⌜ r ≡ noneOver (λ j. getD (now (xs .entry)) j 0) (lashLimit lashes) 0 m ⌝ }
 {
@@ -66,8 +66,8 @@ pub fn no_finding(
     lashes: [Lash; 8],
     m: usize,
     racking: &[i32],
-    levels: &[u64],
-    forces: &[u64],
+    levels: &[u32],
+    forces: &[u32],
 ) -> bool
     requires { ⌜ (n ≤ 10) × (m ≤ 8) ⌝ }
     requires { ⌜ Lengths (now racking) (now levels) (now forces) ⌝ }

@@ -1,7 +1,7 @@
 -- The figures of an end, put together from the steps that compute them.
-use Prim.Native.Nat.{ℕ, zero, suc, _^_, _<_, _≤_}
+use Prim.Native.Nat.{ℕ, zero, suc, _%_, _^_, _<_, _≤_}
 use mathlib.Core.List.{List, [], _∷_, map}
-use mathlib.Core.Path.{_≡_, refl, sym, ap, _∙_}
+use mathlib.Core.Path.{_≡_, refl, sym, ap, ap₂, subst, _∙_}
 use native.Mathlib.Omega.{arith}
 use lib.Dec.{lit≤}
 use lib.IntN.{ℤ, pos, _+ℤ_, _*ℤ_}
@@ -18,17 +18,21 @@ use Rattle.statics.specs.declared.EndFigures.{EndFigures}
 use Rattle.sheet.specs.inner.Limits.{LashLimits, SheetLimits}
 use Rattle.statics.specs.declared.LoadRule.{LoadRule}
 use Rattle.statics.specs.Ends.{springOf}
+use Rattle.statics.specs.Forces as F
+use Rattle.statics.specs.Loads.{Rule, StandsFor}
+use Rattle.statics.specs.Reported.{Fitting}
 use Rattle.sheet.specs.Ends.{End, tiersOf, lashesOf}
 use Rattle.statics.specs.inner.WholeNumbers.{Filled, levelStiffness, leePart, windwardPart, rackingPart, rackingFigure}
 use Rattle.statics.specs.inner.WholeNumbers.{momentPart, compressionFigure, tensionFigure, pullFigure, athwartFigure, verticalFigure}
-use Rattle.statics.specs.inner.Computed.{springsOf, stiffnessesOf, figuresAt}
+use Rattle.statics.specs.inner.Computed.{springsOf, stiffnessesOf, loadsOf, figuresAt}
 use Rattle.figures_tiers.specs.inner.Loads.{Loaded, TiersMeasured}
 use Rattle.figures.specs.inner.Ends.{Workable, endFigures}
 use Rattle.figures_levels.specs.inner.Levels.{momentBy, LevelInputs, LevelsFigured}
 use Rattle.figures_lashes.specs.inner.Lashes.{LevelStiffnesses, LashesFigured, VerticalsOn}
 use Rattle.arith.specs.Lists.{below}
 use Rattle.arith.proofs.Arrays.{length-entries}
-use Rattle.statics.proofs.Arrays.{entry-at, filled-padded}
+use Rattle.statics.proofs.Arrays.{entry-at, padded-at, filled-padded}
+use Rattle.statics.proofs.Figured.{end-figured}
 use Rattle.statics.proofs.Inputs.{spring-least, spring-most}
 use Rattle.statics.proofs.LevelStiffness.{level-most}
 use Rattle.figures.proofs.Corners.{ByCorner, by-corner}
@@ -51,9 +55,9 @@ moment-by k d (t ∷ ts) i = ap (λ (z : ℤ). pos (t .height) *ℤ rackingPart 
 
 -- at shifts that are given, the loads do not matter
 pub without-loads :
-    {n : ℕ} {k heights : List ℕ} {m : ℕ} {ls : List Lash} {ω vmax vmin : List ℕ} →
-    Workable n k heights m ls ω vmax vmin →
-    Workable n k heights m ls [] vmax vmin
+    {n : ℕ} {k heights : List ℕ} {m : ℕ} {ls : List Lash} {ω weights : List ℕ} →
+    Workable n k heights m ls ω weights →
+    Workable n k heights m ls [] weights
 without-loads h =
     record {
       few = h .few;
@@ -67,8 +71,21 @@ without-loads h =
       vmin-light = h .vmin-light;
     }
 
-module _ {n : ℕ} {k heights : List ℕ} {m : ℕ} {ls : List Lash} {ω vmax vmin : List ℕ}
-    (h : Workable n k heights m ls ω vmax vmin) (counted : length ls ≡ m) where
+-- a figure that fits is its word (figures_posts)
+whole-word : {x : ℕ} → x < 2 ^ 31 → x % 2 ^ 32 ≡ x
+whole-word h = omega arith
+
+module _ (n : ℕ) (k : List ℕ) (ts : List Tier) (ls : List Lash) (d : List ℕ) (fits : Fitting (figuresAt n k ts ls d)) where
+  pressed-fits : (i : ℕ) → i < suc n → compressionFigure k ts ls d i < 2 ^ 31
+  unfolding figuresAt
+  pressed-fits i q = rw (padded-at (compressionFigure k ts ls d) 0 11 (suc n) i q) at (fits .small F.compression i)
+
+  tensed-fits : (i : ℕ) → i < n → tensionFigure k ts ls d i < 2 ^ 31
+  unfolding figuresAt
+  tensed-fits i q = rw (padded-at (tensionFigure k ts ls d) 0 10 n i q) at (fits .small F.tension i)
+
+module _ {n : ℕ} {k heights : List ℕ} {m : ℕ} {ls : List Lash} {ω weights : List ℕ}
+    (h : Workable n k heights m ls ω weights) (counted : length ls ≡ m) where
   pub each-ten : (j : ℕ) → j < m → LashLimits 10 (getD ls j blankLash)
   each-ten j q = lash-wider (h .few) (h .each j (omega arith))
 
@@ -86,7 +103,7 @@ module _ {n : ℕ} {k heights : List ℕ} {m : ℕ} {ls : List Lash} {ω vmax vm
       ((i : ℕ) → getD d i 0 ≤ 2 ^ 40) →
       VerticalsOn leePart ls d lee →
       VerticalsOn windwardPart ls d windward →
-      LevelInputs n k heights d vmax vmin lee windward
+      LevelInputs n k heights d weights lee windward
   end-measured far u v =
       record {
         few = h .few;
@@ -107,8 +124,9 @@ module _ {n : ℕ} {k heights : List ℕ} {m : ℕ} {ls : List Lash} {ω vmax vm
       LashesFigured m ls d lash-tension athwart vertical →
       VerticalsOn leePart ls d lee →
       VerticalsOn windwardPart ls d windward →
-      LevelsFigured n k heights d vmax vmin lee windward racking compression tension →
-      TiersMeasured n ts heights vmax vmin →
+      LevelsFigured n k heights d weights lee windward racking compression tension →
+      TiersMeasured n ts heights weights →
+      Fitting (figuresAt n k ts ls d) →
       record {
         racking = racking;
         compression = compression;
@@ -119,14 +137,15 @@ module _ {n : ℕ} {k heights : List ℕ} {m : ℕ} {ls : List Lash} {ω vmax vm
       }
       ≡ figuresAt n k ts ls d
   unfolding figuresAt compressionFigure tensionFigure
-  end-named {ts} {d} {lash-tension} {athwart} {vertical} {lee} {windward} {racking} {compression} {tension} u x y l w =
+  end-named {ts} {d} {lash-tension} {athwart} {vertical} {lee} {windward} {racking} {compression} {tension} u x y l w fits =
       rw (
         filled-padded (λ i. rackingFigure (rackingPart (getD k i 0) d i)) (pos 0) 10 n racking (h .few) (l .racking-is),
         filled-padded (compressionFigure k ts ls d) 0 11 (suc n) compression (omega (arith, h .few))
-            (refilled (λ i q. rw (w .vmax-is i, moment i, lees .pressing i (omega arith), windwards .pressing i (omega arith)) refl)
-            (l .compression-is)),
+            (refilled (λ i q. rw (w .vmax-is i, moment i, lees .pressing i (omega arith), windwards .pressing i (omega arith))
+            (whole-word (pressed-fits n k ts ls d fits i q))) (l .compression-is)),
         filled-padded (tensionFigure k ts ls d) 0 10 n tension (h .few)
-            (refilled (λ i q. rw (w .vmin-is i, moment i, lees .pulling i q, windwards .pulling i q) refl) (l .tension-is)),
+            (refilled (λ i q. rw (w .vmin-is i, moment i, lees .pulling i q, windwards .pulling i q)
+            (whole-word (tensed-fits n k ts ls d fits i q))) (l .tension-is)),
         filled-padded (λ j. pullFigure d (getD ls j blankLash)) 0 8 (length ls) lash-tension (omega (arith, h .few-lashes))
             (rw counted (u .lash-tension-is)),
         filled-padded (λ j. athwartFigure d (getD ls j blankLash)) 0 8 (length ls) athwart (omega (arith, h .few-lashes))
@@ -164,15 +183,33 @@ end-solved e t k κ ω long levels ed ef =
     ∙ ap (λ (d : List ℕ). figuresAt (t .ntiers) k (tiersOf t) (lashesOf e t) d)
     (ed ∙ ap (λ (κ : List ℕ). solved (t .ntiers) k κ ω) (stiffnesses-named (lashesOf e t) long levels))
 
--- an end's figures may be computed
+-- .. which fit if the end's do
+pub end-fits :
+    (e : End) (t : Sheet) (k κ ω : List ℕ) {d : List ℕ} →
+    length κ ≡ 10 →
+    LevelStiffnesses (lashesOf e t) κ →
+    d ≡ solved (t .ntiers) k κ ω →
+    Fitting (endFigures e t k ω) →
+    Fitting (figuresAt (t .ntiers) k (tiersOf t) (lashesOf e t) d)
+end-fits e t k κ ω long levels ed = subst Fitting (sym (end-solved e t k κ ω long levels ed refl))
+
+-- an end's figures may be computed, and fit
 module _ {t : Sheet} (f : SheetLimits t) (e : End) where
+  pub named-fits :
+      {c : LoadRule} {rule : Rule} {k ω : List ℕ} →
+      StandsFor c rule →
+      k ≡ springsOf e (tiersOf t) →
+      ω ≡ loadsOf c (tiersOf t) →
+      Fitting (endFigures e t k ω)
+  named-fits stands ek eω = subst Fitting (sym (ap₂ (endFigures e t) ek eω)) (end-figured stands e f .fits)
+
   pub workable :
-      (rule : LoadRule) (m : ℕ) (heights ω vmax vmin : List ℕ) →
+      (rule : LoadRule) (m : ℕ) (heights ω weights : List ℕ) →
       m ≤ 8 →
       Loaded rule (t .ntiers) (tiersOf t) ω →
-      TiersMeasured (t .ntiers) (tiersOf t) heights vmax vmin →
-      Workable (t .ntiers) (springsOf e (tiersOf t)) heights m (lashesOf e t) ω vmax vmin
-  workable rule m heights ω vmax vmin few l v =
+      TiersMeasured (t .ntiers) (tiersOf t) heights weights →
+      Workable (t .ntiers) (springsOf e (tiersOf t)) heights m (lashesOf e t) ω weights
+  workable rule m heights ω weights few l v =
       record {
         few = f .few;
         springs = λ i h. rw (spring-at i h) (spring-least e (tier i), spring-most e (tier i));

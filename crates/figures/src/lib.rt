@@ -8,6 +8,7 @@ ghost use lib.ListN.{getD, length, replicate, take};
 ghost use Rattle.sheet.specs.Ends.{door, closed, tiersOf, lashesOf};
 ghost use Rattle.sheet.specs.Fits.{Fits};
 ghost use Rattle.sheet.specs.declared.Tier.{Tier};
+ghost use Rattle.statics.specs.Reported.{Fitting};
 ghost use Rattle.statics.specs.inner.Computed.{figuresAt, figuresBy};
 ghost use Rattle.statics.specs.inner.InArrays.{figuresIn, Lengths};
 ghost use Rattle.figures_tiers.specs.inner.Loads.{TiersMeasured};
@@ -37,19 +38,18 @@ pub fn figures_at(
     lengths: &[u64],
     stiffnesses: &[u64],
     d: &[u64],
-    vmax: &[u64],
-    vmin: &[u64],
+    weights: &[u64],
     racking: &mut [i32],
-    levels: &mut [u64],
-    forces: &mut [u64],
+    levels: &mut [u32],
+    forces: &mut [u32],
 )
-    requires { ⌜ Workable n (now k) (now heights) m (take m lashes) [] (now vmax) (now vmin) ⌝ }
-    requires { ⌜ (length (now k) ≡ 10) × (length (now heights) ≡ 10) × (length (now d) ≡ 11) × (length (now vmax) ≡ 11)
-        × (length (now vmin) ≡ 11) ⌝ }
+    requires { ⌜ Workable n (now k) (now heights) m (take m lashes) [] (now weights) ⌝ }
+    requires { ⌜ (length (now k) ≡ 10) × (length (now heights) ≡ 10) × (length (now d) ≡ 11) × (length (now weights) ≡ 22) ⌝ }
     requires { ⌜ LashesMeasured m (take m lashes) (now lengths) (now stiffnesses) × ((i : ℕ) → getD (now d) i 0 ≤ 2 ^ 40) ⌝ }
     requires { ⌜ (length (now lengths) ≡ 8) × (length (now stiffnesses) ≡ 8) ⌝ }
     requires { ⌜ (now racking ≡ replicate 10 (pos 0)) × (now levels ≡ replicate 21 0) × (now forces ≡ replicate 24 0) ⌝ }
-    ensures { λ _. ⌜ ((ts : List Tier) → TiersMeasured n ts (now (heights .entry)) (now (vmax .entry)) (now (vmin .entry))
+    ensures { λ _. ⌜ ((ts : List Tier) → TiersMeasured n ts (now (heights .entry)) (now (weights .entry))
+        → Fitting (figuresAt n (now (k .entry)) ts (take m lashes) (now (d .entry)))
         → figuresIn (now (racking .exit)) (now (levels .exit)) (now (forces .exit))
         ≡ figuresAt n (now (k .entry)) ts (take m lashes) (now (d .entry)))
         × Lengths (now (racking .exit)) (now (levels .exit)) (now (forces .exit)) ⌝ }
@@ -66,18 +66,7 @@ pub fn figures_at(
         &mut windward,
         forces,
     );
-    level_figures(
-        n,
-        k,
-        heights,
-        d,
-        vmax,
-        vmin,
-        &lee,
-        &windward,
-        racking,
-        levels,
-    );
+    level_figures(n, k, heights, d, weights, &lee, &windward, racking, levels);
 }
 
 // The figures of both ends, whose lashes are measured, under the loads that they share: springs k and stiffnesses kappa by level are the
@@ -94,25 +83,25 @@ fn figures_both(
     kappa: &[u64],
     eta: &[u64],
     loads: &[u64],
-    vmax: &[u64],
-    vmin: &[u64],
+    weights: &[u64],
     doorRacking: &mut [i32],
-    doorLevels: &mut [u64],
-    doorForces: &mut [u64],
+    doorLevels: &mut [u32],
+    doorForces: &mut [u32],
     closedRacking: &mut [i32],
-    closedLevels: &mut [u64],
-    closedForces: &mut [u64],
+    closedLevels: &mut [u32],
+    closedForces: &mut [u32],
 )
-    requires { ⌜ Workable (s .ntiers) (now k) (now heights) (s .ndoor) (lashesOf door s) (now loads) (now vmax) (now vmin) ⌝ }
-    requires { ⌜ Workable (s .ntiers) (now h) (now heights) (s .nclosed) (lashesOf closed s) (now loads) (now vmax) (now vmin) ⌝ }
+    requires { ⌜ Workable (s .ntiers) (now k) (now heights) (s .ndoor) (lashesOf door s) (now loads) (now weights) ⌝ }
+    requires { ⌜ Workable (s .ntiers) (now h) (now heights) (s .nclosed) (lashesOf closed s) (now loads) (now weights) ⌝ }
     requires { ⌜ LashesMeasured (s .ndoor) (lashesOf door s) (now doorLengths) (now doorStiffs)
         × LashesMeasured (s .nclosed) (lashesOf closed s) (now closedLengths) (now closedStiffs)
-        × TiersMeasured (s .ntiers) (tiersOf s) (now heights) (now vmax) (now vmin) ⌝ }
+        × TiersMeasured (s .ntiers) (tiersOf s) (now heights) (now weights) ⌝ }
     requires { ⌜ LevelStiffnesses (lashesOf door s) (now kappa) × LevelStiffnesses (lashesOf closed s) (now eta) ⌝ }
     requires { ⌜ (length (now k) ≡ 10) × (length (now h) ≡ 10) × (length (now kappa) ≡ 10) × (length (now eta) ≡ 10)
-        × (length (now loads) ≡ 10) × (length (now vmax) ≡ 11) × (length (now vmin) ≡ 11) × (length (now heights) ≡ 10) ⌝ }
+        × (length (now loads) ≡ 10) × (length (now weights) ≡ 22) × (length (now heights) ≡ 10) ⌝ }
     requires { ⌜ (now doorRacking ≡ replicate 10 (pos 0)) × (now doorLevels ≡ replicate 21 0) × (now doorForces ≡ replicate 24 0) ⌝ }
     requires { ⌜ (now closedRacking ≡ replicate 10 (pos 0)) × (now closedLevels ≡ replicate 21 0) × (now closedForces ≡ replicate 24 0) ⌝ }
+    requires { ⌜ Fitting (endFigures door s (now k) (now loads)) × Fitting (endFigures closed s (now h) (now loads)) ⌝ }
     ensures { λ _. ⌜ (figuresIn (now (doorRacking .exit)) (now (doorLevels .exit)) (now (doorForces .exit))
         ≡ endFigures door s (now (k .entry)) (now (loads .entry)))
         × Lengths (now (doorRacking .exit)) (now (doorLevels .exit)) (now (doorForces .exit)) ⌝ }
@@ -135,8 +124,7 @@ fn figures_both(
         doorLengths,
         doorStiffs,
         &d,
-        vmax,
-        vmin,
+        weights,
         doorRacking,
         doorLevels,
         doorForces,
@@ -150,8 +138,7 @@ fn figures_both(
         closedLengths,
         closedStiffs,
         &e,
-        vmax,
-        vmin,
+        weights,
         closedRacking,
         closedLevels,
         closedForces,
@@ -166,22 +153,22 @@ fn figures_loaded(
     h: &[u64],
     heights: &[u16],
     loads: &[u64],
-    vmax: &[u64],
-    vmin: &[u64],
+    weights: &[u64],
     doorRacking: &mut [i32],
-    doorLevels: &mut [u64],
-    doorForces: &mut [u64],
+    doorLevels: &mut [u32],
+    doorForces: &mut [u32],
     closedRacking: &mut [i32],
-    closedLevels: &mut [u64],
-    closedForces: &mut [u64],
+    closedLevels: &mut [u32],
+    closedForces: &mut [u32],
 )
-    requires { ⌜ Workable (s .ntiers) (now k) (now heights) (s .ndoor) (lashesOf door s) (now loads) (now vmax) (now vmin) ⌝ }
-    requires { ⌜ Workable (s .ntiers) (now h) (now heights) (s .nclosed) (lashesOf closed s) (now loads) (now vmax) (now vmin) ⌝ }
-    requires { ⌜ TiersMeasured (s .ntiers) (tiersOf s) (now heights) (now vmax) (now vmin) ⌝ }
+    requires { ⌜ Workable (s .ntiers) (now k) (now heights) (s .ndoor) (lashesOf door s) (now loads) (now weights) ⌝ }
+    requires { ⌜ Workable (s .ntiers) (now h) (now heights) (s .nclosed) (lashesOf closed s) (now loads) (now weights) ⌝ }
+    requires { ⌜ TiersMeasured (s .ntiers) (tiersOf s) (now heights) (now weights) ⌝ }
     requires { ⌜ (length (now k) ≡ 10) × (length (now h) ≡ 10) × (length (now heights) ≡ 10) × (length (now loads) ≡ 10)
-        × (length (now vmax) ≡ 11) × (length (now vmin) ≡ 11) ⌝ }
+        × (length (now weights) ≡ 22) ⌝ }
     requires { ⌜ (now doorRacking ≡ replicate 10 (pos 0)) × (now doorLevels ≡ replicate 21 0) × (now doorForces ≡ replicate 24 0) ⌝ }
     requires { ⌜ (now closedRacking ≡ replicate 10 (pos 0)) × (now closedLevels ≡ replicate 21 0) × (now closedForces ≡ replicate 24 0) ⌝ }
+    requires { ⌜ Fitting (endFigures door s (now k) (now loads)) × Fitting (endFigures closed s (now h) (now loads)) ⌝ }
     ensures { λ _. ⌜ (figuresIn (now (doorRacking .exit)) (now (doorLevels .exit)) (now (doorForces .exit))
         ≡ endFigures door s (now (k .entry)) (now (loads .entry)))
         × Lengths (now (doorRacking .exit)) (now (doorLevels .exit)) (now (doorForces .exit)) ⌝ }
@@ -211,8 +198,7 @@ fn figures_loaded(
         &kappa,
         &eta,
         loads,
-        vmax,
-        vmin,
+        weights,
         doorRacking,
         doorLevels,
         doorForces,
@@ -227,11 +213,11 @@ pub fn figures_by(
     s: Sheet,
     rule: LoadRule,
     doorRacking: &mut [i32],
-    doorLevels: &mut [u64],
-    doorForces: &mut [u64],
+    doorLevels: &mut [u32],
+    doorForces: &mut [u32],
     closedRacking: &mut [i32],
-    closedLevels: &mut [u64],
-    closedForces: &mut [u64],
+    closedLevels: &mut [u32],
+    closedForces: &mut [u32],
 )
     requires { ⌜ Fits s × (rule .share ≤ 20) × (rule .factor ≤ 1000) ⌝ }
     requires { ⌜ (now doorRacking ≡ replicate 10 (pos 0)) × (now doorLevels ≡ replicate 21 0) × (now doorForces ≡ replicate 24 0) ⌝ }
@@ -246,18 +232,9 @@ pub fn figures_by(
     let n = s.ntiers;
     let tiers = s.tiers;
     let mut loads = [0u64; 10];
-    let mut vmax = [0u64; 11];
-    let mut vmin = [0u64; 11];
+    let mut weights = [0u64; 22];
     let mut heights = [0u16; 10];
-    loads_of(
-        n,
-        tiers,
-        rule,
-        &mut loads,
-        &mut vmax,
-        &mut vmin,
-        &mut heights,
-    );
+    loads_of(n, tiers, rule, &mut loads, &mut weights, &mut heights);
     let mut k = [DOOR_SPRING; 10];
     let mut h = [CLOSED_SPRING; 10];
     springs_of(n, tiers, &mut k, &mut h);
@@ -267,8 +244,7 @@ pub fn figures_by(
         &h,
         &heights,
         &loads,
-        &vmax,
-        &vmin,
+        &weights,
         doorRacking,
         doorLevels,
         doorForces,

@@ -53,7 +53,7 @@ pub fn lash_figures(
     d: &[u64],
     lee: &mut [u64],
     windward: &mut [u64],
-    forces: &mut [u64],
+    forces: &mut [u32],
 )
     requires { ⌜ (m ≤ 8) × ((j : ℕ) → j < m → LashLimits 10 (getD (take m lashes) j blankLash)) ⌝ }
     requires { ⌜ LashesMeasured m (take m lashes) (now lengths) (now stiffnesses) × ((i : ℕ) → getD (now d) i 0 ≤ 2 ^ 40) ⌝ }

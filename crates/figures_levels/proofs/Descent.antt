@@ -5,13 +5,16 @@ use mathlib.Core.List.{List}
 use native.Mathlib.Omega.{arith}
 use lib.IntN.{ℤ, pos, _+ℤ_, _-ℤ_, _*ℤ_}
 use lib.ListN.{length, getD, set, take, drop, replicate, length-set}
-use lib.Seq.{take-set-le, take-set-lt, drop-set-lt, drop-set-add}
+use lib.Seq.{take-set-lt, drop-set-lt}
 use lib.Signed.{quotZ}
 use Rattle.arith.specs.inner.Sizes.{Small}
 use Rattle.arith.proofs.Sizes.{small-weaken, small-add, small-pos}
 use Rattle.springs.specs.Equations.{closedSpring}
 use Rattle.statics.specs.inner.WholeNumbers.{rackingPart, rackingFigure, compressionFrom, tensionFrom}
+use Rattle.statics.specs.inner.InArrays.{mostIn, leastIn}
+use Rattle.figures_posts.specs.inner.Posts.{word}
 use Rattle.figures_levels.specs.inner.Levels.{total, momentBy, LevelInputs, compressionAt, tensionAt, LevelsFigured}
+use Rattle.statics.proofs.Sections.{first-set, second-set}
 use Rattle.statics.proofs.Arrays.{Between, between-none, fill-below, fill-above, filled, peel, peeled-off}
 use Rattle.figures_posts.proofs.LevelLaws.{tier-moment-small, racking-small}
 
@@ -57,25 +60,13 @@ most-turn = 2896 * 2 ^ 45
 abbrev from-corner : ℕ → List ℕ → ℕ → ℕ
 from-corner n v c = total (drop c (take (suc (2 * n)) v))
 
--- the array of the levels: compressions, then tensions; a turn sets an entry of each section
-abbrev both-set : List ℕ → ℕ → ℕ → ℕ → List ℕ
-both-set levels j compression tension = set (set levels j compression) (11 + j) tension
-
-module _ (levels : List ℕ) {j : ℕ} (h : j < 11) (compression tension : ℕ) where
-  compressions-set : take 11 (both-set levels j compression tension) ≡ set (take 11 levels) j compression
-  compressions-set =
-      take-set-le 11 (set levels j compression) (11 + j) tension (omega arith) ∙ take-set-lt 11 levels j compression h
-
-  tensions-set : drop 11 (both-set levels j compression tension) ≡ set (drop 11 levels) j tension
-  tensions-set = rw (drop-set-add 11 (set levels j compression) j tension, drop-set-lt 11 levels j compression h) refl
-
 pub record FiguredFrom
-    (n : ℕ) (k hs d vmax vmin lee windward : List ℕ)
+    (n : ℕ) (k hs d weights lee windward : List ℕ)
     (racking : List ℤ) (levels : List ℕ) (moment : ℤ) (lees windwards i : ℕ) : Type 0 where
   pub within : i ≤ n
   pub racked : Between (pos 0) (λ j x. x ≡ rackingFigure (rackingPart (getD k j 0) d j)) 10 i n racking
-  pub pressed : Between 0 (λ j x. x ≡ compressionAt n k hs d vmax vmin lee windward j) 11 i (suc n) (take 11 levels)
-  pub tensed : Between 0 (λ j x. x ≡ tensionAt n k hs d vmax vmin lee windward j) 10 i n (drop 11 levels)
+  pub pressed : Between 0 (λ j x. x ≡ compressionAt n k hs d weights lee windward j) 11 i (suc n) (take 11 levels)
+  pub tensed : Between 0 (λ j x. x ≡ tensionAt n k hs d weights lee windward j) 10 i n (drop 11 levels)
   pub levels-long : length levels ≡ 21
   pub moment-is : moment ≡ momentBy k d (drop i (take n hs)) i
   pub lees-are : lees ≡ from-corner n lee (2 * i)
@@ -84,18 +75,17 @@ pub record FiguredFrom
   pub lees-small : lees ≤ suc (2 * (n - i)) * 2 ^ 57
   pub windwards-small : windwards ≤ suc (2 * (n - i)) * 2 ^ 57
 
-module _ {n : ℕ} {k hs d vmax vmin lee windward : List ℕ}
-    (m : LevelInputs n k hs d vmax vmin lee windward) (stacked : n ≤ length hs) where
+module _ {n : ℕ} {k hs d weights lee windward : List ℕ}
+    (m : LevelInputs n k hs d weights lee windward) (stacked : n ≤ length hs) where
   pub at-top :
       {v : ℕ} →
-      v ≡ compressionFrom (getD vmax n 0) (pos 0) (getD lee (2 * n) 0) (getD windward (2 * n) 0) →
+      v ≡ word (compressionFrom (getD (mostIn weights) n 0) (pos 0) (getD lee (2 * n) 0) (getD windward (2 * n) 0)) →
       FiguredFrom
       n
       k
       hs
       d
-      vmax
-      vmin
+      weights
       lee
       windward
       (replicate 10 (pos 0))
@@ -152,7 +142,7 @@ module _ {n : ℕ} {k hs d vmax vmin lee windward : List ℕ}
     -- lee post and on the windward one, tl and tw those of the top hooks
     to-under :
         {j : ℕ} {p : ℤ} {h : ℕ} {r : ℤ} {bl bw tl tw compression tension : ℕ} {moment′ : ℤ} {lees′ windwards′ : ℕ} →
-        FiguredFrom n k hs d vmax vmin lee windward racking levels moment lees windwards (suc j) →
+        FiguredFrom n k hs d weights lee windward racking levels moment lees windwards (suc j) →
         p ≡ rackingPart (getD k j 0) d j →
         h ≡ getD hs j 0 →
         r ≡ rackingFigure p →
@@ -163,19 +153,18 @@ module _ {n : ℕ} {k hs d vmax vmin lee windward : List ℕ}
         moment′ ≡ pos h *ℤ p +ℤ moment →
         lees′ ≡ lees + bl + tl →
         windwards′ ≡ windwards + bw + tw →
-        compression ≡ compressionFrom (getD vmax j 0) (pos h *ℤ p +ℤ moment) (lees + bl + tl) (windwards + bw + tw) →
-        tension ≡ tensionFrom (getD vmin j 0) (pos h *ℤ p +ℤ moment) (lees + bl) (windwards + bw) →
+        compression ≡ word (compressionFrom (getD (mostIn weights) j 0) (pos h *ℤ p +ℤ moment) (lees + bl + tl) (windwards + bw + tw)) →
+        tension ≡ word (tensionFrom (getD (leastIn weights) j 0) (pos h *ℤ p +ℤ moment) (lees + bl) (windwards + bw)) →
         FiguredFrom
         n
         k
         hs
         d
-        vmax
-        vmin
+        weights
         lee
         windward
         (set racking j r)
-        (both-set levels j compression tension)
+        (set (set levels j compression) (11 + j) tension)
         moment′
         lees′
         windwards′
@@ -185,11 +174,11 @@ module _ {n : ℕ} {k hs d vmax vmin lee windward : List ℕ}
           within = omega (arith, s .within);
           racked = fill-below _ _ 10 j n racking r (s .within) (omega (arith, m .few, s .within)) (rw ep at er) (s .racked);
           pressed =
-              rw (compressions-set levels low compression tension)
+              rw (first-set 11 levels low compression tension)
               (fill-below _ _ 11 j (suc n) (take 11 levels) compression (omega (arith, s .within)) low
               (rw (← moment-under, ← lee-under .1, ← windward-under .1) ec) (s .pressed));
           tensed =
-              rw (tensions-set levels low compression tension)
+              rw (second-set 11 levels low compression tension)
               (fill-below _ _ 10 j n (drop 11 levels) tension (s .within) (omega (arith, m .few, s .within))
               (rw (← moment-under, ← lee-under .0, ← windward-under .0) et) (s .tensed));
           levels-long = simp length-set (s .levels-long);
@@ -223,7 +212,7 @@ module _ {n : ℕ} {k hs d vmax vmin lee windward : List ℕ}
     pub turned-once :
         {i : ℕ} {p : ℤ} {h : ℕ} {r : ℤ} {bl bw tl tw compression tension : ℕ} {moment′ : ℤ} {lees′ windwards′ : ℕ} →
         0 < i →
-        FiguredFrom n k hs d vmax vmin lee windward racking levels moment lees windwards i →
+        FiguredFrom n k hs d weights lee windward racking levels moment lees windwards i →
         p ≡ quotZ (pos (getD k (i - 1) 0 * getD d i 0) -ℤ pos (getD k (i - 1) 0 * getD d (i - 1) 0)) (pos 1024) →
         h ≡ getD hs (i - 1) 0 →
         r ≡ rackingFigure p →
@@ -234,15 +223,15 @@ module _ {n : ℕ} {k hs d vmax vmin lee windward : List ℕ}
         moment′ ≡ pos h *ℤ p +ℤ moment →
         lees′ ≡ lees + bl + tl →
         windwards′ ≡ windwards + bw + tw →
-        compression ≡ compressionFrom (getD vmax (i - 1) 0) (pos h *ℤ p +ℤ moment) (lees + bl + tl) (windwards + bw + tw) →
-        tension ≡ tensionFrom (getD vmin (i - 1) 0) (pos h *ℤ p +ℤ moment) (lees + bl) (windwards + bw) →
+        compression
+        ≡ word (compressionFrom (getD (mostIn weights) (i - 1) 0) (pos h *ℤ p +ℤ moment) (lees + bl + tl) (windwards + bw + tw)) →
+        tension ≡ word (tensionFrom (getD (leastIn weights) (i - 1) 0) (pos h *ℤ p +ℤ moment) (lees + bl) (windwards + bw)) →
         FiguredFrom
         n
         k
         hs
         d
-        vmax
-        vmin
+        weights
         lee
         windward
         (set racking (i - 1) r)
@@ -255,15 +244,15 @@ module _ {n : ℕ} {k hs d vmax vmin lee windward : List ℕ}
     turned-once {i} up s ep =
         let e : i ≡ suc (i - 1) = omega arith in
         to-under
-        (subst (λ (z : ℕ). FiguredFrom n k hs d vmax vmin lee windward racking levels moment lees windwards z) e s)
+        (subst (λ (z : ℕ). FiguredFrom n k hs d weights lee windward racking levels moment lees windwards z) e s)
         (ep ∙ ap (λ (z : ℕ). quotZ (pos (getD k (i - 1) 0 * getD d z 0) -ℤ pos (getD k (i - 1) 0 * getD d (i - 1) 0)) (pos 1024)) e)
 
     pub at-foot :
         {i : ℕ} →
         i ≤ 0 →
-        FiguredFrom n k hs d vmax vmin lee windward racking levels moment lees windwards i →
-        LevelsFigured n k hs d vmax vmin lee windward racking (take 11 levels) (drop 11 levels)
+        FiguredFrom n k hs d weights lee windward racking levels moment lees windwards i →
+        LevelsFigured n k hs d weights lee windward racking (take 11 levels) (drop 11 levels)
     at-foot {i} h s =
         let e : i ≡ 0 = omega arith in
-        let f = subst (λ (z : ℕ). FiguredFrom n k hs d vmax vmin lee windward racking levels moment lees windwards z) e s in
+        let f = subst (λ (z : ℕ). FiguredFrom n k hs d weights lee windward racking levels moment lees windwards z) e s in
         record { racking-is = filled (f .racked); compression-is = filled (f .pressed); tension-is = filled (f .tensed) }

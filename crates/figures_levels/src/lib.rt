@@ -30,23 +30,21 @@ pub fn level_figures(
     k: &[u64],
     heights: &[u16],
     d: &[u64],
-    vmax: &[u64],
-    vmin: &[u64],
+    weights: &[u64],
     lee: &[u64],
     windward: &[u64],
     racking: &mut [i32],
-    levels: &mut [u64],
+    levels: &mut [u32],
 )
-    requires { ⌜ LevelInputs n (now k) (now heights) (now d) (now vmax) (now vmin) (now lee) (now windward) ⌝ }
-    requires { ⌜ (length (now k) ≡ 10) × (length (now heights) ≡ 10) × (length (now d) ≡ 11) × (length (now vmax) ≡ 11)
-        × (length (now vmin) ≡ 11) ⌝ }
+    requires { ⌜ LevelInputs n (now k) (now heights) (now d) (now weights) (now lee) (now windward) ⌝ }
+    requires { ⌜ (length (now k) ≡ 10) × (length (now heights) ≡ 10) × (length (now d) ≡ 11) × (length (now weights) ≡ 22) ⌝ }
     requires { ⌜ (now racking ≡ replicate 10 (pos 0)) × (now levels ≡ replicate 21 0) ⌝ }
-    ensures { λ _. ⌜ LevelsFigured n (now (k .entry)) (now (heights .entry)) (now (d .entry)) (now (vmax .entry)) (now (vmin .entry))
+    ensures { λ _. ⌜ LevelsFigured n (now (k .entry)) (now (heights .entry)) (now (d .entry)) (now (weights .entry))
         (now (lee .entry)) (now (windward .entry)) (now (racking .exit)) (take 11 (now (levels .exit))) (drop 11 (now (levels .exit))) ⌝ }
     ensures { λ _. ⌜ (length (now (racking .exit)) ≡ 10) × (length (now (levels .exit)) ≡ 21) ⌝ }
 {
     let highest = parts_at(lee, windward, 2 * n);
-    levels[n] = compression_of(vmax[n], 0, highest);
+    levels[n] = compression_of(weights[n], 0, highest);
     let mut above = Above {
         moment: 0,
         parts: highest,
@@ -58,7 +56,15 @@ pub fn level_figures(
         let part = racking_part(k[i], upper, d[i]);
         let bottom = parts_at(lee, windward, 2 * i + 1);
         let top = parts_at(lee, windward, 2 * i);
-        let l = level_under(above, part, heights[i], bottom, top, vmax[i], vmin[i]);
+        let l = level_under(
+            above,
+            part,
+            heights[i],
+            bottom,
+            top,
+            weights[i],
+            weights[11 + i],
+        );
         let force = racking_figure(part);
         racking[i] = force;
         levels[i] = l.compression;

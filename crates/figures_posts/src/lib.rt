@@ -9,7 +9,7 @@ ghost use Rattle.arith.specs.inner.Sizes.{Small};
 ghost use Rattle.springs.specs.Equations.{closedSpring};
 ghost use Rattle.statics.specs.Posts.{postSpacing};
 ghost use Rattle.statics.specs.inner.WholeNumbers.{rackingFigure, postPad, postFigure, notBelow};
-ghost use Rattle.figures_posts.specs.inner.Posts.{greaterOf, leeOf, windwardOf};
+ghost use Rattle.figures_posts.specs.inner.Posts.{greaterOf, leeOf, windwardOf, word};
 use statics::PostParts;
 
 // What a racking and a post sum may lack: 0.06 N and 3.41 N.
@@ -109,6 +109,14 @@ fn pressed_figure(x: i64, y: i64) -> u64
     greater_newtons(x, y) as u64
 }
 
+// A figure as a word of four bytes. The remainder changes no figure that a taken sheet leads to: it keeps the cast in range, so that no
+// bound on the figure need be handed down to here.
+fn word_of(figure: u64) -> u32
+    ensures { λ r. ⌜ r ≡ word figure ⌝ }
+{
+    (figure % 4294967296) as u32
+}
+
 // The sum of a post: half the weight above, what the moment adds, and the vertical parts.
 fn post_sum(weight: u64, couple: i64, vertical: u64) -> i64
     requires { ⌜ (weight ≤ 2 ^ 40) × Small (2 ^ 50) couple × (vertical ≤ 2 ^ 62) ⌝ }
@@ -119,25 +127,25 @@ fn post_sum(weight: u64, couple: i64, vertical: u64) -> i64
 
 // Compression at a level, from half the weight above it, the moment over the post spacing, and the vertical parts on the posts. The moment
 // presses one of them.
-pub fn compression_of(weight: u64, couple: i64, parts: PostParts) -> u64
+pub fn compression_of(weight: u64, couple: i64, parts: PostParts) -> u32
     requires { ⌜ (weight ≤ 2 ^ 40) × Small (2 ^ 50) couple × (parts .lee ≤ 2 ^ 62) × (parts .windward ≤ 2 ^ 62) ⌝ }
-    ensures { λ r. ⌜ r ≡ postFigure (leeOf weight couple parts) (windwardOf weight couple parts) ⌝ }
+    ensures { λ r. ⌜ r ≡ word (postFigure (leeOf weight couple parts) (windwardOf weight couple parts)) ⌝ }
 {
-    pressed_figure(
+    word_of(pressed_figure(
         post_sum(weight, couple, parts.lee),
         post_sum(weight, negative(couple), parts.windward),
-    )
+    ))
 }
 
 // Tension, from the same.
-pub fn tension_of(weight: u64, couple: i64, parts: PostParts) -> u64
+pub fn tension_of(weight: u64, couple: i64, parts: PostParts) -> u32
     requires { ⌜ (weight ≤ 2 ^ 40) × Small (2 ^ 50) couple × (parts .lee ≤ 2 ^ 62) × (parts .windward ≤ 2 ^ 62) ⌝ }
-    ensures { λ r. ⌜ r ≡ postFigure (negℤ (leeOf weight couple parts)) (negℤ (windwardOf weight couple parts)) ⌝ }
+    ensures { λ r. ⌜ r ≡ word (postFigure (negℤ (leeOf weight couple parts)) (negℤ (windwardOf weight couple parts))) ⌝ }
 {
-    post_figure(
+    word_of(post_figure(
         negative(post_sum(weight, couple, parts.lee)),
         negative(post_sum(weight, negative(couple), parts.windward)),
-    )
+    ))
 }
 
 // The moment at the level under a tier: the tier's own, and that at the level over it.

@@ -91,22 +91,20 @@ fn half_weight(units: u64) -> u64
     981 * units * NEWTON / 400000
 }
 
-// The loads on levels 1 to n; half of V above levels 0 to n, with A_Vmax and with A_Vmin; and the heights of the tiers.
+// The loads on levels 1 to n; half of V above levels 0 to n with A_Vmax, and behind these eleven with A_Vmin; and the heights of the tiers.
 pub fn loads_of(
     n: usize,
     tiers: [Tier; 10],
     rule: LoadRule,
     loads: &mut [u64],
-    vmax: &mut [u64],
-    vmin: &mut [u64],
+    weights: &mut [u64],
     heights: &mut [u16],
 )
     requires { ⌜ (n ≤ 10) × (rule .share ≤ 20) × (rule .factor ≤ 1000) ⌝ }
     requires { ⌜ ((i : ℕ) → i < n → TierLimits (getD (take n tiers) i blankTier)) ⌝ }
-    requires { ⌜ (now loads ≡ replicate 10 0) × (now vmax ≡ replicate 11 0) × (now vmin ≡ replicate 11 0)
-        × (length (now heights) ≡ 10) ⌝ }
+    requires { ⌜ (now loads ≡ replicate 10 0) × (now weights ≡ replicate 22 0) × (length (now heights) ≡ 10) ⌝ }
     ensures { λ _. ⌜ Loaded rule n (take n tiers) (now (loads .exit))
-        × TiersMeasured n (take n tiers) (now (heights .exit)) (now (vmax .exit)) (now (vmin .exit)) ⌝ }
+        × TiersMeasured n (take n tiers) (now (heights .exit)) (now (weights .exit)) ⌝ }
 {
     let mut over = TierLoad {
         transverse: 0,
@@ -123,8 +121,8 @@ pub fn loads_of(
         over = tier;
         vmax_units += mass_by(t.mass, t.aVmax);
         vmin_units += mass_by(t.mass, t.aVmin);
-        vmax[i] = half_weight(vmax_units);
-        vmin[i] = half_weight(vmin_units);
+        weights[i] = half_weight(vmax_units);
+        weights[11 + i] = half_weight(vmin_units);
         heights[i] = t.height;
     }
 }

@@ -5,6 +5,7 @@ ghost use Prim.Native.Nat.{_+_, _*_, _≤_, _^_};
 ghost use lib.IntN.{pos, _+ℤ_, _*ℤ_};
 ghost use Rattle.arith.specs.inner.Sizes.{Small};
 ghost use Rattle.statics.specs.inner.WholeNumbers.{compressionFrom, tensionFrom};
+ghost use Rattle.figures_posts.specs.inner.Posts.{word};
 use figures_posts::compression_of;
 use figures_posts::couple_of;
 use figures_posts::moment_under;
@@ -19,8 +20,8 @@ pub struct Above {
 
 pub struct Level {
     pub above: Above,
-    pub compression: u64,
-    pub tension: u64,
+    pub compression: u32,
+    pub tension: u32,
 }
 
 // The level under a tier of racking `part`, with the vertical parts of the lashes at it: on the bottom corner of that tier, which count in
@@ -41,10 +42,10 @@ pub fn level_under(
     ensures { λ r. ⌜ r .above .moment ≡ pos height *ℤ part +ℤ above .moment ⌝ }
     ensures { λ r. ⌜ r .above .parts .lee ≡ above .parts .lee + bottom .lee + top .lee ⌝ }
     ensures { λ r. ⌜ r .above .parts .windward ≡ above .parts .windward + bottom .windward + top .windward ⌝ }
-    ensures { λ r. ⌜ r .compression ≡ compressionFrom vmax (pos height *ℤ part +ℤ above .moment)
-        (above .parts .lee + bottom .lee + top .lee) (above .parts .windward + bottom .windward + top .windward) ⌝ }
-    ensures { λ r. ⌜ r .tension ≡ tensionFrom vmin (pos height *ℤ part +ℤ above .moment)
-        (above .parts .lee + bottom .lee) (above .parts .windward + bottom .windward) ⌝ }
+    ensures { λ r. ⌜ r .compression ≡ word (compressionFrom vmax (pos height *ℤ part +ℤ above .moment)
+        (above .parts .lee + bottom .lee + top .lee) (above .parts .windward + bottom .windward + top .windward)) ⌝ }
+    ensures { λ r. ⌜ r .tension ≡ word (tensionFrom vmin (pos height *ℤ part +ℤ above .moment)
+        (above .parts .lee + bottom .lee) (above .parts .windward + bottom .windward)) ⌝ }
 {
     let moment = moment_under(above.moment, part, height);
     let couple = couple_of(moment);

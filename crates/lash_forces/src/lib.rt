@@ -75,18 +75,18 @@ fn along_side(x: u64, side: u64, inv: u64) -> u64
 }
 
 // A padded athwart part × a side / LY, in N upwards.
-fn figure_along(padded: u64, side: u64, inv: u64) -> u64
+fn figure_along(padded: u64, side: u64, inv: u64) -> u32
     requires { ⌜ (side ≤ 22913) × (inv ≤ 140737488356) ⌝ }
     ensures { λ r. ⌜ r ≡ roundedUp (along padded side inv + alongPad) (2 ^ 18) ⌝ }
 {
-    ceil_div(along_side(padded, side, inv) + ALONG_PAD, NEWTON)
+    ceil_div(along_side(padded, side, inv) + ALONG_PAD, NEWTON) as u32
 }
 
 // The figures of one lash.
 pub struct LashForces {
-    pub tension: u64,
-    pub athwart: u64,
-    pub vertical: u64,
+    pub tension: u32,
+    pub athwart: u32,
+    pub vertical: u32,
 }
 
 // The figures of a lash of this length, from its athwart part.
@@ -98,9 +98,10 @@ pub fn forces_of(l: Lash, long: u64, part: u64) -> LashForces
 {
     let inv = inverse_of(l.ly as u64);
     let padded = part + LASH_PAD;
+    let athwart = ceil_div(padded, NEWTON) as u32;
     LashForces {
         tension: figure_along(padded, long, inv),
-        athwart: ceil_div(padded, NEWTON),
+        athwart: athwart,
         vertical: figure_along(padded, l.lz as u64, inv),
     }
 }

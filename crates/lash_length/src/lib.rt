@@ -12,9 +12,9 @@ use sheet::Lash;
 
 // A lash's sides: the sum of their squares, the longest of them and the sum of the other two.
 struct Sides {
-    squares: u64,
-    longest: u64,
-    others: u64,
+    squares: u32,
+    longest: u32,
+    others: u32,
 }
 
 // The search as far as it has come: a length that is enough, and how many trials were squared.
@@ -23,7 +23,7 @@ pub struct Progress {
     pub squared: u64,
 }
 
-fn longer(x: u64, y: u64) -> u64
+fn longer(x: u32, y: u32) -> u32
     ensures { λ r. ⌜ r ≡ max x y ⌝ }
 {
     if x <= y {
@@ -33,7 +33,7 @@ fn longer(x: u64, y: u64) -> u64
 }
 
 // A side's square, which is no trial, with the bound that the sum wants.
-fn square(x: u64) -> u64
+fn square(x: u32) -> u32
     requires { ⌜ x ≤ 20000 ⌝ }
     ensures { λ r. ⌜ (r ≡ x * x) × (r ≤ 400000000) ⌝ }
 {
@@ -45,9 +45,9 @@ fn sides_of(l: Lash) -> Sides
     ensures { λ r. ⌜ (r .squares ≡ squares l) × (r .longest ≡ longest l) × (r .others ≡ others l) ⌝ }
     ensures { λ r. ⌜ (r .squares ≤ 1200000000) × (0 < r .longest) × (r .longest ≤ 20000) × (r .others ≤ 40000) ⌝ }
 {
-    let lx = l.lx as u64;
-    let ly = l.ly as u64;
-    let lz = l.lz as u64;
+    let lx = l.lx as u32;
+    let ly = l.ly as u32;
+    let lz = l.lz as u32;
     let longest = longer(lx, longer(ly, lz));
     Sides {
         squares: square(lx) + square(ly) + square(lz),
@@ -56,8 +56,8 @@ fn sides_of(l: Lash) -> Sides
     }
 }
 
-// Newton's step, rounded up.
-fn step(s: u64, x: u64) -> u64
+// Newton's step, rounded up. In 32 bits: a division in 64 takes longer, or first a test whether 32 are enough.
+fn step(s: u32, x: u32) -> u32
     requires { ⌜ (s ≤ 1200000000) × (0 < x) × (x ≤ 2000000000) ⌝ }
     ensures { λ r. ⌜ (r ≡ nearer s x) × (0 < r) × (r ≤ 2000000000) ⌝ }
 {
@@ -66,7 +66,7 @@ fn step(s: u64, x: u64) -> u64
 
 // Where the search starts. Unlike a search by halving, Newton's steps have no branch to guess. The first is from a number that takes no
 // division, near enough to the root that after two steps one trial is left.
-fn start_of(g: Sides) -> u64
+fn start_of(g: Sides) -> u32
     requires { ⌜ (g .squares ≤ 1200000000) × (0 < g .longest) × (g .longest ≤ 20000) × (g .others ≤ 40000) ⌝ }
     ensures { λ r. ⌜ r ≡ nearer (g .squares) (nearer (g .squares) (guess (g .longest) (g .others))) ⌝ }
     ensures { λ r. ⌜ r ≤ 2000000000 ⌝ }
@@ -82,8 +82,9 @@ fn tried(g: Sides, at: Progress) -> Progress
     ensures { λ r. ⌜ r .squared ≡ at .squared + 1 ⌝ }
 {
     let trial = at.length - 1;
+    let squares = g.squares as u64;
     Progress {
-        length: at.length - ((g.squares <= trial * trial) as u64),
+        length: at.length - ((squares <= trial * trial) as u64),
         squared: at.squared + 1,
     }
 }
@@ -95,7 +96,7 @@ pub fn search(l: Lash) -> Progress
     ensures { λ r. ⌜ r .length ≡ lashLength l ⌝ }
 {
     let g = sides_of(l);
-    let enough = start_of(g);
+    let enough = start_of(g) as u64;
     tried(
         g,
         Progress {

@@ -6,8 +6,8 @@ ghost use mathlib.Core.Bool.{true};
 ghost use Prim.Native.Nat.{_*_, _/_, _<_, _≤_, _^_};
 use arith::rounding::scaled;
 use arith::rounding::scaled_twice;
+use floats::below;
 use floats::float_of;
-use floats::near;
 
 // By divisions. A lash under 16,384 mm takes a division less.
 fn over_cube(force: u64, cube: u64) -> u64
@@ -53,7 +53,7 @@ fn candidate(load: u64, side: u64, cube: u64) -> u64
     ensures { λ r. ⌜ r < 1099511627776 ⌝ }
 {
     let force = float_of(load) * float_of(side * 4194304);
-    near(force / float_of(cube) - 0.5) % 1099511627776
+    below(force / float_of(cube)) % 1099511627776
 }
 
 // The stiffness of a lash of this load, side and length.

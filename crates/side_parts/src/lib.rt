@@ -47,7 +47,7 @@ pub fn verdict_of(racking: &[u64], n: usize) -> u64
 {
     let mut i = 0;
     while i < n {
-        if Limits::SIDE_WALL < racking[i] {
+        if (Limits::SIDE_WALL as u64) < racking[i] {
             return 1;
         }
         i += 1;

@@ -7,7 +7,7 @@ use native.Mathlib.Nat.{zero-add, mod-lt}
 use native.Mathlib.Omega.{arith}
 use native.Mathlib.Decide.{decLe}
 use lib.Dec.{lit<}
-use lib.Ieee.{Float, nan, binary64, add, mul}
+use lib.Ieee.{Float, binary64, add, mul}
 use lib.ListN.{length, getD, List·getD-eq-default}
 use lib.Seq.{ext-getD}
 use borrow.Author.Tests.{lt-ltb, le-ltb}
@@ -90,29 +90,29 @@ module _ (n : ℕ) (k κ ω : List ℕ) where
   candidate-far few j = omega (arith, guess-candidate few j, guess-far j)
 
 pub float-in-step :
-    (a w : List Float) (i : ℕ) →
-    floatIn a w (suc i) ≡ add binary64 (getD a (suc i) nan) (mul binary64 (getD w (suc i) nan) (floatIn a w i))
+    (a w : ℕ → Float) (i : ℕ) →
+    floatIn a w (suc i) ≡ add binary64 (a i) (mul binary64 (w i) (floatIn a w i))
 unfolding floatIn
 float-in-step a w i = refl
 
-pub risen-step : (n : ℕ) (a w : List Float) (i : ℕ) → i < n → risenAt n a w (suc i) ≡ nearOf (floatIn a w (suc i)) % 1099511627776
+pub risen-step : (n : ℕ) (a w : ℕ → Float) (i : ℕ) → i < n → risenAt n a w (suc i) ≡ nearOf (floatIn a w (suc i)) % 1099511627776
 unfolding risenAt
 risen-step n a w i h = ap (λ b. cond b (nearOf (floatIn a w (suc i)) % 1099511627776) 0) (lt-ltb i n h)
 
-pub risen-behind : (n : ℕ) (a w : List Float) (i : ℕ) → n < i → risenAt n a w i ≡ 0
+pub risen-behind : (n : ℕ) (a w : ℕ → Float) (i : ℕ) → n < i → risenAt n a w i ≡ 0
 unfolding risenAt
 risen-behind n a w zero h = refl
 risen-behind n a w (suc i) h = ap (λ b. cond b (nearOf (floatIn a w (suc i)) % 1099511627776) 0) (le-ltb i n (omega arith))
 
 -- an array of these shifts is `risen`
-pub is-risen : (n : ℕ) (a w : List Float) (d : List ℕ) → length d ≡ 11 → ((j : ℕ) → getD d j 0 ≡ risenAt n a w j) → d ≡ risen n a w
+pub is-risen : (n : ℕ) (a w : ℕ → Float) (d : List ℕ) → length d ≡ 11 → ((j : ℕ) → getD d j 0 ≡ risenAt n a w j) → d ≡ risen n a w
 unfolding risen
 is-risen n a w d e h =
     ext-getD 0 d (risen n a w) (e ∙ sym (length-entries (risenAt n a w) 0 11))
     (λ j b. h j ∙ sym (entry (risenAt n a w) 0 0 11 j (omega (arith, e)) ∙ ap (risenAt n a w) (zero-add j)))
 
 -- what the arrays of the first loop give is the candidate
-module _ (n : ℕ) (k κ ω : List ℕ) (a w : List Float) (s : Sloped 0 n k κ ω a w) where
+module _ (n : ℕ) (k κ ω : List ℕ) (a w : ℕ → Float) (s : Sloped 0 n k κ ω a w) where
   floats : (i : ℕ) → i ≤ n → floatIn a w i ≡ floatAt n k κ ω i
   unfolding floatIn
   floats zero h = sym (float-deck n k κ ω)

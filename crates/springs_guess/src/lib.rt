@@ -3,7 +3,7 @@ ghost use mathlib.Core.Path.{_≡_};
 ghost use Prim.Native.Nat.{_<_, _≤_};
 ghost use lib.ListN.{length, replicate};
 ghost use Rattle.springs.specs.inner.Promise.{mostHeld, mostLoaded, Solvable};
-ghost use Rattle.springs.specs.inner.Candidate.{stepDown, candidate, Sloped, risen};
+ghost use Rattle.springs.specs.inner.Candidate.{stepDown, candidate, Sloped, risen, byLevel};
 ghost use Rattle.springs.specs.Equations.{closedSpring};
 use floats::float_of;
 use floats::near;
@@ -33,7 +33,8 @@ pub fn step(over: UpperChain, k: u64, kappa: u64, omega: u64) -> UpperChain
 fn slope(n: usize, k: &[u64], kappa: &[u64], omega: &[u64], a: &mut [f64], w: &mut [f64])
     requires { ⌜ Solvable n (now k) (now kappa) (now omega) × (n ≤ length (now k)) × (n ≤ length (now kappa)) × (n ≤ length (now omega)) ⌝ }
     requires { ⌜ (length (now a) ≡ 11) × (length (now w) ≡ 11) ⌝ }
-    ensures { λ _. ⌜ Sloped 0 n (now (k .entry)) (now (kappa .entry)) (now (omega .entry)) (now (a .exit)) (now (w .exit)) ⌝ }
+    ensures { λ _. ⌜ Sloped 0 n (now (k .entry)) (now (kappa .entry)) (now (omega .entry)) (byLevel (now (a .exit)))
+        (byLevel (now (w .exit))) ⌝ }
 {
     let mut over = UpperChain {
         s: 1.0,
@@ -55,7 +56,7 @@ fn slope(n: usize, k: &[u64], kappa: &[u64], omega: &[u64], a: &mut [f64], w: &m
 // From the deck up, in whole numbers.
 fn rise(n: usize, a: &[f64], w: &[f64], d: &mut [u64])
     requires { ⌜ (n ≤ 10) × (length (now a) ≡ 11) × (length (now w) ≡ 11) × (now d ≡ replicate 11 0) ⌝ }
-    ensures { λ _. ⌜ now (d .exit) ≡ risen n (now (a .entry)) (now (w .entry)) ⌝ }
+    ensures { λ _. ⌜ now (d .exit) ≡ risen n (byLevel (now (a .entry))) (byLevel (now (w .entry))) ⌝ }
 {
     let mut x = 0.0;
     let mut i = 0;

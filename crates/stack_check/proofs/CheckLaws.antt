@@ -1,5 +1,5 @@
 -- What `check` and `answer_to` give is what Named names: by the refusals in their order, then the answer.
-use mathlib.Core.Path.{_≡_, refl, sym, ap, ap₂, subst, _∙_}
+use mathlib.Core.Path.{_≡_, refl, sym, ap, ap₂, _∙_}
 use mathlib.Core.List.{List, _++_}
 use Prim.Native.Nat.{ℕ, _≤_, _<_}
 use borrow.Author.Tests.{lt-ltb, le-ltb}
@@ -13,15 +13,10 @@ use Rattle.sheet.specs.Refusals.{first, sheetRows, refusal}
 use Rattle.sheet.specs.Fits.{Fits}
 use Rattle.sheet.specs.inner.Changed.{withTiers}
 use Rattle.sheet.proofs.Refusal.{decoded-reading, sheet-refused, room-last}
-use Rattle.sheet.specs.Ends.{door, closed}
-use Rattle.sheet.proofs.SheetLimits.{sheet-limits}
 use Rattle.statics.specs.declared.LoadRule.{LoadRule}
 use Rattle.statics.specs.declared.EndFigures.{EndFigures}
 use Rattle.statics.specs.declared.Figures.{Figures}
-use Rattle.statics.specs.Reported.{Fitting}
 use Rattle.statics.specs.inner.Computed.{figuresBy, loadRuleOf}
-use Rattle.statics.proofs.EndChain.{exact-stands}
-use Rattle.statics.proofs.Figured.{end-figured}
 use Rattle.answer.specs.declared.Outcome.{Outcome}
 use Rattle.answer.specs.declared.Outcome.the-variants as O
 use Rattle.answer.specs.Answers.{answerBytes}
@@ -29,15 +24,8 @@ use Rattle.answer.specs.Checked.{AnsweredBy, roomFor, Checked, kept}
 use Rattle.answer.specs.inner.Named.{answerBy, checkBytes, returnedAs, writtenAs, returned, written}
 use Rattle.answer.proofs.Named.{answer-by-named, check-named}
 
--- the figures of a sheet within the limits, end by end: they fit the answer's bytes, and they are its figures
+-- the figures of a sheet, end by end, are its figures
 module _ (c : LoadRule) (t : Sheet) {d e : EndFigures} (p : d ≡ figuresBy c t .door) (q : e ≡ figuresBy c t .closed) where
-  pub figures-fit : Fits t → c .share ≤ 20 → c .factor ≤ 1000 → Fitting d × Fitting e
-  unfolding figuresBy
-  figures-fit fits s f =
-      let stands = exact-stands s f in
-      let limits = sheet-limits fits in
-      (subst Fitting (sym p) (end-figured stands door limits .fits), subst Fitting (sym q) (end-figured stands closed limits .fits))
-
   pub both-ends : _≡_ {A = Figures} (record { door = d; closed = e }) (figuresBy c t)
   both-ends = λ i. record { door = p i; closed = q i }
 

@@ -32,11 +32,11 @@ fn answer_to(t: Sheet, rule: LoadRule, answer: &mut [u8]) -> Outcome
         return Outcome::Refused(13, LONGEST);
     }
     let mut doorRacking = [0i32; 10];
-    let mut doorLevels = [0u64; 21];
-    let mut doorForces = [0u64; 24];
+    let mut doorLevels = [0u32; 21];
+    let mut doorForces = [0u32; 24];
     let mut closedRacking = [0i32; 10];
-    let mut closedLevels = [0u64; 21];
-    let mut closedForces = [0u64; 24];
+    let mut closedLevels = [0u32; 21];
+    let mut closedForces = [0u32; 24];
     figures::figures_by(
         t,
         rule,

@@ -1,11 +1,11 @@
--- The sections of the arrays that hold the figures of an end: how long they are, and the last of an array as a slice has it.
+-- The sections of arrays: the last of an array as a slice has it, one set, and how long those are that hold the figures of an end.
 use mathlib.Core.List.{List}
-use mathlib.Core.Path.{_≡_, ap, _∙_}
-use Prim.Native.Nat.{ℕ, _-_}
+use mathlib.Core.Path.{_≡_, refl, ap, _∙_}
+use Prim.Native.Nat.{ℕ, _+_, _-_, _<_}
 use native.Mathlib.Omega.{arith}
 use lib.IntN.{ℤ}
-use lib.ListN.{drop, length, length-drop, take}
-use lib.Seq.{length-take-le, take-all}
+use lib.ListN.{drop, length, length-drop, set, take}
+use lib.Seq.{length-take-le, take-all, take-set-le, take-set-lt, drop-set-lt, drop-set-add}
 use Rattle.statics.specs.declared.EndFigures.{EndFigures}
 use Rattle.statics.specs.inner.InArrays.{Lengths, figuresIn}
 
@@ -15,6 +15,17 @@ rest k l = take-all (length l - k) (drop k l) (omega (arith, length-drop k l))
 
 pub rest-length : (k : ℕ) (l : List ℕ) → length (take (length l - k) (drop k l)) ≡ length l - k
 rest-length k l = ap length (rest k l) ∙ length-drop k l
+
+-- two sections of which the first has k entries: an entry of each is set
+module _ (k : ℕ) (l : List ℕ) {j : ℕ} (h : j < k) (x y : ℕ) where
+  abbrev pub both-set : List ℕ
+  both-set = set (set l j x) (k + j) y
+
+  pub first-set : take k both-set ≡ set (take k l) j x
+  first-set = take-set-le k (set l j x) (k + j) y (omega arith) ∙ take-set-lt k l j x h
+
+  pub second-set : drop k both-set ≡ set (drop k l) j y
+  second-set = rw (drop-set-add k (set l j x) j y, drop-set-lt k l j x h) refl
 
 -- the figures of an end fill their arrays
 pub record Sections (f : EndFigures) : Type 0 where

@@ -1,6 +1,6 @@
 -- `answer_encode::write_answer`: the verdict, the sections of both ends and the findings are written one behind another.
 use mathlib.Core.Path.{_∙_}
-use Prim.Native.Nat.{_+_, _*_, _/_, _≤_}
+use Prim.Native.Nat.{_≤_}
 use native.Mathlib.Nat.{zero-add, le-trans}
 use native.Mathlib.Omega.{arith}
 use Rattle.answer_findings.specs.inner.Findings.{bothIn}
@@ -86,7 +86,7 @@ returns c =
     let g = found w in
     let s = entered g in
     let x = s .args in
-    let z = s .pre .0 .0 in
+    let z = s .pre .0 in
     let f =
     bothIn (x .doorRacking .now) (x .doorLevels .now) (x .doorForces .now) (x .closedRacking .now) (x .closedLevels .now)
     (x .closedForces .now) in
@@ -97,7 +97,7 @@ returns c =
     let p =
     whole (x .t) f z found (w .write1 .ensures) (w .before .verdict-of .ensures .0) (a .write-end .ensures .0)
     (b .write-end2 .ensures .0) (d .write12 .ensures) (r .0) in
-    (p .place ∙ zero-add _, from-start p (le-trans h (s .pre .0 .1)))
+    (p .place ∙ zero-add _, from-start p (le-trans h (s .pre .1)))
 
 pub write-answer-spec : {M : Type 1} → statement M
 write-answer-spec =

@@ -1,9 +1,8 @@
 -- `answer_write::write_end` writes the four sections one behind another.
 use mathlib.Core.Path.{sym}
 use native.Mathlib.Omega.{arith}
-use Rattle.statics.specs.Forces as F
 use Rattle.statics.proofs.Sections.{rest, sections}
-use Rattle.answer_write.proofs.Figures.{end-written, fits-four}
+use Rattle.answer_write.proofs.Figures.{end-written}
 use borrow.Author.Needs.{needs}
 use Rattle.answer_write.proofs.write_end.Statement.{statement}
 use Rattle.answer_write.proofs.write_end.Tie as tie
@@ -71,7 +70,7 @@ write-figures-requires c κs =
     let r = c .before .before .before in
     let b = entered r in
     let q = b .pre in
-    (omega arith, omega (arith, sections (q .3) .compression), omega arith, fits-four (q .4) F.compression)
+    (omega arith, omega (arith, sections (q .3) .compression), omega arith)
 
 write-figures-requires-2 : tie.Need-write-figures-requires-2
 write-figures-requires-2 c κs =
@@ -79,7 +78,7 @@ write-figures-requires-2 c κs =
     let r = racked p in
     let b = entered r in
     let q = b .pre in
-    rw (rest 11 (b .args .levels .now)) (omega arith, omega (arith, sections (q .3) .tension), omega arith, fits-four (q .4) F.tension)
+    rw (rest 11 (b .args .levels .now)) (omega arith, omega (arith, sections (q .3) .tension), omega arith)
 
 write-lashes-requires : tie.Need-write-lashes-requires
 write-lashes-requires c κs =
@@ -95,9 +94,6 @@ write-lashes-requires c κs =
       omega (arith, l .athwart),
       omega (arith, l .vertical),
       omega arith,
-      fits-four (q .4) F.lashTension,
-      fits-four (q .4) F.lashAthwart,
-      fits-four (q .4) F.lashVertical,
     )
 
 same-length : tie.Need-same-length

@@ -28,17 +28,14 @@ add-next c = search needs
 loop-holds : tie.Need-loop-holds Inv-loop μ-loop
 loop-holds c = (search needs, omega arith, entries-none _ _ _)
 
-mul-write4 : tie.Need-mul-write4 Inv-loop μ-loop
-mul-write4 c = search needs
+mul-write-figure : tie.Need-mul-write-figure Inv-loop μ-loop
+mul-write-figure c = search needs
 
-shared-slice-read-write4 : tie.Need-shared-slice-read-write4 Inv-loop μ-loop
-shared-slice-read-write4 c = search needs
+shared-slice-read-write-figure : tie.Need-shared-slice-read-write-figure Inv-loop μ-loop
+shared-slice-read-write-figure c = search needs
 
-write4-requires : tie.Need-write4-requires Inv-loop μ-loop
-write4-requires c κs = (
-  omega arith,
-  c .before .before .before .before .before .before .before .before .before .before .pre .3 (c .before .before .before .loop .i),
-)
+write-figure-requires : tie.Need-write-figure-requires Inv-loop μ-loop
+write-figure-requires c κs = search needs
 
 add-next-2 : tie.Need-add-next-2 Inv-loop μ-loop
 add-next-2 c = search needs
@@ -52,7 +49,7 @@ loop-less c = search needs
 loop-again : tie.Need-loop-again Inv-loop μ-loop
 loop-again c =
     let l = c .before .before .before .before .before .before in
-    (search needs, omega arith, entries-more _ (l .loop .i) (l .loop .inv .2) (run (c .before .before .write4 .ensures) refl))
+    (search needs, omega arith, entries-more _ (l .loop .i) (l .loop .inv .2) (run (c .before .before .write-figure .ensures) refl))
 
 same-length : tie.Need-same-length Inv-loop μ-loop
 same-length c = search needs
@@ -75,9 +72,9 @@ write-figures-spec =
     write1-requires
     add-next
     loop-holds
-    mul-write4
-    shared-slice-read-write4
-    write4-requires
+    mul-write-figure
+    shared-slice-read-write-figure
+    write-figure-requires
     add-next-2
     add-i
     loop-less

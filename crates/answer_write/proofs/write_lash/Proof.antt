@@ -8,20 +8,20 @@ use borrow.Author.Needs.{needs}
 use Rattle.answer_write.proofs.write_lash.Statement.{statement}
 use Rattle.answer_write.proofs.write_lash.Tie as tie
 
-write4-requires : tie.Need-write4-requires
-write4-requires c κs = search needs
+write-figure-requires : tie.Need-write-figure-requires
+write-figure-requires c κs = search needs
 
-add-write4 : tie.Need-add-write4
-add-write4 c = search needs
+add-write-figure : tie.Need-add-write-figure
+add-write-figure c = search needs
 
-write4-requires-2 : tie.Need-write4-requires-2
-write4-requires-2 c κs = search needs
+write-figure-requires-2 : tie.Need-write-figure-requires-2
+write-figure-requires-2 c κs = search needs
 
-add-write4-2 : tie.Need-add-write4-2
-add-write4-2 c = search needs
+add-write-figure-2 : tie.Need-add-write-figure-2
+add-write-figure-2 c = search needs
 
-write4-requires-3 : tie.Need-write4-requires-3
-write4-requires-3 c κs = search needs
+write-figure-requires-3 : tie.Need-write-figure-requires-3
+write-figure-requires-3 c κs = search needs
 
 add-result : tie.Need-add-result
 add-result c = search needs
@@ -38,20 +38,20 @@ returns c =
     let at = a .at in
     let p : at + 8 ≡ at + 4 + 4 = omega arith in
     let q : at + 12 ≡ at + 8 + 4 = omega arith in
-    let x = run {bytes = bytes4 (a .pull)} (u .write4 .ensures) refl in
-    let y = run {bytes = bytes4 (a .athwart)} (v .write42 .ensures) p in
-    let z = run {bytes = bytes4 (a .vertical)} (w .write43 .ensures) q in
+    let x = run {bytes = bytes4 (a .pull)} (u .write-figure .ensures) refl in
+    let y = run {bytes = bytes4 (a .athwart)} (v .write-figure2 .ensures) p in
+    let z = run {bytes = bytes4 (a .vertical)} (w .write-figure3 .ensures) q in
     (then (then x y) z, refl)
 
 pub write-lash-spec : {M : Type 1} → statement M
 write-lash-spec =
     tie.close
     (tie.spec
-    write4-requires
-    add-write4
-    write4-requires-2
-    add-write4-2
-    write4-requires-3
+    write-figure-requires
+    add-write-figure
+    write-figure-requires-2
+    add-write-figure-2
+    write-figure-requires-3
     add-result
     same-length
     returns)

@@ -47,10 +47,7 @@ shared-slice-read-write-lash-3 : tie.Need-shared-slice-read-write-lash-3 Inv-loo
 shared-slice-read-write-lash-3 c = search needs
 
 write-lash-requires : tie.Need-write-lash-requires Inv-loop μ-loop
-write-lash-requires c κs =
-    let l = c .before .before .before .before .before in
-    let p = l .before .before .before .before .before .before .before .before .before .pre in
-    (omega arith, p .5 (l .loop .j), p .6 (l .loop .j), p .7 (l .loop .j))
+write-lash-requires c κs = omega arith
 
 add-j : tie.Need-add-j Inv-loop μ-loop
 add-j c = search needs

@@ -10,6 +10,7 @@ use Rattle.sheet.specs.declared.Tier.{Tier}
 use Rattle.sheet.specs.declared.Sheet.{Sheet}
 use Rattle.sheet.specs.Ends.{door, closed, tiersOf}
 use Rattle.springs.specs.inner.Elimination.{solved}
+use Rattle.statics.specs.declared.EndFigures.{EndFigures}
 use Rattle.statics.specs.inner.Computed.{springsOf, stiffnessesOf, figuresAt, figuresBy, loadRuleOf}
 use Rattle.figures_tiers.specs.inner.Loads.{Loaded, TiersMeasured}
 use Rattle.figures.specs.inner.Ends.{Workable}
@@ -27,25 +28,28 @@ lashesIn g = take (g .count) (g .lashes)
 
 -- an end of n tiers of heights hs with springs k and m lashes ls, whose stiffnesses by level are κ, loads ω on the levels and half of the
 -- weights above them
-pub record EndGiven (n : ℕ) (k hs : List ℕ) (m : ℕ) (ls : List Lash) (κ ω vmax vmin : List ℕ) : Type 0 where
-  pub works : Workable n k hs m ls ω vmax vmin
+pub record EndGiven (n : ℕ) (k hs : List ℕ) (m : ℕ) (ls : List Lash) (κ ω weights : List ℕ) : Type 0 where
+  pub works : Workable n k hs m ls ω weights
   pub counted : length ls ≡ m
   pub levelled : κ ≡ stiffnessesOf ls
-  pub long : (length k ≡ 10) × (length hs ≡ 10) × (length ω ≡ 10) × (length vmax ≡ 11) × (length vmin ≡ 11)
+  pub long : (length k ≡ 10) × (length hs ≡ 10) × (length ω ≡ 10) × (length weights ≡ 22)
+
+-- its figures, by its springs, its tiers, its lashes and the loads
+abbrev pub figuresWith : ℕ → List ℕ → List Tier → List Lash → List ℕ → EndFigures
+figuresWith n k ts ls ω = figuresAt n k ts ls (solved n k (stiffnessesOf ls) ω)
 
 -- whether it has no finding, where its lashes are the first m of an array
 abbrev pub noFinding : ℕ → List ℕ → List Tier → List Lash → ℕ → PullLimit → List ℕ → Bool
-noFinding n k ts lashes m pull ω =
-    noneFound n pull lashes m (figuresAt n k ts (take m lashes) (solved n k (stiffnessesOf (take m lashes)) ω))
+noFinding n k ts lashes m pull ω = noneFound n pull lashes m (figuresWith n k ts (take m lashes) ω)
 
 -- what is given of a stack: the lower limit of a pull, the springs of the door end and of the closed end, heights, loads and weights
-pub record StackGiven (t : Sheet) (pull : PullLimit) (k h hs ω vmax vmin : List ℕ) : Type 0 where
+pub record StackGiven (t : Sheet) (pull : PullLimit) (k h hs ω weights : List ℕ) : Type 0 where
   pub lower : pull ≡ lowerOf (safeLoad (t .head .lockMaterial) (t .head .lockBreakingLoad))
   pub door-springs : k ≡ springsOf door (tiersOf t)
   pub closed-springs : h ≡ springsOf closed (tiersOf t)
   pub loaded : Loaded (loadRuleOf t) (t .ntiers) (tiersOf t) ω
-  pub measured : TiersMeasured (t .ntiers) (tiersOf t) hs vmax vmin
-  pub long : (length hs ≡ 10) × (length ω ≡ 10) × (length vmax ≡ 11) × (length vmin ≡ 11)
+  pub measured : TiersMeasured (t .ntiers) (tiersOf t) hs weights
+  pub long : (length hs ≡ 10) × (length ω ≡ 10) × (length weights ≡ 22)
 
 -- whether the check accepts it with these lashes at both ends
 abbrev pub acceptedWith : List Lash → Sheet → Bool

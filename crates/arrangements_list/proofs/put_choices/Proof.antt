@@ -9,11 +9,11 @@ use Rattle.arrangements_list.proofs.put_choices.Statement.{statement}
 use Rattle.arrangements_list.proofs.put_choices.Tie as tie
 
 abbrev Inv-loop : tie.InvT-loop
-Inv-loop t pull lashes m lengths stiffnesses k h heights loads vmax vmin list₀ all next₀ i₀ list next i =
+Inv-loop t pull lashes m lengths stiffnesses k h heights loads weights list₀ all next₀ i₀ list next i =
     (i ≤ 256) × (next ≤ 2 + i) × Wrote list₀ 2 (upTo t (take m lashes) m i) list next
 
 abbrev μ-loop : tie.MeasureT-loop
-μ-loop t pull lashes m lengths stiffnesses k h heights loads vmax vmin list₀ all next₀ i₀ list next i = 256 - i
+μ-loop t pull lashes m lengths stiffnesses k h heights loads weights list₀ all next₀ i₀ list next i = 256 - i
 
 -- from the loop to the number of choices, and to the start
 abbrev entered : tie.At-loop Inv-loop μ-loop → tie.After-choices-of Inv-loop μ-loop

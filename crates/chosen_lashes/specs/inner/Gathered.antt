@@ -12,7 +12,18 @@ use Rattle.choices.specs.Choices.{chosen}
 use Rattle.chosen_lashes.specs.declared.Chosen.{Chosen}
 
 -- lashes in arrays: with their lengths, their stiffnesses, and the sums of these by level
-abbrev pub heldOf : List Lash → Chosen
+pub record Held : Type 0 where
+  pub lashes : List Lash
+  pub lengths : List ℕ
+  pub stiffnesses : List ℕ
+  pub levels : List ℕ
+  pub count : ℕ
+
+abbrev pub heldIn : Chosen → List ℕ → List ℕ → List ℕ → Held
+heldIn g lengths stiffnesses levels =
+    record { lashes = g .lashes; lengths = lengths; stiffnesses = stiffnesses; levels = levels; count = g .count }
+
+abbrev pub heldOf : List Lash → Held
 heldOf ls =
     record {
       lashes = padded 8 blankLash ls;
@@ -23,5 +34,5 @@ heldOf ls =
     }
 
 -- those that a choice uses
-abbrev pub gathered : ℕ → List Lash → Chosen
+abbrev pub gathered : ℕ → List Lash → Held
 gathered c ls = heldOf (chosen c ls)

@@ -10,7 +10,7 @@ use Rattle.figures.proofs.figures_at.Tie as tie
 
 -- from each step to the one before it
 abbrev entered : tie.After-lash-figures → tie.Start
-entered c = c .before .before .before .before .before .before .before .before .before .before .before .before .before
+entered c = c .before .before .before .before .before .before .before .before .before .before .before .before
 
 abbrev lashed : tie.After-level-figures → tie.After-lash-figures
 lashed c = c .before .before .before .before .before .before .before .before .before
@@ -26,7 +26,7 @@ slice-aggregate-lash-figures-2 c = search needs
 
 lash-figures-requires : tie.Need-lash-figures-requires
 lash-figures-requires c κs =
-    let b = c .before .before .before .before .before .before .before .before .before .before .before .before in
+    let b = c .before .before .before .before .before .before .before .before .before .before .before in
     let p = b .pre in (
       (p .0 .few-lashes, each-ten (p .0) (counted b)),
       (p .1 .1 .0, ((p .1 .1 .1 .0 .0, p .1 .1 .1 .0 .1, p .1 .0 .2), (refl, refl, p .1 .1 .1 .1 .2))),
@@ -62,7 +62,7 @@ returns c =
     let b = entered l in
     let found = l .lash-figures .ensures in
     let levels = v .level-figures .ensures in (
-      λ ts w. end-named (b .pre .0) (counted b) (found .0 .0) (found .1 .0) (found .1 .1) (levels .0) w,
+      λ ts w fits. end-named (b .pre .0) (counted b) (found .0 .0) (found .1 .0) (found .1 .1) (levels .0) w fits,
       record { of-racking = levels .1 .0; of-levels = levels .1 .1; of-forces = found .0 .1 },
     )
 

@@ -5,7 +5,7 @@ use native.Mathlib.Omega.{arith}
 use lib.ListN.{length, length-map}
 use lib.Seq.{length-take-le}
 use Rattle.sheet.specs.Ends.{door, closed, lashesOf}
-use Rattle.figures.proofs.EndLaws.{end-solvable, without-loads, end-solved}
+use Rattle.figures.proofs.EndLaws.{end-solvable, without-loads, end-solved, end-fits}
 use Rattle.figures.proofs.figures_both.Statement.{statement}
 use Rattle.figures.proofs.figures_both.Tie as tie
 
@@ -13,7 +13,7 @@ use Rattle.figures.proofs.figures_both.Tie as tie
 abbrev given : tie.After-e → tie.Start
 given c =
     c .before .before .before .before .before .before .before .before .before .before .before .before .before .before .before
-    .before .before .before .before .before
+    .before .before .before .before
 
 abbrev entered : tie.After-solve-both → tie.Start
 entered c = given (c .before)
@@ -74,7 +74,7 @@ figures-at-requires c κs =
     let d = s .solve-both in (
       without-loads (p .0),
       (
-        (long .0, long .7, d .kept .1 .1 .1 .1 .1 .1 .0, long .5, long .6),
+        (long .0, long .6, d .kept .1 .1 .1 .1 .1 .1 .0, long .5),
         ((lashes, d .ensures .0 .1 .far), ((lashes .long .long, lashes .stiff .long), p .1 .1 .1 .1 .1 .0)),
       ),
     )
@@ -91,28 +91,28 @@ figures-at-requires-2 c κs =
     let d = s .solve-both in (
       without-loads (p .1 .0),
       (
-        (long .1, long .7, d .kept .1 .1 .1 .1 .1 .1 .1 .0, long .5, long .6),
-        ((lashes, d .ensures .1 .1 .far), ((lashes .long .long, lashes .stiff .long), p .1 .1 .1 .1 .1 .1)),
+        (long .1, long .6, d .kept .1 .1 .1 .1 .1 .1 .1 .0, long .5),
+        ((lashes, d .ensures .1 .1 .far), ((lashes .long .long, lashes .stiff .long), p .1 .1 .1 .1 .1 .1 .0)),
       ),
     )
 
 same-length : tie.Need-same-length
-same-length c = at-door (at-closed c) .figures-at .kept .1 .1 .1 .1 .1 .1 .1 .1 .1 .1 .0
+same-length c = at-door (at-closed c) .figures-at .kept .1 .1 .1 .1 .1 .1 .1 .1 .1 .0
 
 same-length-2 : tie.Need-same-length-2
-same-length-2 c = at-door (at-closed c) .figures-at .kept .1 .1 .1 .1 .1 .1 .1 .1 .1 .1 .1 .0
+same-length-2 c = at-door (at-closed c) .figures-at .kept .1 .1 .1 .1 .1 .1 .1 .1 .1 .1 .0
 
 same-length-3 : tie.Need-same-length-3
-same-length-3 c = at-door (at-closed c) .figures-at .kept .1 .1 .1 .1 .1 .1 .1 .1 .1 .1 .1 .1 .0
+same-length-3 c = at-door (at-closed c) .figures-at .kept .1 .1 .1 .1 .1 .1 .1 .1 .1 .1 .1 .0
 
 same-length-4 : tie.Need-same-length-4
-same-length-4 c = at-closed c .figures-at2 .kept .1 .1 .1 .1 .1 .1 .1 .1 .1 .1 .0
+same-length-4 c = at-closed c .figures-at2 .kept .1 .1 .1 .1 .1 .1 .1 .1 .1 .0
 
 same-length-5 : tie.Need-same-length-5
-same-length-5 c = at-closed c .figures-at2 .kept .1 .1 .1 .1 .1 .1 .1 .1 .1 .1 .1 .0
+same-length-5 c = at-closed c .figures-at2 .kept .1 .1 .1 .1 .1 .1 .1 .1 .1 .1 .0
 
 same-length-6 : tie.Need-same-length-6
-same-length-6 c = at-closed c .figures-at2 .kept .1 .1 .1 .1 .1 .1 .1 .1 .1 .1 .1 .1 .0
+same-length-6 c = at-closed c .figures-at2 .kept .1 .1 .1 .1 .1 .1 .1 .1 .1 .1 .1 .0
 
 returns : tie.Need-returns
 returns c =
@@ -125,10 +125,13 @@ returns c =
     let levels = b .pre .1 .1 .1 .0 in
     let long = b .pre .1 .1 .1 .1 .0 in
     let d = s .solve-both .ensures in
+    let fits = b .pre .1 .1 .1 .1 .1 .1 .1 in
+    let p = end-fits door (g .s) (g .k .now) (g .kappa .now) (g .loads .now) (long .2) (levels .0) (d .0 .0) (fits .0) in
+    let q = end-fits closed (g .s) (g .h .now) (g .eta .now) (g .loads .now) (long .3) (levels .1) (d .1 .0) (fits .1) in
     let x = door-end .figures-at .ensures in
     let y = closed-end .figures-at2 .ensures in (
-      (end-solved door (g .s) (g .k .now) (g .kappa .now) (g .loads .now) (long .2) (levels .0) (d .0 .0) (x .0 _ tiers), x .1),
-      (end-solved closed (g .s) (g .h .now) (g .eta .now) (g .loads .now) (long .3) (levels .1) (d .1 .0) (y .0 _ tiers), y .1),
+      (end-solved door (g .s) (g .k .now) (g .kappa .now) (g .loads .now) (long .2) (levels .0) (d .0 .0) (x .0 _ tiers p), x .1),
+      (end-solved closed (g .s) (g .h .now) (g .eta .now) (g .loads .now) (long .3) (levels .1) (d .1 .0) (y .0 _ tiers q), y .1),
     )
 
 pub figures-both-spec : {M : Type 1} → statement M

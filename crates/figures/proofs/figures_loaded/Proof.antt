@@ -13,7 +13,6 @@ use Rattle.figures.proofs.figures_loaded.Tie as tie
 abbrev entered : tie.After-lash-stiffnesses → tie.Start
 entered c =
     c .before .before .before .before .before .before .before .before .before .before .before .before .before .before .before
-    .before
 
 abbrev at-door : tie.After-lash-stiffnesses2 → tie.After-lash-stiffnesses
 at-door c = c .before .before .before .before .before .before .before
@@ -42,7 +41,7 @@ slice-aggregate-lash-stiffnesses-3 c = search needs
 
 lash-stiffnesses-requires : tie.Need-lash-stiffnesses-requires
 lash-stiffnesses-requires c κs =
-    let b = c .before .before .before .before .before .before .before .before .before .before .before .before .before .before .before in
+    let b = c .before .before .before .before .before .before .before .before .before .before .before .before .before .before in
     let works = b .pre .0 in
     ((works .few-lashes, each-ten works (door-counted b)), (refl, refl, refl))
 
@@ -95,7 +94,7 @@ figures-both-requires c κs =
           (
             (one .ensures .1, two .ensures .1),
             (
-              (long .0, long .1, one .kept .1 .1 .1 .1 .0, two .kept .1 .1 .1 .1 .0, long .3, long .4, long .5, long .2),
+              (long .0, long .1, one .kept .1 .1 .1 .1 .0, two .kept .1 .1 .1 .1 .0, long .3, long .4, long .2),
               p .1 .1 .1 .1,
             ),
           ),
@@ -104,22 +103,22 @@ figures-both-requires c κs =
     )
 
 same-length : tie.Need-same-length
-same-length c = figured c .figures-both .kept .1 .1 .1 .1 .1 .1 .1 .1 .1 .1 .1 .1 .1 .0
+same-length c = figured c .figures-both .kept .1 .1 .1 .1 .1 .1 .1 .1 .1 .1 .1 .1 .0
 
 same-length-2 : tie.Need-same-length-2
-same-length-2 c = figured c .figures-both .kept .1 .1 .1 .1 .1 .1 .1 .1 .1 .1 .1 .1 .1 .1 .0
+same-length-2 c = figured c .figures-both .kept .1 .1 .1 .1 .1 .1 .1 .1 .1 .1 .1 .1 .1 .0
 
 same-length-3 : tie.Need-same-length-3
-same-length-3 c = figured c .figures-both .kept .1 .1 .1 .1 .1 .1 .1 .1 .1 .1 .1 .1 .1 .1 .1 .0
+same-length-3 c = figured c .figures-both .kept .1 .1 .1 .1 .1 .1 .1 .1 .1 .1 .1 .1 .1 .1 .0
 
 same-length-4 : tie.Need-same-length-4
-same-length-4 c = figured c .figures-both .kept .1 .1 .1 .1 .1 .1 .1 .1 .1 .1 .1 .1 .1 .1 .1 .1 .0
+same-length-4 c = figured c .figures-both .kept .1 .1 .1 .1 .1 .1 .1 .1 .1 .1 .1 .1 .1 .1 .1 .0
 
 same-length-5 : tie.Need-same-length-5
-same-length-5 c = figured c .figures-both .kept .1 .1 .1 .1 .1 .1 .1 .1 .1 .1 .1 .1 .1 .1 .1 .1 .1 .0
+same-length-5 c = figured c .figures-both .kept .1 .1 .1 .1 .1 .1 .1 .1 .1 .1 .1 .1 .1 .1 .1 .1 .0
 
 same-length-6 : tie.Need-same-length-6
-same-length-6 c = figured c .figures-both .kept .1 .1 .1 .1 .1 .1 .1 .1 .1 .1 .1 .1 .1 .1 .1 .1 .1 .1 .0
+same-length-6 c = figured c .figures-both .kept .1 .1 .1 .1 .1 .1 .1 .1 .1 .1 .1 .1 .1 .1 .1 .1 .1 .0
 
 returns : tie.Need-returns
 returns c = figured c .figures-both .ensures

@@ -7,13 +7,14 @@ use Rattle.sheet.specs.Layout.{blankLash}
 use Rattle.sheet.specs.declared.Lash.{Lash}
 use Rattle.sheet.specs.declared.Sheet.{Sheet}
 use Rattle.sheet.specs.Ends.{End, tiersOf, lashesOf}
+use Rattle.statics.specs.inner.InArrays.{mostIn, leastIn}
 use Rattle.springs.specs.inner.Elimination.{solved}
 use Rattle.statics.specs.declared.EndFigures.{EndFigures}
 use Rattle.statics.specs.inner.Computed.{stiffnessesOf, figuresAt}
 use Rattle.springs.specs.Equations.{doorSpring, closedSpring}
 
 -- an end may be worked: n tiers of heights hs with springs k, m lashes ls, the loads ω on the levels, and half of the weights above them
-pub record Workable (n : ℕ) (k hs : List ℕ) (m : ℕ) (ls : List Lash) (ω vmax vmin : List ℕ) : Type 0 where
+pub record Workable (n : ℕ) (k hs : List ℕ) (m : ℕ) (ls : List Lash) (ω weights : List ℕ) : Type 0 where
   pub few : n ≤ 10
   pub springs : (i : ℕ) → i < n → (doorSpring ≤ getD k i 0) × (getD k i 0 ≤ closedSpring)
   pub heights : (i : ℕ) → i < n → getD hs i 0 ≤ 2896
@@ -21,8 +22,8 @@ pub record Workable (n : ℕ) (k hs : List ℕ) (m : ℕ) (ls : List Lash) (ω v
   pub each : (j : ℕ) → j < length ls → LashLimits n (getD ls j blankLash)
   pub at-level : (i : ℕ) → atLevel i ls ≤ 4
   pub loaded : (i : ℕ) → i < n → getD ω i 0 ≤ 2 ^ 46
-  pub vmax-light : (i : ℕ) → getD vmax i 0 ≤ 2 ^ 40
-  pub vmin-light : (i : ℕ) → getD vmin i 0 ≤ 2 ^ 40
+  pub vmax-light : (i : ℕ) → getD (mostIn weights) i 0 ≤ 2 ^ 40
+  pub vmin-light : (i : ℕ) → getD (leastIn weights) i 0 ≤ 2 ^ 40
 
 -- the figures of an end of a sheet, from its springs and loads
 abbrev pub endFigures : End → Sheet → List ℕ → List ℕ → EndFigures

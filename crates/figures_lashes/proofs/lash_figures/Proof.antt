@@ -180,7 +180,7 @@ mul-forces-3 : tie.Need-mul-forces-3 Inv-loop μ-loop
 mul-forces-3 c = search needs
 
 slice-write-forces-3 : tie.Need-slice-write-forces-3 Inv-loop μ-loop
-slice-write-forces-3 c = search (needs, room c .0, room c .1)
+slice-write-forces-3 c = search (needs, room c .1)
 
 mul-lee : tie.Need-mul-lee Inv-loop μ-loop
 mul-lee c = search needs

@@ -1,31 +1,33 @@
 -- `figures_levels::level_figures`: one turn goes from a level to the level under it, with the sums of what stands above (Descent).
 use borrow.Author.Needs.{needs}
-use Prim.Native.Nat.{_*_, _<_, _≤_, _-_}
-use mathlib.Core.Path.{refl, ap, _∙_}
+use Prim.Native.Nat.{ℕ, _+_, _*_, _<_, _≤_, _-_}
+use mathlib.Core.Path.{_≡_, refl, ap, _∙_}
 use native.Mathlib.Omega.{arith}
 use lib.Dec.{lit<, lit≤}
-use lib.ListN.{length, length-set}
+use lib.ListN.{getD, length, length-set}
+use lib.Seq.{getD-take, getD-drop}
 use mir.Syntax.{w32}
 use mir.ValLaws.{toZ-ofZ}
 use Rattle.arith.proofs.Sizes.{small-pos, small-weaken}
 use Rattle.statics.specs.inner.WholeNumbers.{leeFound, windwardFound}
+use Rattle.statics.specs.inner.InArrays.{mostIn, leastIn}
 use Rattle.figures_levels.proofs.Descent.{FiguredFrom, at-top, turned-once, at-foot}
 use Rattle.figures_posts.proofs.Words.{held}
 use Rattle.figures_levels.proofs.level_figures.Statement.{statement}
 use Rattle.figures_levels.proofs.level_figures.Tie as tie
 
 abbrev Inv-loop : tie.InvT-loop
-Inv-loop n k heights d vmax vmin lee windward racking₀ levels₀ above₀ i₀ racking levels above i =
+Inv-loop n k heights d weights lee windward racking₀ levels₀ above₀ i₀ racking levels above i =
     let parts = above .parts in
-    FiguredFrom n k heights d vmax vmin lee windward racking levels (above .moment) (parts .lee) (parts .windward) i
+    FiguredFrom n k heights d weights lee windward racking levels (above .moment) (parts .lee) (parts .windward) i
 
 abbrev μ-loop : tie.MeasureT-loop
-μ-loop n k heights d vmax vmin lee windward racking₀ levels₀ above₀ i₀ racking levels above i =
+μ-loop n k heights d weights lee windward racking₀ levels₀ above₀ i₀ racking levels above i =
     i
 
 -- from the top level's parts, and from the loop, to the function's entry
 abbrev entry : tie.After-parts-at Inv-loop μ-loop → tie.Start Inv-loop μ-loop
-entry c = c .before .before .before .before .before .before .before .before .before
+entry c = c .before .before .before .before .before .before .before .before
 
 abbrev start : tie.At-loop Inv-loop μ-loop → tie.Start Inv-loop μ-loop
 start c = entry (c .before .before .before)
@@ -63,6 +65,16 @@ room-racking c = omega (arith, room c, turn (racked (bottomed c)) .before .loop 
 room-at-top : (c : tie.Start Inv-loop μ-loop) → c .args .n < length (c .args .levels .now)
 room-at-top c = rw (c .pre .1 .1 .1) (omega (arith, c .pre .0 .few))
 
+-- half of the weight above a level, where the two sections have it
+most :
+    (c : tie.Start Inv-loop μ-loop) (j : ℕ) →
+    j ≤ c .args .n →
+    getD (mostIn (c .args .weights .now)) j 0 ≡ getD (c .args .weights .now) j 0
+most c j h = getD-take 11 (c .args .weights .now) j 0 (omega (arith, c .pre .0 .few))
+
+least : (c : tie.Start Inv-loop μ-loop) (j : ℕ) → getD (leastIn (c .args .weights .now)) j 0 ≡ getD (c .args .weights .now) (11 + j) 0
+least c j = getD-drop 11 (c .args .weights .now) j 0
+
 stacked : (c : tie.Start Inv-loop μ-loop) → c .args .n ≤ length (c .args .heights .now)
 stacked c = omega (arith, c .pre .0 .few, c .pre .1 .0 .1)
 
@@ -83,8 +95,12 @@ compression-of-requires c κs =
     let b = entry (c .before) in
     let n = b .args .n in
     let e = c .before .parts-at .ensures in
-    let m = b .pre .0 in
-    (m .vmax-light n, small-pos (lit≤ tt), omega (arith, e .0, m .lee-small (2 * n)), omega (arith, e .1, m .windward-small (2 * n)))
+    let m = b .pre .0 in (
+      rw (most b n (omega arith)) at (m .vmax-light n),
+      small-pos (lit≤ tt),
+      omega (arith, e .0, m .lee-small (2 * n)),
+      omega (arith, e .1, m .windward-small (2 * n)),
+    )
 
 mul-levels : tie.Need-mul-levels Inv-loop μ-loop
 mul-levels c = search needs
@@ -101,7 +117,8 @@ loop-holds c =
     let b = entry p in
     let e = p .parts-at .ensures in
     let z = b .pre .1 .1 in
-    rw (z .0, z .1, e .0, e .1) (at-top (b .pre .0) (stacked b) (simp (e .0, e .1) at (c .compression-of .ensures)))
+    let v = simp (e .0, e .1) at (c .compression-of .ensures) in
+    rw (z .0, z .1, e .0, e .1) (at-top (b .pre .0) (stacked b) (rw (most b (b .args .n) (omega arith)) v))
 
 mul-upper : tie.Need-mul-upper Inv-loop μ-loop
 mul-upper c = search needs
@@ -162,13 +179,16 @@ shared-slice-read-level-under-2 c =
     let b = start (turn (racked (bottomed (c .before .before))) .before) in
     search (needs, room (c .before .before), b .pre .1 .0 .3)
 
+add-level-under : tie.Need-add-level-under Inv-loop μ-loop
+add-level-under c = search (needs, room (c .before .before))
+
 mul-level-under-3 : tie.Need-mul-level-under-3 Inv-loop μ-loop
 mul-level-under-3 c = search (needs, room (c .before .before))
 
 shared-slice-read-level-under-3 : tie.Need-shared-slice-read-level-under-3 Inv-loop μ-loop
 shared-slice-read-level-under-3 c =
     let b = start (turn (racked (bottomed (c .before .before .before))) .before) in
-    search (needs, room (c .before .before .before), b .pre .1 .0 .4)
+    omega (arith, room (c .before .before .before), b .pre .1 .0 .3)
 
 level-under-requires : tie.Need-level-under-requires Inv-loop μ-loop
 level-under-requires c κs =
@@ -193,7 +213,7 @@ level-under-requires c κs =
             rw (f .0) (m .lee-small _),
             rw (f .1) (m .windward-small _),
           ),
-          (m .vmax-light j, m .vmin-light j),
+          (rw (most b j (omega (arith, w))) at (m .vmax-light j), rw (least b j) at (m .vmin-light j)),
         ),
       ),
     )
@@ -258,8 +278,8 @@ loop-again c =
     (e .0)
     (e .1 .0)
     (e .1 .1 .0)
-    (e .1 .1 .1 .0)
-    (e .1 .1 .1 .1)
+    (rw (most b (l .i - 1) (omega (arith, l .inv .within))) (e .1 .1 .1 .0))
+    (rw (least b (l .i - 1)) (e .1 .1 .1 .1))
 
 same-length : tie.Need-same-length Inv-loop μ-loop
 same-length c = search (needs, ap length (start (c .before) .pre .1 .1 .0))
@@ -304,6 +324,7 @@ level-figures-spec =
     shared-slice-read-level-under
     mul-level-under-2
     shared-slice-read-level-under-2
+    add-level-under
     mul-level-under-3
     shared-slice-read-level-under-3
     level-under-requires

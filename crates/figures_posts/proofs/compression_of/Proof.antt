@@ -47,14 +47,19 @@ pressed-figure-requires c κs =
       simp (held s (lit< tt), held t (lit< tt)) (rw (lee c, windward c) (one-pressed (a .weight) (a .couple) (a .parts))),
     )
 
+word-of-requires : tie.Need-word-of-requires
+word-of-requires c κs = search needs
+
 returns : tie.Need-returns
 returns c =
-    let b = c .before in
+    let f = c .before in
+    let b = f .before in
     let s = b .before .before .post-sum .ensures .1 in
     let t = b .post-sum2 .ensures .1 in
-    simp (lee b, windward b) at (simp (held s (lit< tt), held t (lit< tt)) at (c .pressed-figure .ensures))
+    let e = simp (lee b, windward b) at (simp (held s (lit< tt), held t (lit< tt)) at (f .pressed-figure .ensures)) in
+    rw (← e) (c .word-of .ensures)
 
 pub compression-of-spec : {M : Type 1} → statement M
 compression-of-spec =
     tie.close
-    (tie.spec post-sum-requires negative-requires post-sum-requires-2 pressed-figure-requires returns)
+    (tie.spec post-sum-requires negative-requires post-sum-requires-2 pressed-figure-requires word-of-requires returns)

@@ -41,19 +41,24 @@ post-figure-requires c κs =
     let f = simp (held (t .1) (lit< tt)) at (c .negative3 .ensures) in
     (simp (e, held m (lit< tt)) m, simp (f, held n (lit< tt)) n)
 
+word-of-requires : tie.Need-word-of-requires
+word-of-requires c κs = search needs
+
 returns : tie.Need-returns
 returns c =
-    let k = c .before .before .before .before in
+    let z = c .before in
+    let k = z .before .before .before .before in
     let entry = k .before .before in
     let h = held (entry .pre .1) (lit< tt) in
     let s = k .before .post-sum .ensures in
-    let t = c .before .before .post-sum2 .ensures in
-    let n = simp h at (c .before .before .before .negative2 .ensures) in
+    let t = z .before .before .post-sum2 .ensures in
+    let n = simp h at (z .before .before .before .negative2 .ensures) in
     let y = simp (held (small-neg (entry .pre .1)) (lit< tt)) at (simp n at (t .0)) in
     let e = simp (held (s .1) (lit< tt)) at (k .negative .ensures) in
-    let f = simp (held (t .1) (lit< tt)) at (c .before .negative3 .ensures) in
-    let g = simp (e, f) at (c .post-figure .ensures) in
-    simp (simp h at (s .0), y) at (simp (held (small-neg (s .1)) (lit< tt), held (small-neg (t .1)) (lit< tt)) at g)
+    let f = simp (held (t .1) (lit< tt)) at (z .before .negative3 .ensures) in
+    let g = simp (e, f) at (z .post-figure .ensures) in
+    let w = simp (simp h at (s .0), y) at (simp (held (small-neg (s .1)) (lit< tt), held (small-neg (t .1)) (lit< tt)) at g) in
+    rw (← w) (c .word-of .ensures)
 
 pub tension-of-spec : {M : Type 1} → statement M
 tension-of-spec =
@@ -65,4 +70,5 @@ tension-of-spec =
     post-sum-requires-2
     negative-requires-3
     post-figure-requires
+    word-of-requires
     returns)

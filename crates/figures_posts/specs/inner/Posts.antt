@@ -1,6 +1,6 @@
 -- Contracts of inner functions: the sums of the two posts of a level. Nothing here need be believed.
 use mathlib.Core.Bool.{cond}
-use Prim.Native.Nat.{ℕ}
+use Prim.Native.Nat.{ℕ, _%_, _^_}
 use lib.IntN.{ℤ, pos, _+ℤ_, _-ℤ_}
 use lib.Signed.{ltZ}
 use Rattle.statics.specs.declared.PostParts.{PostParts}
@@ -15,3 +15,7 @@ leeOf weight couple parts = pos weight +ℤ couple +ℤ pos (parts .lee)
 
 abbrev pub windwardOf : ℕ → ℤ → PostParts → ℤ
 windwardOf weight couple parts = pos weight -ℤ couple +ℤ pos (parts .windward)
+
+-- a figure as four bytes hold it
+abbrev pub word : ℕ → ℕ
+word x = x % 2 ^ 32

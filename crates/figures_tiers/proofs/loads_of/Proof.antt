@@ -1,11 +1,13 @@
 -- `figures_tiers::loads_of`: from the top down, each level's load, the weights above it, and the heights (LoadLaws).
 use mathlib.Core.Path.{_≡_, refl}
-use lib.ListN.{getD, length, take}
+use lib.ListN.{getD, length, take, length-set}
 use lib.Seq.{getD-take, length-take-le}
-use Prim.Native.Nat.{_-_}
+use Prim.Native.Nat.{_-_, _<_}
 use native.Mathlib.Omega.{arith}
 use Rattle.sheet.specs.Layout.{blankTier}
 use Rattle.sheet.specs.inner.Limits.{TierLimits}
+use Rattle.statics.specs.inner.InArrays.{mostIn, leastIn}
+use Rattle.statics.proofs.Sections.{first-set, second-set}
 use borrow.Author.Needs.{needs}
 use Rattle.figures_tiers.proofs.LoadLaws.{LoadedDown, loaded-none, loaded-more, loaded-all, Carried, carried-none, carried-more}
 use Rattle.figures_tiers.proofs.LoadLaws.{carried-all, HeightsDown, heights-none, heights-more, heights-all}
@@ -13,19 +15,20 @@ use Rattle.figures_tiers.proofs.loads_of.Statement.{statement}
 use Rattle.figures_tiers.proofs.loads_of.Tie as tie
 
 abbrev Inv-loop : tie.InvT-loop
-Inv-loop n rule loads₀ vmax₀ vmin₀ heights₀ tiers over₀ most-lifted₀ least-lifted₀ i₀ loads vmax vmin heights over vmax-units vmin-units i =
+Inv-loop n rule loads₀ weights₀ heights₀ tiers over₀ most-lifted₀ least-lifted₀ i₀ loads weights heights over vmax-units vmin-units i =
     LoadedDown rule n (take n tiers) loads (over .transverse) (over .wind) i
-    × Carried (λ t. t .aVmax) n (take n tiers) vmax vmax-units i
-    × Carried (λ t. t .aVmin) n (take n tiers) vmin vmin-units i
+    × Carried (λ t. t .aVmax) n (take n tiers) (mostIn weights) vmax-units i
+    × Carried (λ t. t .aVmin) n (take n tiers) (leastIn weights) vmin-units i
     × HeightsDown n (take n tiers) heights i
+    × (length weights ≡ 22)
 
 abbrev μ-loop : tie.MeasureT-loop
-μ-loop n rule loads₀ vmax₀ vmin₀ heights₀ tiers over₀ most-lifted₀ least-lifted₀ i₀ loads vmax vmin heights over vmax-units vmin-units i =
+μ-loop n rule loads₀ weights₀ heights₀ tiers over₀ most-lifted₀ least-lifted₀ i₀ loads weights heights over vmax-units vmin-units i =
     i
 
 -- where the loop is entered from
 abbrev start : tie.At-loop Inv-loop μ-loop → tie.Start Inv-loop μ-loop
-start c = c .before .before .before .before .before
+start c = c .before .before .before .before
 
 stacked : (c : tie.Start Inv-loop μ-loop) → length (take (c .args .n) (c .args .t2)) ≡ c .args .n
 stacked c = length-take-le (c .args .n) (c .args .t2) (omega (arith, c .pre .0 .0, c .good .1 .0 .1 .0 .1))
@@ -46,10 +49,10 @@ limits c =
 
 loop-holds : tie.Need-loop-holds Inv-loop μ-loop
 loop-holds c =
-    let b = c .before .before .before .before in
+    let b = c .before .before .before in
     let p = b .pre .1 .1 in
-    rw (p .0, p .1, p .2)
-    (loaded-none (stacked b), carried-none (stacked b), carried-none (stacked b), heights-none (stacked b) (b .pre .0 .0) (p .3))
+    rw (p .0, p .1)
+    (loaded-none (stacked b), carried-none (stacked b), carried-none (stacked b), heights-none (stacked b) (b .pre .0 .0) (p .2), refl)
 
 sub-i : tie.Need-sub-i Inv-loop μ-loop
 sub-i c = search needs
@@ -97,22 +100,27 @@ half-weight-requires c κs =
     let a = c .before .before .before .before .before .before in
     omega (arith, a .loop .inv .1 .sum-small, start a .pre .0 .0, c .before .mass-by .ensures .1)
 
-mul-vmax : tie.Need-mul-vmax Inv-loop μ-loop
-mul-vmax c = search needs
+mul-weights : tie.Need-mul-weights Inv-loop μ-loop
+mul-weights c = search needs
 
-slice-write-vmax : tie.Need-slice-write-vmax Inv-loop μ-loop
-slice-write-vmax c = search needs
+slice-write-weights : tie.Need-slice-write-weights Inv-loop μ-loop
+slice-write-weights c = search needs
 
 half-weight-requires-2 : tie.Need-half-weight-requires-2 Inv-loop μ-loop
 half-weight-requires-2 c κs =
     let a = c .before .before .before .before .before .before .before in
     omega (arith, a .loop .inv .2 .sum-small, start a .pre .0 .0, c .before .mass-by2 .ensures .1)
 
-mul-vmin : tie.Need-mul-vmin Inv-loop μ-loop
-mul-vmin c = search needs
+add-weights : tie.Need-add-weights Inv-loop μ-loop
+add-weights c = search needs
 
-slice-write-vmin : tie.Need-slice-write-vmin Inv-loop μ-loop
-slice-write-vmin c = search needs
+mul-weights-2 : tie.Need-mul-weights-2 Inv-loop μ-loop
+mul-weights-2 c = search needs
+
+slice-write-weights-2 : tie.Need-slice-write-weights-2 Inv-loop μ-loop
+slice-write-weights-2 c =
+    let a = c .before .before .before .before .before .before .before .before in
+    simp length-set (omega (arith, a .loop .inv .4, a .loop .inv .0 .within, start a .pre .0 .0))
 
 mul-heights : tie.Need-mul-heights Inv-loop μ-loop
 mul-heights c = search needs
@@ -137,11 +145,15 @@ loop-again c =
     let f = w .before .mass-by .ensures in
     let g = w .mass-by2 .ensures in
     let x = c .before .half-weight .ensures in
-    let y = c .half-weight2 .ensures in (
+    let y = c .half-weight2 .ensures in
+    let low : l .i - 1 < 11 = omega (arith, l .inv .0 .within, few) in (
       loaded-more few up (l .inv .0) (rw (own t) (e .0)) (rw (own t) (e .2)) (e .1) (e .3) (r .0) (r .1),
-      carried-more (stacked b) few up (l .inv .1) (rw (own t) (f .0)) (f .1) (x .0) (x .1),
-      carried-more (stacked b) few up (l .inv .2) (rw (own t) (g .0)) (g .1) (y .0) (y .1),
+      rw (first-set 11 (l .weights) low (c .before .half-weight .result) (c .half-weight2 .result))
+          (carried-more (stacked b) few up (l .inv .1) (rw (own t) (f .0)) (f .1) (x .0) (x .1)),
+      rw (second-set 11 (l .weights) low (c .before .half-weight .result) (c .half-weight2 .result))
+          (carried-more (stacked b) few up (l .inv .2) (rw (own t) (g .0)) (g .1) (y .0) (y .1)),
       heights-more (stacked b) few up (l .inv .0 .within) (l .inv .3) (rw (own t) refl),
+      simp length-set (l .inv .4),
     )
 
 same-length : tie.Need-same-length Inv-loop μ-loop
@@ -152,9 +164,6 @@ same-length-2 c = search needs
 
 same-length-3 : tie.Need-same-length-3 Inv-loop μ-loop
 same-length-3 c = search needs
-
-same-length-4 : tie.Need-same-length-4 Inv-loop μ-loop
-same-length-4 c = search needs
 
 returns : tie.Need-returns Inv-loop μ-loop
 returns c =
@@ -194,11 +203,12 @@ loads-of-spec =
     mass-by-requires-2
     add-vmin-units
     half-weight-requires
-    mul-vmax
-    slice-write-vmax
+    mul-weights
+    slice-write-weights
     half-weight-requires-2
-    mul-vmin
-    slice-write-vmin
+    add-weights
+    mul-weights-2
+    slice-write-weights-2
     mul-heights
     slice-write-heights
     loop-less
@@ -206,5 +216,4 @@ loads-of-spec =
     same-length
     same-length-2
     same-length-3
-    same-length-4
     returns)

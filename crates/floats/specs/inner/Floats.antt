@@ -11,5 +11,9 @@ magic = ofBits binary64 4841369599423283200
 unfoldable pub floatOf : ℕ → Float
 floatOf x = sub binary64 (ofBits binary64 (4841369599423283200 + x)) magic
 
+-- the bits of a float below 2^52; 0 of what is no number
+abbrev pub lowBits : Float → ℕ
+lowBits y = cond (eq y y) (toBits binary64 y % 4503599627370496) 0
+
 unfoldable pub nearOf : Float → ℕ
-nearOf x = cond (eq (add binary64 x magic) (add binary64 x magic)) (toBits binary64 (add binary64 x magic) % 4503599627370496) 0
+nearOf x = lowBits (add binary64 x magic)

@@ -27,6 +27,9 @@ begun :
 unfolding start
 begun l e f h q = rw (← h, ← f, ← e) q
 
+cast-enough : tie.Need-cast-enough
+cast-enough c = search needs
+
 tried-requires : tie.Need-tried-requires
 tried-requires c κs =
     let g = c .before .sides-of .ensures .0 in
@@ -45,4 +48,4 @@ returns c =
     ((is, c .tried .ensures .1), is ∙ finds (b .before .before .pre))
 
 pub search-spec : {M : Type 1} → statement M
-search-spec = tie.close (tie.spec sides-of-requires start-of-requires tried-requires returns)
+search-spec = tie.close (tie.spec sides-of-requires start-of-requires cast-enough tried-requires returns)

@@ -25,21 +25,24 @@ enough s x = leb s ((x - 1) * (x - 1))
 sub-trial : tie.Need-sub-trial
 sub-trial c = search needs
 
-mul-t4 : tie.Need-mul-t4
-mul-t4 c =
-    let l : c .before .args .at .length - 1 ≤ 1999999999 = omega (arith, c .before .pre .1) in
+cast-squares : tie.Need-cast-squares
+cast-squares c = search needs
+
+mul-t5 : tie.Need-mul-t5
+mul-t5 c =
+    let l : c .before .before .args .at .length - 1 ≤ 1999999999 = omega (arith, c .before .before .pre .1) in
     omega (arith, mul-le-mul l l)
 
-cast-t6 : tie.Need-cast-t6
-cast-t6 c = search needs
+cast-t7 : tie.Need-cast-t7
+cast-t7 c = search needs
 
-sub-t7 : tie.Need-sub-t7
-sub-t7 c =
+sub-t8 : tie.Need-sub-t8
+sub-t8 c =
     let b = c .before .before .before in
     at-most (enough (b .args .g .squares) (b .args .at .length)) (b .args .at .length) (omega (arith, b .pre .0))
 
-add-t8 : tie.Need-add-t8
-add-t8 c = search needs
+add-t9 : tie.Need-add-t9
+add-t9 c = search needs
 
 returns : tie.Need-returns
 returns c =
@@ -47,4 +50,4 @@ returns c =
     (one-less (enough (a .g .squares) (a .at .length)) (a .at .length), refl)
 
 pub tried-spec : {M : Type 1} → statement M
-tried-spec = tie.close (tie.spec sub-trial mul-t4 cast-t6 sub-t7 add-t8 returns)
+tried-spec = tie.close (tie.spec sub-trial cast-squares mul-t5 cast-t7 sub-t8 add-t9 returns)

@@ -28,10 +28,13 @@ mul-result c = omega (arith, product c)
 mul-result-2 : tie.Need-mul-result-2
 mul-result-2 c = omega (arith, product c)
 
+cast-result : tie.Need-cast-result
+cast-result c = omega (arith, product c)
+
 returns : tie.Need-returns
 unfolding safeLoad
 returns c =
     rw (c .other-factor .ensures .0) (by-factor (eqb (c .before .args .material) 1) (c .before .args .breaking))
 
 pub safe-load-spec : {M : Type 1} → statement M
-safe-load-spec = tie.close (tie.spec other-factor-requires mul-result mul-result-2 returns)
+safe-load-spec = tie.close (tie.spec other-factor-requires mul-result mul-result-2 cast-result returns)

@@ -29,6 +29,9 @@ abbrev μ-loop : tie.MeasureT-loop
 loop-holds : tie.Need-loop-holds Inv-loop μ-loop
 loop-holds c = (omega arith, any-all (over (c .args .racking .now)) (c .args .n))
 
+cast-if1 : tie.Need-cast-if1 Inv-loop μ-loop
+cast-if1 c = search needs
+
 mul-if1 : tie.Need-mul-if1 Inv-loop μ-loop
 mul-if1 c = search needs
 
@@ -72,6 +75,7 @@ verdict-of-spec =
     Inv-loop
     μ-loop
     loop-holds
+    cast-if1
     mul-if1
     shared-slice-read-if1
     returns

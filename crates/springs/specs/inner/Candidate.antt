@@ -4,7 +4,7 @@
 use mathlib.Core.Bool.{cond}
 use mathlib.Core.List.{List, map}
 use mathlib.Core.Path.{_≡_}
-use Prim.Native.Nat.{ℕ, zero, suc, _-_, _%_, _<_, _≤_}
+use Prim.Native.Nat.{ℕ, zero, suc, _+_, _*_, _-_, _%_, _<_, _≤_}
 use lib.Dec.{ltb}
 use lib.Ieee.{Float, nan, binary64, add, mul, div, ofBits}
 use lib.ListN.{getD}
@@ -68,19 +68,27 @@ candidateAt n k κ ω (suc i) = cond (ltb i n) (nearOf (floatAt n k κ ω (suc i
 unfoldable pub candidate : ℕ → List ℕ → List ℕ → List ℕ → List ℕ
 candidate n k κ ω = map (candidateAt n k κ ω) (below 11)
 
--- a and w hold what gives the shift of each level over i, up to n
-pub record Sloped (i n : ℕ) (k κ ω : List ℕ) (a w : List Float) : Type 0 where
-  pub own : (j : ℕ) → i ≤ j → j < n → getD a (suc j) nan ≡ chainTo k κ ω j (n - j) .a
-  pub share : (j : ℕ) → i ≤ j → j < n → getD w (suc j) nan ≡ chainTo k κ ω j (n - j) .w
+-- a and w give what the shift of each level over i takes, up to n: of the level over tier j its own float, and the share that it has of
+-- the shift under it
+pub record Sloped (i n : ℕ) (k κ ω : List ℕ) (a w : ℕ → Float) : Type 0 where
+  pub own : (j : ℕ) → i ≤ j → j < n → a j ≡ chainTo k κ ω j (n - j) .a
+  pub share : (j : ℕ) → i ≤ j → j < n → w j ≡ chainTo k κ ω j (n - j) .w
 
--- the shifts that such arrays give, from the deck up: as floats, and the whole numbers nearest to them
-unfoldable pub floatIn : List Float → List Float → ℕ → Float
+-- the shifts that these give, from the deck up: as floats, and the whole numbers nearest to them
+unfoldable pub floatIn : (ℕ → Float) → (ℕ → Float) → ℕ → Float
 floatIn a w zero = none
-floatIn a w (suc i) = add binary64 (getD a (suc i) nan) (mul binary64 (getD w (suc i) nan) (floatIn a w i))
+floatIn a w (suc i) = add binary64 (a i) (mul binary64 (w i) (floatIn a w i))
 
-unfoldable pub risenAt : ℕ → List Float → List Float → ℕ → ℕ
+unfoldable pub risenAt : ℕ → (ℕ → Float) → (ℕ → Float) → ℕ → ℕ
 risenAt n a w zero = 0
 risenAt n a w (suc i) = cond (ltb i n) (nearOf (floatIn a w (suc i)) % 1099511627776) 0
 
-unfoldable pub risen : ℕ → List Float → List Float → List ℕ
+unfoldable pub risen : ℕ → (ℕ → Float) → (ℕ → Float) → List ℕ
 risen n a w = map (risenAt n a w) (below 11)
+
+-- where they stand in arrays: that of the level over tier j at its number, or every fourth from p on
+abbrev pub byLevel : List Float → ℕ → Float
+byLevel l j = getD l (suc j) nan
+
+abbrev pub everyFourth : ℕ → List Float → ℕ → Float
+everyFourth p l j = getD l (4 * j + p) nan

@@ -1,4 +1,5 @@
 -- `springs_guess::guess` puts the candidate into its array: what its two loops do, one after the other.
+use Rattle.springs.specs.inner.Candidate.{byLevel}
 use Rattle.springs.proofs.Candidates.{gives-candidate}
 use borrow.Author.Needs.{needs}
 use Rattle.springs_guess.proofs.guess.Statement.{statement}
@@ -31,7 +32,8 @@ returns c =
     let s = r .before .before .before .before .before .before in
     let g = s .before .before .before .before .before .before .before .args in
     let found = s .slope .last .1 .1 .1 .1 in
-    gives-candidate (g .n) (g .k .now) (g .kappa .now) (g .omega .now) (found .0) (found .1 .0) (s .slope .ensures) _ (r .rise .ensures)
+    gives-candidate (g .n) (g .k .now) (g .kappa .now) (g .omega .now) (byLevel (found .0)) (byLevel (found .1 .0)) (s .slope .ensures) _
+    (r .rise .ensures)
 
 pub guess-spec : {M : Type 1} → statement M
 guess-spec =

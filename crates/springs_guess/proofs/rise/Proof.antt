@@ -1,5 +1,9 @@
 -- `springs_guess::rise` meets its contract: at each turn levels 0 to i have their shifts (Loops).
-use Prim.Native.Nat.{_+_, _-_}
+use Prim.Native.Nat.{ℕ, _+_, _-_}
+use mathlib.Core.Path.{ap}
+use lib.Ieee.{nan}
+use lib.ListN.{getD}
+use Rattle.springs.specs.inner.Candidate.{byLevel}
 use native.Mathlib.Omega.{arith}
 use native.Mathlib.Numerals.{add-one}
 use Rattle.springs_guess.proofs.Loops.{Up, up-start, up-next, up-done}
@@ -8,7 +12,7 @@ use Rattle.springs_guess.proofs.rise.Statement.{statement}
 use Rattle.springs_guess.proofs.rise.Tie as tie
 
 abbrev Inv-loop : tie.InvT-loop
-Inv-loop n a w d₀ x₀ i₀ d x i = Up n a w d x i
+Inv-loop n a w d₀ x₀ i₀ d x i = Up n (byLevel a) (byLevel w) d x i
 
 abbrev μ-loop : tie.MeasureT-loop
 μ-loop n a w d₀ x₀ i₀ d x i = n - i
@@ -21,7 +25,7 @@ loop-holds : tie.Need-loop-holds Inv-loop μ-loop
 loop-holds c =
     let b = c .before .before .before in
     let g = b .args in
-    up-start (g .n) (g .a .now) (g .w .now) (g .d .now) (b .pre .3)
+    up-start (g .n) (byLevel (g .a .now)) (byLevel (g .w .now)) (g .d .now) (b .pre .3)
 
 add-j : tie.Need-add-j Inv-loop μ-loop
 add-j c = search needs
@@ -55,11 +59,16 @@ loop-again c =
     let l = c .before .before .before .before in
     let b = entered l in
     let g = b .args in
-    up-next (g .n) (g .a .now) (g .w .now) (l .loop .d) (l .loop .x) (l .loop .i) (l .loop .i + 1)
-    (add-one (l .loop .i))
+    let up = add-one (l .loop .i) in
+    up-next (g .n) (byLevel (g .a .now)) (byLevel (g .w .now)) (l .loop .d) (l .loop .x) (l .loop .i) (l .loop .i + 1)
+    up
     (omega arith)
     (b .pre .0)
     (l .loop .inv)
+    _
+    _
+    (ap (λ (z : ℕ). getD (g .a .now) z nan) up)
+    (ap (λ (z : ℕ). getD (g .w .now) z nan) up)
     (c .near .result)
     (c .near .ensures .0)
 
@@ -70,7 +79,8 @@ returns : tie.Need-returns Inv-loop μ-loop
 returns c =
     let l = c .before in
     let g = entered l .args in
-    up-done (g .n) (g .a .now) (g .w .now) (l .loop .d) (l .loop .x) (l .loop .i) (omega (arith, l .loop .inv .within)) (l .loop .inv)
+    up-done (g .n) (byLevel (g .a .now)) (byLevel (g .w .now)) (l .loop .d) (l .loop .x) (l .loop .i) (omega (arith, l .loop .inv .within))
+    (l .loop .inv)
 
 pub rise-spec : {M : Type 1} → statement M
 rise-spec =

@@ -1,13 +1,17 @@
 -- `springs_guess::slope` meets its contract: at each turn the levels over i have their floats (Loops).
-use Prim.Native.Nat.{_-_, _<_}
+use Prim.Native.Nat.{suc, _-_, _<_}
+use mathlib.Core.Path.{_≡_, _∙_}
 use native.Mathlib.Omega.{arith}
-use Rattle.springs_guess.proofs.Loops.{Down, down-start, down-next, down-done}
+use lib.ListN.{length, length-set}
+use Rattle.springs.specs.inner.Candidate.{byLevel}
+use Rattle.springs_guess.proofs.Loops.{Down, stored, down-start, down-next, down-done}
 use borrow.Author.Needs.{needs}
 use Rattle.springs_guess.proofs.slope.Statement.{statement}
 use Rattle.springs_guess.proofs.slope.Tie as tie
 
 abbrev Inv-loop : tie.InvT-loop
-Inv-loop n k kappa omega a₀ w₀ over₀ i₀ a w over i = Down n k kappa omega a w over i
+Inv-loop n k kappa omega a₀ w₀ over₀ i₀ a w over i =
+    (length a ≡ 11) × (length w ≡ 11) × Down n k kappa omega (byLevel a) (byLevel w) over i
 
 abbrev μ-loop : tie.MeasureT-loop
 μ-loop n k kappa omega a₀ w₀ over₀ i₀ a w over i = i
@@ -20,7 +24,7 @@ loop-holds : tie.Need-loop-holds Inv-loop μ-loop
 loop-holds c =
     let b = c .before .before .before .before .before in
     let g = b .args in
-    down-start (g .n) (g .k .now) (g .kappa .now) (g .omega .now) (g .a .now) (g .w .now) (b .pre .1 .0) (b .pre .1 .1)
+    (b .pre .1 .0, b .pre .1 .1, down-start (g .n) (g .k .now) (g .kappa .now) (g .omega .now) _ _)
 
 sub-j : tie.Need-sub-j Inv-loop μ-loop
 sub-j c = search needs
@@ -47,7 +51,7 @@ step-requires : tie.Need-step-requires Inv-loop μ-loop
 step-requires c κs =
     let l = c .before .before .before .before in
     let s = entered l .pre .0 .0 in
-    let inside : l .loop .i - 1 < entered l .args .n = omega (arith, l .loop .inv .within) in
+    let inside : l .loop .i - 1 < entered l .args .n = omega (arith, l .loop .inv .2 .within) in
     (s .springs (l .loop .i - 1) inside .1, s .held (l .loop .i - 1) inside, s .loaded (l .loop .i - 1) inside)
 
 mul-a : tie.Need-mul-a Inv-loop μ-loop
@@ -70,12 +74,21 @@ loop-again c =
     let l = c .before .before .before .before .before in
     let b = entered l in
     let g = b .args in
-    down-next (g .n) (g .k .now) (g .kappa .now) (g .omega .now) (l .loop .a) (l .loop .w) (l .loop .over) (l .loop .i) (l .loop .i - 1)
-    (omega arith)
-    (b .pre .0 .0 .few)
-    (l .loop .inv)
-    (c .step .result)
-    (c .step .ensures)
+    let v = l .loop .inv in
+    let i = l .loop .i in
+    let up : i ≡ suc (i - 1) = omega arith in
+    let room : i < 11 = omega (arith, v .2 .within, b .pre .0 .0 .few) in
+    let r = c .step .result in (
+      length-set (l .loop .a) i (r .a) ∙ v .0,
+      length-set (l .loop .w) i (r .w) ∙ v .1,
+      down-next (g .n) (g .k .now) (g .kappa .now) (g .omega .now) _ _ _ _ (l .loop .over) i (i - 1)
+          up
+          (v .2)
+          r
+          (c .step .ensures)
+          (stored (l .loop .a) i (i - 1) (r .a) up (omega (arith, v .0)))
+          (stored (l .loop .w) i (i - 1) (r .w) up (omega (arith, v .1))),
+    )
 
 same-length : tie.Need-same-length Inv-loop μ-loop
 same-length c = search needs
@@ -87,9 +100,9 @@ returns : tie.Need-returns Inv-loop μ-loop
 returns c =
     let l = c .before in
     let g = entered l .args in
-    down-done (g .n) (g .k .now) (g .kappa .now) (g .omega .now) (l .loop .a) (l .loop .w) (l .loop .over) (l .loop .i)
+    down-done (g .n) (g .k .now) (g .kappa .now) (g .omega .now) _ _ (l .loop .over) (l .loop .i)
     (omega arith)
-    (l .loop .inv)
+    (l .loop .inv .2)
 
 pub slope-spec : {M : Type 1} → statement M
 slope-spec =

@@ -1,28 +1,33 @@
 -- `springs_guess_both::rise_both` meets its contract: at each turn levels 0 to i have their shifts, at both ends (Loops).
-use Prim.Native.Nat.{_+_, _-_}
+use Prim.Native.Nat.{ℕ, _+_, _*_, _-_}
+use mathlib.Core.Path.{_≡_, refl, ap}
 use native.Mathlib.Omega.{arith}
 use native.Mathlib.Numerals.{add-one}
+use lib.Ieee.{nan}
+use lib.ListN.{getD}
+use Rattle.springs.specs.inner.Candidate.{everyFourth}
 use Rattle.springs_guess.proofs.Loops.{Up, up-start, up-next, up-done}
 use borrow.Author.Needs.{needs}
 use Rattle.springs_guess_both.proofs.rise_both.Statement.{statement}
 use Rattle.springs_guess_both.proofs.rise_both.Tie as tie
 
 abbrev Inv-loop : tie.InvT-loop
-Inv-loop n a w b v d₀ e₀ x₀ y₀ i₀ d e x y i = Up n a w d x i × Up n b v e y i
+Inv-loop n slopes d₀ e₀ x₀ y₀ i₀ d e x y i =
+    Up n (everyFourth 0 slopes) (everyFourth 2 slopes) d x i × Up n (everyFourth 1 slopes) (everyFourth 3 slopes) e y i
 
 abbrev μ-loop : tie.MeasureT-loop
-μ-loop n a w b v d₀ e₀ x₀ y₀ i₀ d e x y i = n - i
+μ-loop n slopes d₀ e₀ x₀ y₀ i₀ d e x y i = n - i
 
 -- from the loop back to the call
 abbrev entered : tie.At-loop Inv-loop μ-loop → tie.Start Inv-loop μ-loop
-entered l = l .before .before .before .before .before .before .before
+entered l = l .before .before .before .before
 
 loop-holds : tie.Need-loop-holds Inv-loop μ-loop
 loop-holds c =
-    let b = c .before .before .before .before .before .before in
+    let b = c .before .before .before in
     let g = b .args in (
-      up-start (g .n) (g .a .now) (g .w .now) (g .d .now) (b .pre .1 .0),
-      up-start (g .n) (g .b .now) (g .v .now) (g .e .now) (b .pre .1 .1),
+      up-start (g .n) (everyFourth 0 (g .slopes .now)) (everyFourth 2 (g .slopes .now)) (g .d .now) (b .pre .2),
+      up-start (g .n) (everyFourth 1 (g .slopes .now)) (everyFourth 3 (g .slopes .now)) (g .e .now) (b .pre .3),
     )
 
 add-j : tie.Need-add-j Inv-loop μ-loop
@@ -31,11 +36,20 @@ add-j c = search needs
 mul-x : tie.Need-mul-x Inv-loop μ-loop
 mul-x c = search needs
 
+mul-x-2 : tie.Need-mul-x-2 Inv-loop μ-loop
+mul-x-2 c = search needs
+
 shared-slice-read-x : tie.Need-shared-slice-read-x Inv-loop μ-loop
 shared-slice-read-x c = search needs
 
-mul-x-2 : tie.Need-mul-x-2 Inv-loop μ-loop
-mul-x-2 c = search needs
+mul-x-3 : tie.Need-mul-x-3 Inv-loop μ-loop
+mul-x-3 c = search needs
+
+add-x : tie.Need-add-x Inv-loop μ-loop
+add-x c = search needs
+
+mul-x-4 : tie.Need-mul-x-4 Inv-loop μ-loop
+mul-x-4 c = search needs
 
 shared-slice-read-x-2 : tie.Need-shared-slice-read-x-2 Inv-loop μ-loop
 shared-slice-read-x-2 c = search needs
@@ -43,11 +57,23 @@ shared-slice-read-x-2 c = search needs
 mul-y : tie.Need-mul-y Inv-loop μ-loop
 mul-y c = search needs
 
-shared-slice-read-y : tie.Need-shared-slice-read-y Inv-loop μ-loop
-shared-slice-read-y c = search needs
+add-y : tie.Need-add-y Inv-loop μ-loop
+add-y c = search needs
 
 mul-y-2 : tie.Need-mul-y-2 Inv-loop μ-loop
 mul-y-2 c = search needs
+
+shared-slice-read-y : tie.Need-shared-slice-read-y Inv-loop μ-loop
+shared-slice-read-y c = search needs
+
+mul-y-3 : tie.Need-mul-y-3 Inv-loop μ-loop
+mul-y-3 c = search needs
+
+add-y-2 : tie.Need-add-y-2 Inv-loop μ-loop
+add-y-2 c = search needs
+
+mul-y-4 : tie.Need-mul-y-4 Inv-loop μ-loop
+mul-y-4 c = search needs
 
 shared-slice-read-y-2 : tie.Need-shared-slice-read-y-2 Inv-loop μ-loop
 shared-slice-read-y-2 c = search needs
@@ -79,19 +105,29 @@ loop-again c =
     let l = one .before .before .before .before .before .before in
     let b = entered l in
     let g = b .args in
-    let i = l .loop .i in (
-      up-next (g .n) (g .a .now) (g .w .now) (l .loop .d) (l .loop .x) i (i + 1)
+    let i = l .loop .i in
+    let s = g .slopes .now in
+    let start : 4 * i ≡ 4 * i + 0 = omega arith in (
+      up-next (g .n) (everyFourth 0 s) (everyFourth 2 s) (l .loop .d) (l .loop .x) i (i + 1)
           (add-one i)
           (omega arith)
-          (b .pre .0 .0)
+          (b .pre .0)
           (l .loop .inv .0)
+          _
+          _
+          (ap (λ (z : ℕ). getD s z nan) start)
+          refl
           (one .near .result)
           (one .near .ensures .0),
-      up-next (g .n) (g .b .now) (g .v .now) (l .loop .e) (l .loop .y) i (i + 1)
+      up-next (g .n) (everyFourth 1 s) (everyFourth 3 s) (l .loop .e) (l .loop .y) i (i + 1)
           (add-one i)
           (omega arith)
-          (b .pre .0 .0)
+          (b .pre .0)
           (l .loop .inv .1)
+          _
+          _
+          refl
+          refl
           (c .near2 .result)
           (c .near2 .ensures .0),
     )
@@ -106,9 +142,11 @@ returns : tie.Need-returns Inv-loop μ-loop
 returns c =
     let l = c .before in
     let g = entered l .args in
-    let i = l .loop .i in (
-      up-done (g .n) (g .a .now) (g .w .now) (l .loop .d) (l .loop .x) i (omega (arith, l .loop .inv .0 .within)) (l .loop .inv .0),
-      up-done (g .n) (g .b .now) (g .v .now) (l .loop .e) (l .loop .y) i (omega (arith, l .loop .inv .0 .within)) (l .loop .inv .1),
+    let s = g .slopes .now in
+    let i = l .loop .i in
+    let all : i ≡ g .n = omega (arith, l .loop .inv .0 .within) in (
+      up-done (g .n) (everyFourth 0 s) (everyFourth 2 s) (l .loop .d) (l .loop .x) i all (l .loop .inv .0),
+      up-done (g .n) (everyFourth 1 s) (everyFourth 3 s) (l .loop .e) (l .loop .y) i all (l .loop .inv .1),
     )
 
 pub rise-both-spec : {M : Type 1} → statement M
@@ -120,12 +158,19 @@ rise-both-spec =
     loop-holds
     add-j
     mul-x
-    shared-slice-read-x
     mul-x-2
+    shared-slice-read-x
+    mul-x-3
+    add-x
+    mul-x-4
     shared-slice-read-x-2
     mul-y
-    shared-slice-read-y
+    add-y
     mul-y-2
+    shared-slice-read-y
+    mul-y-3
+    add-y-2
+    mul-y-4
     shared-slice-read-y-2
     near-requires
     mul-d

@@ -1,7 +1,7 @@
 -- `stack_check::answer_to`: a short buffer, or the answer by its figures (CheckLaws).
 use mathlib.Core.Path.{refl, sym}
 use Rattle.answer_encode.proofs.AnswerLaws.{sized}
-use Rattle.stack_check.proofs.CheckLaws.{short-room, answered, both-ends, by-rule, figures-fit}
+use Rattle.stack_check.proofs.CheckLaws.{short-room, answered, both-ends, by-rule}
 use borrow.Author.Needs.{needs}
 use Rattle.stack_check.proofs.answer_to.Statement.{statement}
 use Rattle.stack_check.proofs.answer_to.Tie as tie
@@ -69,11 +69,8 @@ write-answer-requires c κs =
     let f = figured (c .before .before .before .before .before .before) in
     let r = roomy f in
     let b = entered r in
-    let p = b .pre in
-    let d = f .figures-by .ensures .0 in
-    let e = f .figures-by .ensures .1 in
-    let fit = figures-fit (b .args .rule) (b .args .t) (d .0) (e .0) (p .0) (p .1) (p .2) in
-    ((sized (p .0), r .if1 .left), ((d .1, fit .0), (e .1, fit .1)))
+    let e = f .figures-by .ensures in
+    (sized (b .pre .0), r .if1 .left, e .0 .1, e .1 .1)
 
 same-length : tie.Need-same-length
 same-length c = search needs

@@ -1,4 +1,4 @@
--- The figures of an end as they stand in the arrays that are lent to be filled: the rackings; the compressions with the tensions behind
+-- What stands in the arrays that are lent to be filled. The figures of an end: the rackings; the compressions with the tensions behind
 -- them; the tensions of the lashes, then their athwart parts, then their vertical parts. Nothing here need be believed.
 use mathlib.Core.List.{List}
 use mathlib.Core.Path.{_≡_}
@@ -23,3 +23,10 @@ pub record Lengths (racking : List ℤ) (levels forces : List ℕ) : Type 0 wher
   pub of-racking : length racking ≡ 10
   pub of-levels : length levels ≡ 21
   pub of-forces : length forces ≡ 24
+
+-- half of V above levels 0 to 10 in one array: with A_Vmax, and behind these eleven with A_Vmin
+abbrev pub mostIn : List ℕ → List ℕ
+mostIn weights = take 11 weights
+
+abbrev pub leastIn : List ℕ → List ℕ
+leastIn weights = drop 11 weights
