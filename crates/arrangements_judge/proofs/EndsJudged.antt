@@ -5,7 +5,7 @@ use mathlib.Core.List.{List}
 use mathlib.Core.Path.{_≡_, refl, sym, ap, ap₂, subst, _∙_}
 use native.Mathlib.Omega.{arith}
 use lib.Dec.{eqb}
-use lib.ListN.{length, getD, take}
+use lib.ListN.{length, getD}
 use lib.Seq.{getD-take}
 use Rattle.sheet.specs.declared.Lash.{Lash}
 use Rattle.sheet.specs.declared.Sheet.{Sheet}
@@ -22,7 +22,7 @@ use Rattle.statics.specs.Reported.{Fitting}
 use Rattle.statics.specs.inner.Computed.{springsOf, endFiguresBy, figuresBy, loadRuleOf}
 use Rattle.statics.proofs.EndChain.{rule-stands}
 use Rattle.figures_lashes.specs.inner.Lashes.{LashesMeasured, LevelStiffnesses}
-use Rattle.figures.specs.inner.Ends.{Workable}
+use Rattle.figures.specs.inner.Ends.{Workable, figuresWith}
 use Rattle.figures.proofs.EndLaws.{each-ten, end-solvable, workable, named-fits, springs-long}
 use Rattle.limits.specs.declared.PullLimit.{PullLimit}
 use Rattle.answer.specs.Findings.{endCode, figuresOf, named, endFindings}
@@ -31,10 +31,10 @@ use Rattle.end_verdict.specs.inner.NoneOver.{noneFound}
 use Rattle.end_verdict.proofs.NoneFound.{none-found}
 use Rattle.gear.specs.Gear.{withLashes}
 use Rattle.chosen_lashes.specs.declared.Chosen.{Chosen}
-use Rattle.chosen_lashes.specs.inner.Gathered.{Held, heldIn, heldOf}
+use Rattle.chosen_lashes.specs.inner.Gathered.{Held, heldIn, heldOf, lashesHeld}
 use Rattle.chosen_lashes.proofs.Picked.{levels-long}
 use Rattle.chosen_lashes.proofs.Held.{held-measured, held-levels}
-use Rattle.arrangements_judge.specs.inner.Judged.{lashesIn, EndGiven, figuresWith, noFinding, StackGiven, acceptedWith}
+use Rattle.arrangements_judge.specs.inner.Judged.{lashesIn, EndGiven, noFinding, StackGiven, acceptedWith}
 
 -- an end that is given: its shifts can be solved
 module _ {n : ℕ} {k hs : List ℕ} {m : ℕ} {ls : List Lash} {κ ω weights : List ℕ}
@@ -70,8 +70,8 @@ module _ {t : Sheet} {pull : PullLimit} {k h hs ω weights : List ℕ} (given : 
   springs-are closed = given .closed-springs
 
   same : (e : End) → lashesIn g ≡ lashesOf e with-them
-  same door = ap (λ (x : Held). take (x .count) (x .lashes)) held
-  same closed = ap (λ (x : Held). take (x .count) (x .lashes)) held
+  same door = ap lashesHeld held
+  same closed = ap lashesHeld held
 
   counted : g .count ≡ length (lashesIn g)
   counted = ap (λ (x : Held). x .count) held

@@ -16,7 +16,7 @@ use Rattle.choices.specs.Choices.{chosen, choices, those}
 use Rattle.choices.proofs.AmongEight.{among-eight}
 use Rattle.choices.proofs.Once.{all-once}
 use Rattle.chosen_lashes.specs.declared.Chosen.{Chosen}
-use Rattle.chosen_lashes.specs.inner.Gathered.{Held, heldIn, heldOf}
+use Rattle.chosen_lashes.specs.inner.Gathered.{heldIn, heldOf, lashesHeld}
 use Rattle.arrangements_judge.specs.inner.Judged.{lashesIn, acceptedWith}
 use Rattle.arrangements_list.specs.inner.Listing.{acceptedChoices}
 
@@ -111,7 +111,7 @@ module _ (t : Sheet) (ls : List Lash) (m : ℕ) where
 -- lashes in arrays, read back
 module _ {g : Chosen} {lengths stiffs κ : List ℕ} (ls : List Lash) (e : heldIn g lengths stiffs κ ≡ heldOf ls) where
   pub held-back : lashesIn g ≡ ls
-  held-back = ap (λ (x : Held). take (x .count) (x .lashes)) e ∙ take-at ls _ (length ls) refl
+  held-back = ap lashesHeld e ∙ take-at ls _ (length ls) refl
 
   pub held-by-name : heldIn g lengths stiffs κ ≡ heldOf (lashesIn g)
   held-by-name = e ∙ ap heldOf (sym held-back)

@@ -2,7 +2,7 @@
 
 ghost use mathlib.Core.Path.{_≡_};
 ghost use Prim.Native.Nat.{_<_};
-ghost use Rattle.floats.specs.inner.Floats.{floatOf, lowBits, nearOf};
+ghost use Rattle.floats.specs.inner.Floats.{floatOf, lowBits, nearOf, belowOf};
 
 // A whole number as a float. By its bits: a cast would wait for what the register held before.
 pub fn float_of(x: u64) -> f64
@@ -31,7 +31,7 @@ pub fn near(x: f64) -> u64
 
 // The whole number nearest to half less than a float from 1 to 2^52; of any other some number below 2^52.
 pub fn below(x: f64) -> u64
-    ensures { λ r. ⌜ r < 4503599627370496 ⌝ }
+    ensures { λ r. ⌜ (r ≡ belowOf x) × (r < 4503599627370496) ⌝ }
 {
     low_bits(x + 4503599627370495.5)
 }

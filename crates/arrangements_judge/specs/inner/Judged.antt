@@ -9,11 +9,9 @@ use Rattle.sheet.specs.declared.Lash.{Lash}
 use Rattle.sheet.specs.declared.Tier.{Tier}
 use Rattle.sheet.specs.declared.Sheet.{Sheet}
 use Rattle.sheet.specs.Ends.{door, closed, tiersOf}
-use Rattle.springs.specs.inner.Elimination.{solved}
-use Rattle.statics.specs.declared.EndFigures.{EndFigures}
-use Rattle.statics.specs.inner.Computed.{springsOf, stiffnessesOf, figuresAt, figuresBy, loadRuleOf}
+use Rattle.statics.specs.inner.Computed.{springsOf, stiffnessesOf, figuresBy, loadRuleOf}
 use Rattle.figures_tiers.specs.inner.Loads.{Loaded, TiersMeasured}
-use Rattle.figures.specs.inner.Ends.{Workable}
+use Rattle.figures.specs.inner.Ends.{Workable, figuresWith}
 use Rattle.limits.specs.declared.PullLimit.{PullLimit}
 use Rattle.limits.specs.inner.LowerOf.{lowerOf}
 use Rattle.answer.specs.Limits.{safeLoad}
@@ -33,10 +31,6 @@ pub record EndGiven (n : ℕ) (k hs : List ℕ) (m : ℕ) (ls : List Lash) (κ �
   pub counted : length ls ≡ m
   pub levelled : κ ≡ stiffnessesOf ls
   pub long : (length k ≡ 10) × (length hs ≡ 10) × (length ω ≡ 10) × (length weights ≡ 22)
-
--- its figures, by its springs, its tiers, its lashes and the loads
-abbrev pub figuresWith : ℕ → List ℕ → List Tier → List Lash → List ℕ → EndFigures
-figuresWith n k ts ls ω = figuresAt n k ts ls (solved n k (stiffnessesOf ls) ω)
 
 -- whether it has no finding, where its lashes are the first m of an array
 abbrev pub noFinding : ℕ → List ℕ → List Tier → List Lash → ℕ → PullLimit → List ℕ → Bool

@@ -6,6 +6,7 @@ use Rattle.sheet.specs.inner.Limits.{atLevel, LashLimits}
 use Rattle.sheet.specs.Layout.{blankLash}
 use Rattle.sheet.specs.declared.Lash.{Lash}
 use Rattle.sheet.specs.declared.Sheet.{Sheet}
+use Rattle.sheet.specs.declared.Tier.{Tier}
 use Rattle.sheet.specs.Ends.{End, tiersOf, lashesOf}
 use Rattle.statics.specs.inner.InArrays.{mostIn, leastIn}
 use Rattle.springs.specs.inner.Elimination.{solved}
@@ -25,7 +26,9 @@ pub record Workable (n : ℕ) (k hs : List ℕ) (m : ℕ) (ls : List Lash) (ω w
   pub vmax-light : (i : ℕ) → getD (mostIn weights) i 0 ≤ 2 ^ 40
   pub vmin-light : (i : ℕ) → getD (leastIn weights) i 0 ≤ 2 ^ 40
 
--- the figures of an end of a sheet, from its springs and loads
+-- the figures of an end of n tiers, from its springs, tiers and lashes and the loads, and those of an end of a sheet
+abbrev pub figuresWith : ℕ → List ℕ → List Tier → List Lash → List ℕ → EndFigures
+figuresWith n k ts ls ω = figuresAt n k ts ls (solved n k (stiffnessesOf ls) ω)
+
 abbrev pub endFigures : End → Sheet → List ℕ → List ℕ → EndFigures
-endFigures e t k ω =
-    figuresAt (t .ntiers) k (tiersOf t) (lashesOf e t) (solved (t .ntiers) k (stiffnessesOf (lashesOf e t)) ω)
+endFigures e t k ω = figuresWith (t .ntiers) k (tiersOf t) (lashesOf e t) ω

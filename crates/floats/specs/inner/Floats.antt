@@ -17,3 +17,10 @@ lowBits y = cond (eq y y) (toBits binary64 y % 4503599627370496) 0
 
 unfoldable pub nearOf : Float → ℕ
 nearOf x = lowBits (add binary64 x magic)
+
+-- 2^52 - 0.5, the float before 2^52
+abbrev pub halfBefore : Float
+halfBefore = ofBits binary64 4841369599423283199
+
+unfoldable pub belowOf : Float → ℕ
+belowOf x = lowBits (add binary64 x halfBefore)
