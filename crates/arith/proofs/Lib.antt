@@ -19,6 +19,7 @@ pub mod Arrays
 pub mod ByteLaws
 pub mod Parts
 pub mod Sizes
+pub mod SignedWords
 pub mod Quotients
 pub mod RationalRounding
 pub mod RoundingLaws

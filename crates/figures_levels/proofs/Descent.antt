@@ -6,7 +6,7 @@ use native.Mathlib.Omega.{arith}
 use lib.IntN.{ℤ, pos, _+ℤ_, _-ℤ_, _*ℤ_}
 use lib.ListN.{length, getD, set, take, drop, replicate, length-set}
 use lib.Seq.{take-set-lt, drop-set-lt}
-use lib.Signed.{quotZ}
+use lib.Signed.{shrZ}
 use Rattle.arith.specs.inner.Sizes.{Small}
 use Rattle.arith.proofs.Sizes.{small-weaken, small-add, small-pos}
 use Rattle.springs.specs.Equations.{closedSpring}
@@ -213,7 +213,7 @@ module _ {n : ℕ} {k hs d weights lee windward : List ℕ}
         {i : ℕ} {p : ℤ} {h : ℕ} {r : ℤ} {bl bw tl tw compression tension : ℕ} {moment′ : ℤ} {lees′ windwards′ : ℕ} →
         0 < i →
         FiguredFrom n k hs d weights lee windward racking levels moment lees windwards i →
-        p ≡ quotZ (pos (getD k (i - 1) 0 * getD d i 0) -ℤ pos (getD k (i - 1) 0 * getD d (i - 1) 0)) (pos 1024) →
+        p ≡ shrZ (pos (getD k (i - 1) 0 * getD d i 0) -ℤ pos (getD k (i - 1) 0 * getD d (i - 1) 0)) 1024 →
         h ≡ getD hs (i - 1) 0 →
         r ≡ rackingFigure p →
         bl ≡ getD lee (2 * (i - 1) + 1) 0 →
@@ -245,7 +245,7 @@ module _ {n : ℕ} {k hs d weights lee windward : List ℕ}
         let e : i ≡ suc (i - 1) = omega arith in
         to-under
         (subst (λ (z : ℕ). FiguredFrom n k hs d weights lee windward racking levels moment lees windwards z) e s)
-        (ep ∙ ap (λ (z : ℕ). quotZ (pos (getD k (i - 1) 0 * getD d z 0) -ℤ pos (getD k (i - 1) 0 * getD d (i - 1) 0)) (pos 1024)) e)
+        (ep ∙ ap (λ (z : ℕ). shrZ (pos (getD k (i - 1) 0 * getD d z 0) -ℤ pos (getD k (i - 1) 0 * getD d (i - 1) 0)) 1024) e)
 
     pub at-foot :
         {i : ℕ} →

@@ -1,22 +1,26 @@
--- Rackings, moments and sums of the posts: their sizes, and the figure of a racking by its sign.
+-- Rackings, moments and sums of the posts: their sizes, and the figure of a post by the greater and the lesser sum.
 use Prim.Native.Nat.{ℕ, zero, suc, _+_, _*_, _-_, _/_, _^_, _<_, _≤_, max}
-use mathlib.Core.Bool.{Bool, true, false, cond, true≢false}
-use mathlib.Core.Path.{_≡_, refl, sym, ap, _∙_}
+use mathlib.Core.Bool.{Bool, true, false, cond, not, true≢false}
+use mathlib.Core.Path.{_≡_, refl, sym, ap, ap₂, subst, _∙_}
 use native.Mathlib.Nat.{mul-le-mul, div-eq-of-lt}
 use native.Mathlib.Omega.{arith}
-use borrow.Author.Tests.{ltb-true, ltb-false}
-use lib.Dec.{lit<, lit≤, ltb}
-use lib.IntN.{ℤ, pos, negsuc, natAbs, negℤ, _+ℤ_, _-ℤ_, _*ℤ_}
-use lib.Signed.{quotZ, ltZ}
+use native.Mathlib.Decide.{decLe}
+use borrow.Author.Tests.{ltb-true}
+use lib.Dec.{T, lit<, lit≤, ltb, le→leb}
+use lib.IntN.{ℤ, pos, negsuc, natAbs, negℤ, _+ℤ_, _-ℤ_, _*ℤ_, +ℤ-assoc}
+use lib.Signed.{quotZ, shrZ, ltZ, ltZ-no}
 use Rattle.arith.specs.inner.Rounding.{roundedUp, roundedUpZ}
 use Rattle.arith.specs.inner.Sizes.{Small}
+use Rattle.arith.proofs.Integers.{_≼_}
+use Rattle.arith.proofs.IntegerOmega.{D, D-eq, D-pos, D-neg, nat-le, zs, all₃}
 use Rattle.arith.proofs.Sizes.{small-weaken, small-pos, small-add, small-sub, small-mul}
 use Rattle.springs.specs.Equations.{closedSpring}
 use Rattle.statics.specs.Posts.{postSpacing}
-use Rattle.statics.specs.inner.WholeNumbers.{rackingPad, rackingFigure, postPad, notBelow, postFigure}
+use Rattle.statics.specs.inner.WholeNumbers.{postPad, notBelow, postFigure}
 use Rattle.statics.specs.declared.PostParts.{PostParts}
-use Rattle.figures_posts.specs.inner.Posts.{greaterOf, leeOf, windwardOf}
-use Rattle.figures_posts.proofs.Words.{not-below, small-quot}
+use Rattle.figures_posts.specs.inner.Posts.{greaterOf, lesserOf, leeOf, windwardOf}
+use Rattle.figures_posts.proofs.Shifts.{shifted-small}
+use Rattle.arith.proofs.SignedWords.{small-quot}
 
 -- a racking
 module _ {k u l : ℕ} (hk : k ≤ closedSpring) (hu : u ≤ 2 ^ 40) (hl : l ≤ 2 ^ 40) where
@@ -26,33 +30,8 @@ module _ {k u l : ℕ} (hk : k ≤ closedSpring) (hu : u ≤ 2 ^ 40) (hl : l ≤
   pub difference : Small (closedSpring * 2 ^ 41) (pos (k * u) -ℤ pos (k * l))
   difference = small-weaken (small-sub (small-pos (spring-le .0)) (small-pos (spring-le .1))) (lit≤ tt)
 
-  pub racking-small : Small (2 ^ 45) (quotZ (pos (k * u) -ℤ pos (k * l)) (pos 1024))
-  racking-small = small-quot 1024 difference (omega (arith, difference .size))
-
--- its figure
-module _ {z : ℤ} (s : Small (2 ^ 45) z) where
-  pub size-small : Small (2 ^ 45) (pos (natAbs z))
-  size-small = small-pos (s .size)
-
-  pub size-padded : Small (2 ^ 46) (pos (natAbs z) +ℤ pos rackingPad)
-  size-padded = small-weaken (small-add size-small (small-pos {b = rackingPad} (lit≤ tt))) (lit≤ tt)
-
-  pub newtons-small : Small (2 ^ 30) (pos (roundedUp (natAbs z + rackingPad) (2 ^ 18)))
-  newtons-small = small-pos (omega (arith, s .size))
-
-pub newtons-of : (z : ℤ) → roundedUpZ (pos (natAbs z) +ℤ pos rackingPad) (2 ^ 18) ≡ pos (roundedUp (natAbs z + rackingPad) (2 ^ 18))
-unfolding roundedUpZ
-newtons-of z = refl
-
-pub figure-below : (z : ℤ) → ltZ z (pos 0) ≡ true → negℤ (pos (roundedUp (natAbs z + rackingPad) (2 ^ 18))) ≡ rackingFigure z
-unfolding rackingFigure
-figure-below (pos n) e = absurd (not-below n e)
-figure-below (negsuc n) e = refl
-
-pub figure-from : (z : ℤ) → ltZ z (pos 0) ≡ false → pos (roundedUp (natAbs z + rackingPad) (2 ^ 18)) ≡ rackingFigure z
-unfolding rackingFigure
-figure-from (pos n) e = refl
-figure-from (negsuc n) e = absurd (true≢false e)
+  pub racking-small : Small (2 ^ 45) (shrZ (pos (k * u) -ℤ pos (k * l)) 1024)
+  racking-small = shifted-small (pos (k * u) -ℤ pos (k * l)) difference
 
 -- a moment, and what it adds to a post
 module _ {height : ℕ} {part : ℤ} (hh : height ≤ 2896) (hp : Small (2 ^ 45) part) where
@@ -65,26 +44,35 @@ module _ {height : ℕ} {part : ℤ} (hh : height ≤ 2896) (hp : Small (2 ^ 45)
 pub lean-small : {z : ℤ} → Small (2 ^ 61) z → Small (2 ^ 50) (quotZ z (pos postSpacing))
 lean-small s = small-quot postSpacing s (omega (arith, s .size))
 
--- the sum of a post, and with its pad
-module _ {weight : ℕ} {lean : ℤ} (hw : weight ≤ 2 ^ 40) (hl : Small (2 ^ 50) lean) where
-  pub leaned : Small (2 ^ 51) (pos weight +ℤ lean)
-  leaned = small-weaken (small-add (small-pos hw) hl) (lit≤ tt)
+-- the sum of a post but for the weight; with weight and pad
+pub post-small : {couple : ℤ} {vertical : ℕ} → Small (2 ^ 50) couple → vertical ≤ 2 ^ 62 → Small (5 * 2 ^ 60) (couple +ℤ pos vertical)
+post-small hc hv = small-weaken (small-add hc (small-pos hv)) (lit≤ tt)
 
-  pub post-small : {vertical : ℕ} → vertical ≤ 2 ^ 62 → Small (3 * 2 ^ 61) (pos weight +ℤ lean +ℤ pos vertical)
-  post-small hv = small-weaken (small-add leaned (small-pos hv)) (lit≤ tt)
+pub unweighed : {weight : ℕ} → weight ≤ 2 ^ 40 → Small (2 ^ 41) (pos postPad -ℤ pos weight)
+unweighed hw = small-weaken (small-sub (small-pos {b = postPad} (lit≤ tt)) (small-pos hw)) (lit≤ tt)
 
-pub padded : {z : ℤ} → Small (3 * 2 ^ 61) z → Small (3 * 2 ^ 61 + postPad) (z +ℤ pos postPad)
-padded s = small-add s (small-pos {b = postPad} (lit≤ tt))
+module _ {weight : ℕ} {z : ℤ} (hw : weight ≤ 2 ^ 40) (s : Small (5 * 2 ^ 60) z) where
+  pub weighed : Small (6 * 2 ^ 60) (z +ℤ pos weight)
+  weighed = small-weaken (small-add s (small-pos hw)) (lit≤ tt)
 
--- the greater of two signed numbers
-greater-by : {b : ℕ} {x y : ℤ} (less : Bool) → Small b x → Small b y → Small b (cond less y x)
-greater-by true s t = t
-greater-by false s t = s
+  pub pressed-small : Small (7 * 2 ^ 60) (z +ℤ pos weight +ℤ pos postPad)
+  pressed-small = small-weaken (small-add weighed (small-pos {b = postPad} (lit≤ tt))) (lit≤ tt)
+
+  pub lifted-small : Small (7 * 2 ^ 60) (pos postPad -ℤ pos weight -ℤ z)
+  lifted-small = small-weaken (small-sub (unweighed hw) s) (lit≤ tt)
+
+-- the greater and the lesser of two signed numbers
+either-small : {b : ℕ} {x y : ℤ} (second : Bool) → Small b x → Small b y → Small b (cond second y x)
+either-small true s t = t
+either-small false s t = s
 
 pub greater-small : {b : ℕ} {x y : ℤ} → Small b x → Small b y → Small b (greaterOf x y)
-greater-small {x = x} {y = y} s t = greater-by (ltZ x y) s t
+greater-small {x = x} {y = y} s t = either-small (ltZ x y) s t
 
--- the figure of a post: the greater sum may be cut off before it is padded and rounded up or after that
+pub lesser-small : {b : ℕ} {x y : ℤ} → Small b x → Small b y → Small b (lesserOf x y)
+lesser-small {x = x} {y = y} s t = either-small (ltZ y x) s t
+
+-- the figure of a post: what is rounded up may be cut off at 0 before that or after it
 no-size : (n : ℕ) → notBelow (negℤ (pos n)) ≡ 0
 no-size zero = refl
 no-size (suc n) = refl
@@ -94,48 +82,86 @@ unfolding roundedUpZ
 cut-off (pos n) d h = refl
 cut-off (negsuc n) d h = no-size (suc n / d) ∙ sym (div-eq-of-lt (omega arith))
 
-cut-by : (a p : ℕ) (less : Bool) → notBelow (cond less (negsuc (suc a - suc p)) (pos (p - suc a))) ≡ cond less 0 (p - suc a)
-cut-by a p true = refl
-cut-by a p false = refl
+-- and the greater sum is cut off as both are
+D-below : (p n : ℕ) → notBelow (D p n) ≡ p - n
+D-below p n = go (decLe n p)
+  where
+    go : Dec (n ≤ p) → notBelow (D p n) ≡ p - n
+    go (yes h) = ap notBelow (D-eq p n (p - n) 0 .1 (omega arith) ∙ sym (D-pos (p - n)))
+    go (no h) =
+        ap notBelow (D-eq p n 0 (n - p) .1 (omega arith) ∙ sym (D-neg (n - p) 0) ∙ ap negℤ (sym (D-pos (n - p))))
+        ∙ no-size (n - p)
+        ∙ omega arith
 
-none-by : (a p : ℕ) (less : Bool) → ltb p (suc a) ≡ less → cond less 0 (p - suc a) ≡ p - suc a
-none-by a p true e = omega (arith, ltb-true p (suc a) e)
-none-by a p false e = refl
+added : (x y q : ℤ) → x ≼ y → notBelow (x +ℤ q) ≤ notBelow (y +ℤ q)
+added = all₃ _ λ p n q m r s. simp (zs, D-below) (λ h. omega (arith, h))
 
-pad-below : (a p : ℕ) → notBelow (negsuc a +ℤ pos p) ≡ p - suc a
-pad-below a p = cut-by a p (ltb p (suc a)) ∙ none-by a p (ltb p (suc a)) refl
+taken : (x y q : ℤ) → x ≼ y → notBelow (q -ℤ y) ≤ notBelow (q -ℤ x)
+taken = all₃ _ λ p n q m r s. simp (zs, D-below) (λ h. omega (arith, h))
 
-module _ (a b p : ℕ) where
-  above-by : (less : Bool) → ltb a b ≡ less → notBelow (cond less (pos b) (pos a) +ℤ pos p) ≡ max (a + p) (b + p)
-  above-by true e = omega (arith, ltb-true a b e)
-  above-by false e = omega (arith, ltb-false a b e)
+less : (x y : ℤ) → ltZ x y ≡ true → x ≼ y
+less (pos a) (pos b) e = nat-le a b (omega (arith, ltb-true a b e))
+less (pos a) (negsuc b) e = absurd (true≢false (sym e))
+less (negsuc a) (pos b) e = record { le = tt }
+less (negsuc a) (negsuc b) e = record { le = le→leb b a (omega (arith, ltb-true b a e)) }
 
-  below-by : (less : Bool) → ltb b a ≡ less → notBelow (cond less (negsuc b) (negsuc a) +ℤ pos p) ≡ max (p - suc a) (p - suc b)
-  below-by true e = rw (pad-below b p) (omega (arith, ltb-true b a e))
-  below-by false e = rw (pad-below a p) (omega (arith, ltb-false b a e))
+not-less : (x y : ℤ) → ltZ x y ≡ false → y ≼ x
+not-less x y e = ltZ-no {a = x} {b = y} (subst (λ c. T (not c)) (sym e) tt)
 
-greater-padded : (x y : ℤ) (p : ℕ) → notBelow (greaterOf x y +ℤ pos p) ≡ max (notBelow (x +ℤ pos p)) (notBelow (y +ℤ pos p))
-greater-padded (pos a) (pos b) p = above-by a b p (ltb a b) refl
-greater-padded (pos a) (negsuc b) p = rw (pad-below b p) (omega arith)
-greater-padded (negsuc a) (pos b) p = rw (pad-below a p) (omega arith)
-greater-padded (negsuc a) (negsuc b) p = rw (pad-below a p, pad-below b p) (below-by a b p (ltb b a) refl)
+greater-cut : (x y q : ℤ) → notBelow (greaterOf x y +ℤ q) ≡ max (notBelow (x +ℤ q)) (notBelow (y +ℤ q))
+greater-cut x y q = go (ltZ x y) refl
+  where
+    go : (second : Bool) → ltZ x y ≡ second → notBelow (cond second y x +ℤ q) ≡ max (notBelow (x +ℤ q)) (notBelow (y +ℤ q))
+    go true e = omega (arith, added x y q (less x y e))
+    go false e = omega (arith, added y x q (not-less x y e))
 
-pub post-rounded : (x y : ℤ) → notBelow (roundedUpZ (greaterOf x y +ℤ pos postPad) (2 ^ 18)) ≡ postFigure x y
-unfolding postFigure
-post-rounded x y =
-    cut-off (greaterOf x y +ℤ pos postPad) (2 ^ 18) (lit< tt)
-    ∙ ap (λ (n : ℕ). roundedUp n (2 ^ 18)) (greater-padded x y postPad)
+lesser-cut : (x y q : ℤ) → notBelow (q -ℤ lesserOf x y) ≡ max (notBelow (q -ℤ x)) (notBelow (q -ℤ y))
+lesser-cut x y q = go (ltZ y x) refl
+  where
+    go : (second : Bool) → ltZ y x ≡ second → notBelow (q -ℤ cond second y x) ≡ max (notBelow (q -ℤ x)) (notBelow (q -ℤ y))
+    go true e = omega (arith, taken y x q (less y x e))
+    go false e = omega (arith, taken x y q (not-less y x e))
 
--- from 0 on there is nothing to cut off
-pub pressed-rounded :
-    (x y : ℤ) →
-    greaterOf x y ≡ pos (natAbs (greaterOf x y)) →
-    roundedUpZ (greaterOf x y +ℤ pos postPad) (2 ^ 18) ≡ pos (postFigure x y)
-unfolding roundedUpZ
-pressed-rounded x y e =
-    let z : roundedUpZ (greaterOf x y +ℤ pos postPad) (2 ^ 18) ≡ pos (roundedUp (natAbs (greaterOf x y) + postPad) (2 ^ 18)) =
-    ap (λ (g : ℤ). roundedUpZ (g +ℤ pos postPad) (2 ^ 18)) e in
-    z ∙ ap pos (sym (ap notBelow z) ∙ post-rounded x y)
+-- the sum of a post with weight and pad, and with its sign reversed
+summed : (x w p : ℤ) → x +ℤ (w +ℤ p) ≡ w +ℤ x +ℤ p
+summed = all₃ _ λ p n q m r s. simp zs (omega arith)
+
+reversed : (x w p : ℤ) → p -ℤ w -ℤ x ≡ negℤ (w +ℤ x) +ℤ p
+reversed = all₃ _ λ p n q m r s. simp zs (omega arith)
+
+module _ (weight : ℕ) (x y : ℤ) where
+  greater-sum : notBelow (roundedUpZ (greaterOf x y +ℤ pos weight +ℤ pos postPad) (2 ^ 18)) ≡ postFigure (pos weight +ℤ x) (pos weight +ℤ y)
+  unfolding postFigure
+  greater-sum =
+      let w = pos weight in
+      let p = pos postPad in
+      cut-off (greaterOf x y +ℤ w +ℤ p) (2 ^ 18) (lit< tt)
+      ∙ ap (λ (n : ℕ). roundedUp n (2 ^ 18))
+      (ap notBelow (+ℤ-assoc (greaterOf x y) w p)
+      ∙ greater-cut x y (w +ℤ p)
+      ∙ ap₂ (λ (a b : ℤ). max (notBelow a) (notBelow b)) (summed x w p) (summed y w p))
+
+  pub lifted-rounded :
+      notBelow (roundedUpZ (pos postPad -ℤ pos weight -ℤ lesserOf x y) (2 ^ 18))
+      ≡ postFigure (negℤ (pos weight +ℤ x)) (negℤ (pos weight +ℤ y))
+  unfolding postFigure
+  lifted-rounded =
+      let w = pos weight in
+      let p = pos postPad in
+      cut-off (p -ℤ w -ℤ lesserOf x y) (2 ^ 18) (lit< tt)
+      ∙ ap (λ (n : ℕ). roundedUp n (2 ^ 18))
+      (lesser-cut x y (p -ℤ w) ∙ ap₂ (λ (a b : ℤ). max (notBelow a) (notBelow b)) (reversed x w p) (reversed y w p))
+
+  -- from 0 on there is nothing to cut off
+  pub pressed-rounded :
+      greaterOf x y ≡ pos (natAbs (greaterOf x y)) →
+      roundedUpZ (greaterOf x y +ℤ pos weight +ℤ pos postPad) (2 ^ 18) ≡ pos (postFigure (pos weight +ℤ x) (pos weight +ℤ y))
+  unfolding roundedUpZ
+  pressed-rounded e =
+      let z : roundedUpZ (greaterOf x y +ℤ pos weight +ℤ pos postPad) (2 ^ 18)
+      ≡ pos (roundedUp (natAbs (greaterOf x y) + weight + postPad) (2 ^ 18)) =
+      ap (λ (g : ℤ). roundedUpZ (g +ℤ pos weight +ℤ pos postPad) (2 ^ 18)) e in
+      z ∙ ap pos (sym (ap notBelow z) ∙ greater-sum)
 
 -- of the two posts of a level the moment presses one down
 either : (k m : ℕ) (less : Bool) → cond less (pos m) (pos k) ≡ pos (natAbs (cond less (pos m) (pos k)))
@@ -151,8 +177,16 @@ second-pressed (pos m) k = either m k (ltb m k)
 second-pressed (negsuc m) k = refl
 
 pub one-pressed :
-    (weight : ℕ) (couple : ℤ) (parts : PostParts) →
-    greaterOf (leeOf weight couple parts) (windwardOf weight couple parts)
-    ≡ pos (natAbs (greaterOf (leeOf weight couple parts) (windwardOf weight couple parts)))
-one-pressed weight (pos n) parts = first-pressed (weight + n + parts .lee) (windwardOf weight (pos n) parts)
-one-pressed weight (negsuc n) parts = second-pressed (leeOf weight (negsuc n) parts) (weight + suc n + parts .windward)
+    (couple : ℤ) (parts : PostParts) →
+    let greatest = greaterOf (couple +ℤ pos (parts .lee)) (negℤ couple +ℤ pos (parts .windward)) in
+    greatest ≡ pos (natAbs greatest)
+one-pressed (pos n) parts = first-pressed (n + parts .lee) (negℤ (pos n) +ℤ pos (parts .windward))
+one-pressed (negsuc n) parts = second-pressed (negsuc n +ℤ pos (parts .lee)) (suc n + parts .windward)
+
+-- the sums of the two posts with the weight
+module _ (weight : ℕ) (couple : ℤ) (parts : PostParts) where
+  pub lee-sum : pos weight +ℤ (couple +ℤ pos (parts .lee)) ≡ leeOf weight couple parts
+  lee-sum = sym (+ℤ-assoc (pos weight) couple (pos (parts .lee)))
+
+  pub windward-sum : pos weight +ℤ (negℤ couple +ℤ pos (parts .windward)) ≡ windwardOf weight couple parts
+  windward-sum = sym (+ℤ-assoc (pos weight) (negℤ couple) (pos (parts .windward)))

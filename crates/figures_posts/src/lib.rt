@@ -3,13 +3,13 @@
 ghost use mathlib.Core.Path.{_≡_};
 ghost use Prim.Native.Nat.{_+_, _*_, _/_, _≤_, _^_};
 ghost use lib.IntN.{pos, natAbs, negℤ, _+ℤ_, _-ℤ_, _*ℤ_};
-ghost use lib.Signed.{quotZ};
+ghost use lib.Signed.{quotZ, shrZ};
 ghost use Rattle.arith.specs.inner.Rounding.{roundedUpZ};
 ghost use Rattle.arith.specs.inner.Sizes.{Small};
 ghost use Rattle.springs.specs.Equations.{closedSpring};
 ghost use Rattle.statics.specs.Posts.{postSpacing};
-ghost use Rattle.statics.specs.inner.WholeNumbers.{rackingFigure, postPad, postFigure, notBelow};
-ghost use Rattle.figures_posts.specs.inner.Posts.{greaterOf, leeOf, windwardOf, word};
+ghost use Rattle.statics.specs.inner.WholeNumbers.{rackingFigure, postFigure, notBelow};
+ghost use Rattle.figures_posts.specs.inner.Posts.{outwardOf, greaterOf, lesserOf, leeOf, windwardOf, word};
 use statics::PostParts;
 
 // What a racking and a post sum may lack: 0.06 N and 3.41 N.
@@ -20,12 +20,12 @@ const POST_PAD: i64 = 893912;
 // Post spacing, mm (CR Table 2-2).
 const POST_SPACING: i64 = 2259;
 
-// The racking of a tier of spring k, from the shifts of its upper and its lower level.
+// The racking of a tier of spring k, from the shifts of its upper and its lower level, rounded down.
 pub fn racking_part(k: u64, upper: u64, lower: u64) -> i64
     requires { ⌜ (k ≤ closedSpring) × (upper ≤ 2 ^ 40) × (lower ≤ 2 ^ 40) ⌝ }
-    ensures { λ r. ⌜ (r ≡ quotZ (pos (k * upper) -ℤ pos (k * lower)) (pos 1024)) × Small (2 ^ 45) r ⌝ }
+    ensures { λ r. ⌜ (r ≡ shrZ (pos (k * upper) -ℤ pos (k * lower)) 1024) × Small (2 ^ 45) r ⌝ }
 {
-    ((k * upper) as i64 - (k * lower) as i64) / 1024
+    ((k * upper) as i64 - (k * lower) as i64) >> 10
 }
 
 fn negative(x: i64) -> i64
@@ -33,17 +33,6 @@ fn negative(x: i64) -> i64
     ensures { λ r. ⌜ r ≡ negℤ x ⌝ }
 {
     -x
-}
-
-// The size of a signed number: its value without the sign.
-fn size(x: i64) -> i64
-    requires { ⌜ Small (3 * 2 ^ 61) x ⌝ }
-    ensures { λ r. ⌜ r ≡ pos (natAbs x) ⌝ }
-{
-    if x < 0 {
-        return negative(x);
-    }
-    x
 }
 
 // A force in 2^-18 N, in N upwards: a newton less one step is added, then a shift rounds down. It takes fewer steps than a division.
@@ -54,16 +43,22 @@ fn newtons_up(m: i64) -> i64
     (m + 262143) >> 18
 }
 
+// What pads a racking, and rounds it away from zero once a shift rounds it down.
+fn outward(part: i64) -> i64
+    ensures { λ r. ⌜ (r ≡ outwardOf part) × Small (2 ^ 19) r ⌝ }
+{
+    if part < 0 {
+        return 0 - RACKING_PAD;
+    }
+    RACKING_PAD + 262143
+}
+
 // The figure of a racking: its padded size, in N upwards, with the sign kept.
 pub fn racking_figure(part: i64) -> i32
     requires { ⌜ Small (2 ^ 45) part ⌝ }
     ensures { λ r. ⌜ r ≡ rackingFigure part ⌝ }
 {
-    let newtons = newtons_up(size(part) + RACKING_PAD) as i32;
-    if part < 0 {
-        return -newtons;
-    }
-    newtons
+    ((part + outward(part)) >> 18) as i32
 }
 
 // A signed number, cut off at 0.
@@ -85,28 +80,30 @@ fn greater(x: i64, y: i64) -> i64
     x
 }
 
-// The greater of two sums of a post, padded, in N upwards.
-fn greater_newtons(x: i64, y: i64) -> i64
-    requires { ⌜ Small (3 * 2 ^ 61) x × Small (3 * 2 ^ 61) y ⌝ }
-    ensures { λ r. ⌜ r ≡ roundedUpZ (greaterOf x y +ℤ pos postPad) (2 ^ 18) ⌝ }
+fn lesser(x: i64, y: i64) -> i64
+    ensures { λ r. ⌜ r ≡ lesserOf x y ⌝ }
 {
-    newtons_up(greater(x, y) + POST_PAD)
+    if y < x {
+        return y;
+    }
+    x
 }
 
-// The figure of a post, cut off at 0.
-fn post_figure(x: i64, y: i64) -> u64
-    requires { ⌜ Small (3 * 2 ^ 61) x × Small (3 * 2 ^ 61) y ⌝ }
-    ensures { λ r. ⌜ r ≡ postFigure x y ⌝ }
+// The compression of the post that is pressed more, padded, in N upwards: x and y are the sums of the two posts but for the weight, and
+// one of them is not below 0, so that there is nothing to cut off.
+fn pressed_figure(weight: u64, x: i64, y: i64) -> u64
+    requires { ⌜ (weight ≤ 2 ^ 40) × Small (5 * 2 ^ 60) x × Small (5 * 2 ^ 60) y × (greaterOf x y ≡ pos (natAbs (greaterOf x y))) ⌝ }
+    ensures { λ r. ⌜ r ≡ postFigure (pos weight +ℤ x) (pos weight +ℤ y) ⌝ }
 {
-    not_below(greater_newtons(x, y))
+    newtons_up(greater(x, y) + (weight as i64) + POST_PAD) as u64
 }
 
-// The same of two sums of which one is not below 0: there is nothing to cut off.
-fn pressed_figure(x: i64, y: i64) -> u64
-    requires { ⌜ Small (3 * 2 ^ 61) x × Small (3 * 2 ^ 61) y × (greaterOf x y ≡ pos (natAbs (greaterOf x y))) ⌝ }
-    ensures { λ r. ⌜ r ≡ postFigure x y ⌝ }
+// The tension of the post that is pressed less, cut off at 0.
+fn lifted_figure(weight: u64, x: i64, y: i64) -> u64
+    requires { ⌜ (weight ≤ 2 ^ 40) × Small (5 * 2 ^ 60) x × Small (5 * 2 ^ 60) y ⌝ }
+    ensures { λ r. ⌜ r ≡ postFigure (negℤ (pos weight +ℤ x)) (negℤ (pos weight +ℤ y)) ⌝ }
 {
-    greater_newtons(x, y) as u64
+    not_below(newtons_up(POST_PAD - (weight as i64) - lesser(x, y)))
 }
 
 // A figure as a word of four bytes. The remainder changes no figure that a taken sheet leads to: it keeps the cast in range, so that no
@@ -117,12 +114,22 @@ fn word_of(figure: u64) -> u32
     (figure % 4294967296) as u32
 }
 
-// The sum of a post: half the weight above, what the moment adds, and the vertical parts.
-fn post_sum(weight: u64, couple: i64, vertical: u64) -> i64
-    requires { ⌜ (weight ≤ 2 ^ 40) × Small (2 ^ 50) couple × (vertical ≤ 2 ^ 62) ⌝ }
-    ensures { λ r. ⌜ (r ≡ pos weight +ℤ couple +ℤ pos vertical) × Small (3 * 2 ^ 61) r ⌝ }
+// The sums of the two posts of a level but for the weight above: what the moment adds, and the vertical parts.
+struct PostSums {
+    lee: i64,
+    windward: i64,
+}
+
+// The moment presses the lee post, and lifts the windward one.
+fn post_sums(couple: i64, parts: PostParts) -> PostSums
+    requires { ⌜ Small (2 ^ 50) couple × (parts .lee ≤ 2 ^ 62) × (parts .windward ≤ 2 ^ 62) ⌝ }
+    ensures { λ r. ⌜ (r .lee ≡ couple +ℤ pos (parts .lee)) × Small (5 * 2 ^ 60) (r .lee) ⌝ }
+    ensures { λ r. ⌜ (r .windward ≡ negℤ couple +ℤ pos (parts .windward)) × Small (5 * 2 ^ 60) (r .windward) ⌝ }
 {
-    (weight as i64) + couple + (vertical as i64)
+    PostSums {
+        lee: couple + (parts.lee as i64),
+        windward: negative(couple) + (parts.windward as i64),
+    }
 }
 
 // Compression at a level, from half the weight above it, the moment over the post spacing, and the vertical parts on the posts. The moment
@@ -131,10 +138,8 @@ pub fn compression_of(weight: u64, couple: i64, parts: PostParts) -> u32
     requires { ⌜ (weight ≤ 2 ^ 40) × Small (2 ^ 50) couple × (parts .lee ≤ 2 ^ 62) × (parts .windward ≤ 2 ^ 62) ⌝ }
     ensures { λ r. ⌜ r ≡ word (postFigure (leeOf weight couple parts) (windwardOf weight couple parts)) ⌝ }
 {
-    word_of(pressed_figure(
-        post_sum(weight, couple, parts.lee),
-        post_sum(weight, negative(couple), parts.windward),
-    ))
+    let sums = post_sums(couple, parts);
+    word_of(pressed_figure(weight, sums.lee, sums.windward))
 }
 
 // Tension, from the same.
@@ -142,10 +147,8 @@ pub fn tension_of(weight: u64, couple: i64, parts: PostParts) -> u32
     requires { ⌜ (weight ≤ 2 ^ 40) × Small (2 ^ 50) couple × (parts .lee ≤ 2 ^ 62) × (parts .windward ≤ 2 ^ 62) ⌝ }
     ensures { λ r. ⌜ r ≡ word (postFigure (negℤ (leeOf weight couple parts)) (negℤ (windwardOf weight couple parts))) ⌝ }
 {
-    word_of(post_figure(
-        negative(post_sum(weight, couple, parts.lee)),
-        negative(post_sum(weight, negative(couple), parts.windward)),
-    ))
+    let sums = post_sums(couple, parts);
+    word_of(lifted_figure(weight, sums.lee, sums.windward))
 }
 
 // The moment at the level under a tier: the tier's own, and that at the level over it.

@@ -6,11 +6,12 @@ ghost use Prim.Native.Nat.{_+_, _*_, _<_, _≤_};
 ghost use Rattle.arith.specs.Lists.{below};
 ghost use Rattle.sheet.specs.Refusals.{first, headRows, tierRows, tiersRows, lashRows, endRows, doorRows};
 ghost use Rattle.sheet.specs.Refusals.{closedRows, endsRows, sheetRows};
+ghost use Rattle.sheet_limits.specs.inner.Ranks.{Least};
 use sheet::Reading;
 use sheet_limits::breaking_fits;
 use sheet_limits::lash_fits;
-use sheet_limits::later;
 use sheet_limits::off_tiers;
+use sheet_limits::rank;
 use sheet_limits::tier_fits;
 
 fn test_head(s: &[u8]) -> Reading
@@ -77,9 +78,9 @@ fn test_tiers(s: &[u8]) -> Reading
     test_each_tier(s, n as usize)
 }
 
-// Lash k of an end whose count stands at `at`, on a stack of n tiers.
-fn test_lash(n: u64, s: &[u8], at: usize, k: usize) -> Reading
-    requires { ⌜ (at < 10000) × (k < 8) ⌝ }
+// Lash k of an end whose count stands at `at`, on a stack of n tiers: `least` is the least rank that it may have.
+fn test_lash(n: u64, s: &[u8], at: usize, k: usize, least: u64) -> Reading
+    requires { ⌜ (at < 10000) × (k < 8) × Least (now s) at k least ⌝ }
     ensures { λ r. ⌜ r ≡ first (lashRows n (now (s .entry)) at k) ⌝ }
 {
     let place = at + 1 + 20 * k;
@@ -93,11 +94,8 @@ fn test_lash(n: u64, s: &[u8], at: usize, k: usize) -> Reading
     if off_tiers(n, l) {
         return Reading::Refused(11, place);
     }
-    if 0 < k {
-        let before = sheet_fields::lash_of(s, place - 20);
-        if !later(before, l) {
-            return Reading::Refused(12, place);
-        }
+    if rank(l) < least {
+        return Reading::Refused(12, place);
     }
     Reading::Taken
 }
@@ -107,10 +105,12 @@ fn test_each_lash(n: u64, s: &[u8], at: usize, count: usize) -> Reading
     ensures { λ r. ⌜ r ≡ first (flatMap (lashRows n (now (s .entry)) at) (below count)) ⌝ }
 {
     let mut k = 0;
+    let mut least = 0;
     while k < count {
-        if let Reading::Refused(number, second) = test_lash(n, s, at, k) {
+        if let Reading::Refused(number, second) = test_lash(n, s, at, k, least) {
             return Reading::Refused(number, second);
         }
+        least = rank(sheet_fields::lash_of(s, at + 1 + 20 * k)) + 1;
         k += 1;
     }
     Reading::Taken

@@ -1,2 +1,2 @@
--- What the functions' proofs rest on.
-mod Ranks
+-- What the tests of the order rest on.
+pub mod Ranks

@@ -1,14 +1,19 @@
 -- One comparison of the ranks of two lashes is the comparison by tier, then hook, then kind, where hooks and kinds are below 256.
-use mathlib.Core.Path.{_≡_, refl}
-use mathlib.Core.Bool.{Bool, true, false, _&&_, _||_}
-use Prim.Native.Nat.{ℕ, _+_, _*_, _<_}
+use mathlib.Core.Path.{_≡_, refl, sym, ap, subst, _∙_}
+use mathlib.Core.Bool.{Bool, true, false, not, _&&_, _||_}
+use mathlib.Core.List.{List}
+use Prim.Native.Nat.{ℕ, zero, suc, _+_, _*_, _<_}
+use native.Mathlib.Numerals.{add-one}
 use native.Mathlib.Omega.{arith}
 use borrow.Author.Tests.{ltb-true, ltb-false, eqb-true, eqb-false, lt-ltb, le-ltb}
 use lib.Dec.{ltb, eqb}
+use Rattle.sheet.specs.Layout.{lashIn}
+use Rattle.sheet.specs.Refusals.{later, notLater}
+use Rattle.sheet_limits.specs.inner.Ranks.{rank, leastRank, Least}
 
 -- of a lash's tier, hook and kind
-abbrev pub rank : ℕ → ℕ → ℕ → ℕ
-rank t h k = 65536 * t + 256 * h + k
+abbrev number : ℕ → ℕ → ℕ → ℕ
+number t h k = 65536 * t + 256 * h + k
 
 module _ (t h k t′ h′ k′ : ℕ) (p : h < 256) (q : k < 256) (p′ : h′ < 256) (q′ : k′ < 256) where
   by-tests :
@@ -18,16 +23,56 @@ module _ (t h k t′ h′ k′ : ℕ) (p : h < 256) (q : k < 256) (p′ : h′ <
       ltb h h′ ≡ hook →
       eqb h′ h ≡ same-hook →
       ltb k k′ ≡ kind →
-      ltb (rank t h k) (rank t′ h′ k′) ≡ tier || same-tier && (hook || same-hook && kind)
-  by-tests true _ _ _ _ a _ _ _ _ = lt-ltb (rank t h k) (rank t′ h′ k′) (omega (arith, ltb-true t t′ a))
-  by-tests false false _ _ _ a b _ _ _ = le-ltb (rank t h k) (rank t′ h′ k′) (omega (arith, ltb-false t t′ a, eqb-false t′ t b))
-  by-tests false true true _ _ _ b d _ _ = lt-ltb (rank t h k) (rank t′ h′ k′) (omega (arith, eqb-true t′ t b, ltb-true h h′ d))
+      ltb (number t h k) (number t′ h′ k′) ≡ tier || same-tier && (hook || same-hook && kind)
+  by-tests true _ _ _ _ a _ _ _ _ = lt-ltb (number t h k) (number t′ h′ k′) (omega (arith, ltb-true t t′ a))
+  by-tests false false _ _ _ a b _ _ _ = le-ltb (number t h k) (number t′ h′ k′) (omega (arith, ltb-false t t′ a, eqb-false t′ t b))
+  by-tests false true true _ _ _ b d _ _ = lt-ltb (number t h k) (number t′ h′ k′) (omega (arith, eqb-true t′ t b, ltb-true h h′ d))
   by-tests false true false false _ _ b d e _ =
-      le-ltb (rank t h k) (rank t′ h′ k′) (omega (arith, eqb-true t′ t b, ltb-false h h′ d, eqb-false h′ h e))
+      le-ltb (number t h k) (number t′ h′ k′) (omega (arith, eqb-true t′ t b, ltb-false h h′ d, eqb-false h′ h e))
   by-tests false true false true true _ b _ e f =
-      lt-ltb (rank t h k) (rank t′ h′ k′) (omega (arith, eqb-true t′ t b, eqb-true h′ h e, ltb-true k k′ f))
+      lt-ltb (number t h k) (number t′ h′ k′) (omega (arith, eqb-true t′ t b, eqb-true h′ h e, ltb-true k k′ f))
   by-tests false true false true false _ b _ e f =
-      le-ltb (rank t h k) (rank t′ h′ k′) (omega (arith, eqb-true t′ t b, eqb-true h′ h e, ltb-false k k′ f))
+      le-ltb (number t h k) (number t′ h′ k′) (omega (arith, eqb-true t′ t b, eqb-true h′ h e, ltb-false k k′ f))
 
-  pub ranks : ltb (rank t h k) (rank t′ h′ k′) ≡ ltb t t′ || eqb t′ t && (ltb h h′ || eqb h′ h && ltb k k′)
+  ranks : ltb (number t h k) (number t′ h′ k′) ≡ ltb t t′ || eqb t′ t && (ltb h h′ || eqb h′ h && ltb k k′)
   ranks = by-tests _ _ _ _ _ refl refl refl refl refl
+
+-- the last row of a lash is one comparison of its rank
+not-less : (x y : ℕ) → not (ltb x y) ≡ ltb y (x + 1)
+not-less x y = go (ltb x y) refl
+  where
+    go : (less : Bool) → ltb x y ≡ less → not less ≡ ltb y (x + 1)
+    go true e = sym (le-ltb y (x + 1) (omega (arith, ltb-true x y e)))
+    go false e = sym (lt-ltb y (x + 1) (omega (arith, ltb-false x y e)))
+
+module _ (s : List ℕ) (at : ℕ) where
+  pub not-later-rank :
+      (k least : ℕ) →
+      Least s at k least →
+      (lashIn s at k .hook < 256) × (lashIn s at k .kind < 256) →
+      notLater s at k ≡ ltb (rank (lashIn s at k)) least
+  unfolding notLater later
+  not-later-rank zero least l b = rw (l .is) (sym (le-ltb (rank (lashIn s at 0)) 0 (omega arith)))
+  not-later-rank (suc k) least l b =
+      let before = lashIn s at k in
+      let own = lashIn s at (suc k) in
+      let c = l .bytes k refl in
+      rw (l .is)
+      (ap not
+      (sym (ranks (before .tier) (before .hook) (before .kind) (own .tier) (own .hook) (own .kind) (c .0) (c .1) (b .0) (b .1)))
+      ∙ not-less (rank before) (rank own))
+
+  pub least-first : Least s at 0 0
+  least-first = record { is = refl; bytes = λ j e. absurd (none j e) }
+    where
+      none : (j : ℕ) → 0 ≡ suc j → ⊥
+      none j e = omega (arith, e)
+
+  pub least-next : (k : ℕ) → (lashIn s at k .hook < 256) × (lashIn s at k .kind < 256) → Least s at (k + 1) (rank (lashIn s at k) + 1)
+  least-next k b = record { is = ap (leastRank s at) (sym (add-one k)); bytes = λ j e. subst Bytes (same j e) b }
+    where
+      Bytes : ℕ → Type 0
+      Bytes j = (lashIn s at j .hook < 256) × (lashIn s at j .kind < 256)
+
+      same : (j : ℕ) → k + 1 ≡ suc j → k ≡ j
+      same j e = omega (arith, e)

@@ -1,9 +1,10 @@
-// Document 01, "Limits": whether the fields of a tier or a lash lie within them, a lash is on the stack, and two lashes are in order.
+// Document 01, "Limits": whether the fields of a tier or a lash lie within them, a lash is on the stack, and its place in the order of lashes.
 
 ghost use mathlib.Core.Path.{_≡_};
-ghost use Prim.Native.Nat.{_+_, _*_};
+ghost use Prim.Native.Nat.{_<_};
 ghost use Rattle.sheet.specs.Layout.{tierFits, lashFits, breakingFits};
-ghost use Rattle.sheet.specs.Refusals.{offTiers, later};
+ghost use Rattle.sheet.specs.Refusals.{offTiers};
+ghost use Rattle.sheet_limits.specs.inner.Ranks.{rank};
 use sheet::Lash;
 use sheet::Tier;
 
@@ -48,15 +49,8 @@ pub fn off_tiers(n: u64, l: Lash) -> bool
 }
 
 // A lash's place in the order, by tier, then hook, then kind, as one number: no branch on which of them decides.
-fn rank(l: Lash) -> u64
-    ensures { λ r. ⌜ r ≡ 65536 * l .tier + 256 * l .hook + l .kind ⌝ }
+pub fn rank(l: Lash) -> u64
+    ensures { λ r. ⌜ (r ≡ rank l) × (r < 16777216) × (l .hook < 256) × (l .kind < 256) ⌝ }
 {
     65536 * (l.tier as u64) + 256 * (l.hook as u64) + (l.kind as u64)
-}
-
-// Whether b comes later than a, by tier, then hook, then kind.
-pub fn later(a: Lash, b: Lash) -> bool
-    ensures { λ r. ⌜ r ≡ later a b ⌝ }
-{
-    rank(a) < rank(b)
 }

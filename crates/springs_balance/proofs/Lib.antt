@@ -1,2 +1,3 @@
--- Laws of the loop.
+-- Laws of the forces and of the loop.
+pub mod Forces
 pub mod Loops

@@ -24,7 +24,7 @@ use Rattle.springs.proofs.Chain.{natℚ}
 use Rattle.statics.specs.inner.WholeNumbers.{rackingPart, rackingPad, rackingFigure}
 use Rattle.statics.specs.Reported.{Reported, Directed}
 use Rattle.statics.proofs.Errors.{turn-le, Off, off-abs, off-neg, off-more, off-trans}
-use Rattle.statics.proofs.Scales.{found-times, newtons, newtons-nn, newtons-neg, quot-off}
+use Rattle.statics.proofs.Scales.{found-times, newtons, newtons-nn, newtons-neg, shift-off}
 use Rattle.statics.proofs.Pads.{forceBound, roundedRackingError, racking-room, racking-pad, racking-over}
 use Rattle.statics.proofs.Covers.{covers-reported, back-reported, padded-covers}
 
@@ -61,7 +61,7 @@ module _ (K : ℕ) (d : List ℕ) (i : ℕ) where
 
   pub racking-off : (R : ℚ) → absℚ (forceFound -ℚ R) ≤ℚ forceBound → Off roundedRackingError (newtons (rackingPart K d i)) R
   unfolding rackingPart whole
-  racking-off R h = off-more racking-room (off-trans (rw (← force-is) at (quot-off 1024 (lit≤ tt) whole)) (off-abs h))
+  racking-off R h = off-more racking-room (off-trans (rw (← force-is) at (shift-off 1024 (lit≤ tt) whole)) (off-abs h))
 
 -- the figure's size, which is never 0
 padded : ℕ → ℕ

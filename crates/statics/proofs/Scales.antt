@@ -1,22 +1,23 @@
 -- Whole numbers at the check's scales, shifts in 2^-28 mm and forces in 2^-18 N, beside fractions: what a rounded quotient loses.
 use mathlib.Core.Path.{_≡_, sym, ap, subst, _∙_}
 use mathlib.Core.List.{List}
-use Prim.Native.Nat.{ℕ, suc, _*_, _/_, _^_, _≤_, _<_}
+use Prim.Native.Nat.{ℕ, suc, _+_, _*_, _/_, _^_, _≤_, _<_}
 use native.Mathlib.Omega.{arith}
 use native.Mathlib.Nat.{mul-comm}
 use lib.Dec.{lit≤}
 use lib.IntN.{ℤ, pos, negsuc, negℤ, _+ℤ_, _*ℤ_}
 use lib.ListN.{getD}
-use lib.Signed.{quotZ}
+use lib.Signed.{quotZ, shrZ}
 use Rattle.arith.specs.Fractions.{nat}
 use Rattle.arith.proofs.Rings.{∀₂, ∀₃, ∀₄, by-ring, by-cert, to, _⊞_, _⊠_}
-use Rattle.arith.proofs.Integers.{_≼_}
+use Rattle.arith.proofs.Integers.{ℤR, _≼_}
+use Rattle.arith.proofs.IntegerTerms.{zq}
 use Rattle.arith.proofs.Rationals.{ℚR, ℚ, mk, int, _+ℚ_, _*ℚ_, _/ℚ_, recipℚ, negℚ, _≤ℚ_, <→≤, recip-times, recip-nn, int-plus, int-times}
 use Rattle.arith.proofs.Rationals.{nn-int, nn-times}
 use Rattle.arith.proofs.RationalTerms.{qq, q-int-neg}
 use Rattle.arith.proofs.Signs.{div-eq, le-int}
 use Rattle.arith.proofs.RationalOrder.{above-0, unit, unit-times, nat-q, div-le}
-use Rattle.arith.proofs.RationalRounding.{div-down, down-le, down-lt}
+use Rattle.arith.proofs.RationalRounding.{Down, div-down, down-le, down-lt}
 use Rattle.arith.proofs.FractionsInRationals.{mk-int}
 use Rattle.springs.specs.inner.Promise.{found}
 use Rattle.springs.proofs.Chain.{natℚ}
@@ -88,16 +89,15 @@ newtons-le a b h = go (int a) (int b) per per-nn (le-int a b h)
 pub nothing-off : {e : ℚ} → natℚ 0 ≤ℚ e → Off e (newtons (pos 0)) (mk (nat 0))
 nothing-off h = rw (newtons-zero, mk-int (pos 0)) (off-zero h)
 
--- quotients towards zero
+-- quotients rounded down, and towards zero
 module _ (c : ℕ) (c0 : 0 < c) where
-  floor-off : (n : ℕ) → Off (newtons (pos 1)) (newtons (pos (n / c))) (newtons (pos n) /ℚ natℚ c)
+  down-off : {z r : ℤ} → Down z (pos c) r → Off (newtons (pos 1)) (newtons r) (newtons z /ℚ natℚ c)
   unfolding per
-  floor-off n =
-      let q = natℚ (n / c) in
-      let r = recipℚ (natℚ c) in
+  down-off {z} {r} d =
+      let q = recipℚ (natℚ c) in
       record {
-        above = high (natℚ n) r q per per-nn (down-le (above-0 c c0) (div-down n c c0));
-        below = low (natℚ n) r q per per-nn (<→≤ (down-lt (above-0 c c0) (div-down n c c0)));
+        above = high (int z) q (int r) per per-nn (down-le (above-0 c c0) d);
+        below = low (int z) q (int r) per per-nn (<→≤ (down-lt (above-0 c c0) d));
       }
     where
       high : (n r q h : ℚ) → natℚ 0 ≤ℚ h → q ≤ℚ n *ℚ r → q *ℚ h ≤ℚ n *ℚ h *ℚ r +ℚ natℚ 1 *ℚ h
@@ -106,11 +106,35 @@ module _ (c : ℕ) (c0 : 0 < c) where
       low : (n r q h : ℚ) → natℚ 0 ≤ℚ h → n *ℚ r ≤ℚ q +ℚ natℚ 1 → n *ℚ h *ℚ r ≤ℚ q *ℚ h +ℚ natℚ 1 *ℚ h
       low = ∀₄ ℚR _ λ ρ. simp qq λ h0 l. by-cert (to h0 ⊠ to l) tt
 
+  shift-down : (z : ℤ) → Down z (pos c) (shrZ z c)
+  shift-down (pos n) = div-down n c c0
+  shift-down (negsuc n) =
+      let d = div-down n c c0 in
+      rw (before n, before (n / c))
+      record {
+        low = low (pos n) (pos c) (pos (n / c)) (d .high);
+        high = high (pos n) (pos c) (pos (n / c)) (d .low);
+      }
+    where
+      before : (m : ℕ) → negsuc m ≡ negℤ (pos m +ℤ pos 1)
+      before m =
+          let e : suc m ≡ m + 1 = omega arith in
+          ap (λ (k : ℕ). negℤ (pos k)) e
+
+      low : (n c q : ℤ) → n +ℤ pos 1 ≼ c *ℤ q +ℤ c → c *ℤ negℤ (q +ℤ pos 1) ≼ negℤ (n +ℤ pos 1)
+      low = ∀₃ ℤR _ λ ρ. simp zq λ h. by-cert (to h) tt
+
+      high : (n c q : ℤ) → c *ℤ q ≼ n → negℤ (n +ℤ pos 1) +ℤ pos 1 ≼ c *ℤ negℤ (q +ℤ pos 1) +ℤ c
+      high = ∀₃ ℤR _ λ ρ. simp zq λ h. by-cert (to h) tt
+
+  pub shift-off : (z : ℤ) → Off (newtons (pos 1)) (newtons (shrZ z c)) (newtons z /ℚ natℚ c)
+  shift-off z = down-off (shift-down z)
+
   pub quot-off : (z : ℤ) → Off (newtons (pos 1)) (newtons (quotZ z (pos c))) (newtons z /ℚ natℚ c)
-  quot-off (pos n) = floor-off n
+  quot-off (pos n) = down-off (div-down n c c0)
   quot-off (negsuc n) =
       rw (newtons-neg (pos (suc n / c)))
-      (subst (λ y. Off (newtons (pos 1)) (negℚ (newtons (pos (suc n / c)))) y) back (off-neg (floor-off (suc n))))
+      (subst (λ y. Off (newtons (pos 1)) (negℚ (newtons (pos (suc n / c)))) y) back (off-neg (down-off (div-down (suc n) c c0))))
     where
       turn : (x r : ℚ) → negℚ (x *ℚ r) ≡ negℚ x *ℚ r
       turn = ∀₂ ℚR _ λ ρ. simp qq (by-ring tt)

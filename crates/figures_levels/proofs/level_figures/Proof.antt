@@ -12,7 +12,7 @@ use Rattle.arith.proofs.Sizes.{small-pos, small-weaken}
 use Rattle.statics.specs.inner.WholeNumbers.{leeFound, windwardFound}
 use Rattle.statics.specs.inner.InArrays.{mostIn, leastIn}
 use Rattle.figures_levels.proofs.Descent.{FiguredFrom, at-top, turned-once, at-foot}
-use Rattle.figures_posts.proofs.Words.{held}
+use Rattle.arith.proofs.SignedWords.{held}
 use Rattle.figures_levels.proofs.level_figures.Statement.{statement}
 use Rattle.figures_levels.proofs.level_figures.Tie as tie
 

@@ -3,7 +3,7 @@ use mathlib.Core.Path.{refl}
 use lib.Dec.{lit<}
 use Rattle.arith.proofs.Sizes.{fits64}
 use Rattle.figures_posts.proofs.LevelLaws.{lean-small}
-use Rattle.figures_posts.proofs.Words.{held}
+use Rattle.arith.proofs.SignedWords.{held}
 use Rattle.figures_posts.proofs.couple_of.Statement.{statement}
 use Rattle.figures_posts.proofs.couple_of.Tie as tie
 

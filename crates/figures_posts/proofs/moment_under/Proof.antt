@@ -4,7 +4,7 @@ use native.Mathlib.Omega.{arith}
 use lib.Dec.{lit<}
 use Rattle.arith.proofs.Sizes.{divisor, fits64}
 use Rattle.figures_posts.proofs.LevelLaws.{tier-moment-small, moment-small}
-use Rattle.figures_posts.proofs.Words.{held}
+use Rattle.arith.proofs.SignedWords.{held}
 use borrow.Author.Needs.{needs}
 use Rattle.figures_posts.proofs.moment_under.Statement.{statement}
 use Rattle.figures_posts.proofs.moment_under.Tie as tie

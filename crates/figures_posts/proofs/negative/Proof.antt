@@ -1,7 +1,7 @@
 -- `figures_posts::negative`: no number of this size is the least of 64 bits.
 use lib.Dec.{lit<}
 use Rattle.arith.proofs.Sizes.{fits64, small-neg}
-use Rattle.figures_posts.proofs.Words.{held, minus}
+use Rattle.arith.proofs.SignedWords.{held, minus}
 use Rattle.figures_posts.proofs.negative.Statement.{statement}
 use Rattle.figures_posts.proofs.negative.Tie as tie
 

@@ -5,7 +5,7 @@ use native.Mathlib.Omega.{arith}
 use lib.Dec.{lit<, lit≤}
 use Rattle.arith.proofs.Sizes.{fits64, small-add, small-pos}
 use Rattle.figures_posts.proofs.Shifts.{shifted, rounded-small}
-use Rattle.figures_posts.proofs.Words.{held}
+use Rattle.arith.proofs.SignedWords.{held}
 use Rattle.figures_posts.proofs.newtons_up.Statement.{statement}
 use Rattle.figures_posts.proofs.newtons_up.Tie as tie
 

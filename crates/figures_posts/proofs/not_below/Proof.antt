@@ -1,5 +1,6 @@
 -- `figures_posts::not_below`: by the sign.
-use Rattle.figures_posts.proofs.Words.{from-pos, size-fits, below-none, from-all}
+use Rattle.arith.proofs.SignedWords.{from-pos, size-fits}
+use Rattle.figures_posts.proofs.Words.{below-none, from-all}
 use mir.Syntax.{w64}
 use mir.ValLaws.{toZ-ofZ}
 use Rattle.figures_posts.proofs.not_below.Statement.{statement}

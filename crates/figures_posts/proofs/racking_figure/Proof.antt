@@ -1,76 +1,63 @@
--- `figures_posts::racking_figure`: the padded size rounded up, with the racking's sign.
+-- `figures_posts::racking_figure`: with what `outward` adds, a shift rounds the padded size up (Shifts), and the sum is in range.
 use Prim.Native.Nat.{_+_, _^_}
-use mathlib.Core.Path.{_≡_, _∙_}
+use mathlib.Core.Path.{_≡_}
 use lib.Dec.{lit<, lit≤}
-use lib.IntN.{pos, natAbs}
-use mir.Syntax.{w32}
+use lib.IntN.{_+ℤ_}
+use lib.Signed.{shrZ}
+use mir.Syntax.{w32, w64}
+use mir.Val.{SFits, toZ, ofZ}
 use mir.ValLaws.{toZ-ofZ}
-use Rattle.arith.specs.inner.Rounding.{roundedUp}
-use Rattle.arith.proofs.Sizes.{fits32, fits64, small-weaken, small-neg}
-use Rattle.statics.specs.inner.WholeNumbers.{rackingPad}
-use Rattle.figures_posts.proofs.LevelLaws.{size-small, size-padded, newtons-small, newtons-of, figure-below, figure-from}
-use Rattle.figures_posts.proofs.Words.{held, minus}
+use Rattle.arith.specs.inner.Sizes.{Small}
+use Rattle.arith.proofs.Sizes.{fits32, fits64, small-add, small-weaken}
+use Rattle.statics.specs.inner.WholeNumbers.{rackingFigure}
+use Rattle.figures_posts.specs.inner.Posts.{outwardOf}
+use Rattle.figures_posts.proofs.Shifts.{racking-shifted, racking-figure-small}
+use Rattle.arith.proofs.SignedWords.{held}
 use borrow.Author.Needs.{needs}
 use Rattle.figures_posts.proofs.racking_figure.Statement.{statement}
 use Rattle.figures_posts.proofs.racking_figure.Tie as tie
 
--- the size, and in newtons
-sized : (c : tie.After-size) → c .size .result ≡ pos (natAbs (c .before .args .part))
-sized c = simp (held (c .before .pre) (lit< tt)) at (c .size .ensures)
+outward-requires : tie.Need-outward-requires
+outward-requires c κs = search needs
 
-newtons :
-    (c : tie.After-newtons-up) →
-    c .newtons-up .result ≡ pos (roundedUp (natAbs (c .before .before .args .part) + rackingPad) (2 ^ 18))
-newtons c =
-    let p = c .before .before .pre in
-    simp (sized (c .before), held (size-small p) (lit< tt), held (size-padded p) (lit< tt)) at (c .newtons-up .ensures .0)
-    ∙ newtons-of (c .before .before .args .part)
+-- what is added, and the sum
+added : (c : tie.After-outward) → c .outward .result ≡ outwardOf (c .before .args .part)
+added c = simp (held (c .before .pre) (lit< tt)) at (c .outward .ensures .0)
 
-size-requires : tie.Need-size-requires
-size-requires c κs = rw (held (c .pre) (lit< tt)) (small-weaken (c .pre) (lit≤ tt))
+added-small : (c : tie.After-outward) → Small (2 ^ 19) (outwardOf (c .before .args .part))
+added-small c = rw (← added c) (c .outward .ensures .1)
 
-add-newtons-up : tie.Need-add-newtons-up
-add-newtons-up c =
-    let p = c .before .pre in
-    rw (sized c, held (size-small p) (lit< tt)) (fits64 (size-padded p) (lit< tt))
+sum-small : (c : tie.After-outward) → let z = c .before .args .part in Small (2 ^ 46) (z +ℤ outwardOf z)
+sum-small c = small-weaken (small-add (c .before .pre) (added-small c)) (lit≤ tt)
 
-newtons-up-requires : tie.Need-newtons-up-requires
-newtons-up-requires c κs =
-    let p = c .before .pre in
-    rw (sized c, held (size-small p) (lit< tt), held (size-padded p) (lit< tt)) (small-weaken (size-padded p) (lit≤ tt))
+add-result : tie.Need-add-result
+add-result c =
+    simp (held (c .before .pre) (lit< tt), added c, held (added-small c) (lit< tt)) (fits64 (sum-small c) (lit< tt))
 
-cast-newtons : tie.Need-cast-newtons
-cast-newtons c =
-    let n = newtons-small (c .before .before .pre) in
-    rw (newtons c, held n (lit< tt)) (fits32 n (lit< tt))
+-- what the shift leaves is the figure, and fits its words
+figure :
+    (c : tie.After-outward) →
+    let z = c .before .args .part in
+    toZ w64 (ofZ w64 (shrZ (toZ w64 (ofZ w64 (toZ w64 (ofZ w64 z) +ℤ toZ w64 (ofZ w64 (c .outward .result))))) 262144)) ≡ rackingFigure z
+figure c =
+    let z = c .before .args .part in
+    simp (
+      held (c .before .pre) (lit< tt),
+      added c,
+      held (added-small c) (lit< tt),
+      held (sum-small c) (lit< tt),
+      racking-shifted z,
+      held (racking-figure-small z (c .before .pre)) (lit< tt),
+    )
 
-sub-result : tie.Need-sub-result
-sub-result c =
-    let n = newtons-small (c .before .before .before .pre) in
-    simp (newtons (c .before), held n (lit< tt), toZ-ofZ w32 _ (fits32 n (lit< tt)), minus) (fits32 (small-neg n) (lit< tt))
+fits : (c : tie.After-outward) → SFits w32 (rackingFigure (c .before .args .part))
+fits c = fits32 (racking-figure-small (c .before .args .part) (c .before .pre)) (lit< tt)
+
+cast-result : tie.Need-cast-result
+cast-result c = rw (figure c) (fits c)
 
 returns : tie.Need-returns
-returns c =
-    let b = c .before .before .before in
-    let n = newtons-small (b .pre) in
-    simp (newtons (c .before), held n (lit< tt), toZ-ofZ w32 _ (fits32 n (lit< tt)), minus, toZ-ofZ w32 _ (fits32 (small-neg n) (lit< tt)))
-    (figure-below (b .args .part) (simp (held (b .pre) (lit< tt)) at (c .if1 .taken)))
-
-returns-2 : tie.Need-returns-2
-returns-2 c =
-    let b = c .before .before .before in
-    let n = newtons-small (b .pre) in
-    simp (newtons (c .before), held n (lit< tt), toZ-ofZ w32 _ (fits32 n (lit< tt)))
-    (figure-from (b .args .part) (simp (held (b .pre) (lit< tt)) at (c .if1 .left)))
+returns c = rw (figure c, toZ-ofZ w32 (rackingFigure (c .before .args .part)) (fits c))
 
 pub racking-figure-spec : {M : Type 1} → statement M
-racking-figure-spec =
-    tie.close
-    (tie.spec
-    size-requires
-    add-newtons-up
-    newtons-up-requires
-    cast-newtons
-    sub-result
-    returns
-    returns-2)
+racking-figure-spec = tie.close (tie.spec outward-requires add-result cast-result returns)

@@ -1,5 +1,5 @@
--- `figures_posts::racking_part`: both products, their difference and its quotient stay within 64 bits.
-use Rattle.figures_posts.proofs.Words.{held}
+-- `figures_posts::racking_part`: both products, their difference and what a shift leaves of it stay within 64 bits.
+use Rattle.arith.proofs.SignedWords.{held}
 use Prim.Native.Nat.{_*_}
 use mathlib.Core.Path.{refl}
 use native.Mathlib.Omega.{arith}
@@ -27,14 +27,6 @@ sub-result c =
     rw (divisor (c .args .k * c .args .upper) (omega arith), divisor (c .args .k * c .args .lower) (omega arith))
     (fits64 (difference (c .pre .0) (c .pre .1) (c .pre .2)) (lit< tt))
 
-div-result : tie.Need-div-result
-div-result c =
-    let a = c .args in
-    let b = spring-le (c .pre .0) (c .pre .1) (c .pre .2) in
-    let h = held (difference (c .pre .0) (c .pre .1) (c .pre .2)) (lit< tt) in
-    simp (divisor (a .k * a .upper) (omega arith), divisor (a .k * a .lower) (omega arith), h)
-    (lit< tt, fits64 (racking-small (c .pre .0) (c .pre .1) (c .pre .2)) (lit< tt))
-
 returns : tie.Need-returns
 returns c =
     let a = c .args in
@@ -51,4 +43,4 @@ returns c =
 pub racking-part-spec : {M : Type 1} → statement M
 racking-part-spec =
     tie.close
-    (tie.spec mul-result cast-result mul-result-2 cast-result-2 sub-result div-result returns)
+    (tie.spec mul-result cast-result mul-result-2 cast-result-2 sub-result returns)

@@ -3,7 +3,7 @@ use mathlib.Core.Path.{refl}
 use native.Mathlib.Omega.{arith}
 use lib.Dec.{lit<}
 use Rattle.statics.specs.inner.WholeNumbers.{leeFound, windwardFound}
-use Rattle.figures_posts.proofs.Words.{held}
+use Rattle.arith.proofs.SignedWords.{held}
 use borrow.Author.Needs.{needs}
 use Rattle.figures_under.proofs.level_under.Statement.{statement}
 use Rattle.figures_under.proofs.level_under.Tie as tie

@@ -23,8 +23,11 @@ unfoldable pub pushed : ℕ → List ℕ → List ℕ → List ℕ → ℕ → �
 pushed n k ω d i = getD k i 0 * getD d i 0 + springAt n k (suc i) * getD d (suc (suc i)) 0 + getD ω i 0
 
 -- what a level of shift d may be out of balance by: 0.00494 N less what the rounding of its lashes' stiffness may add
+abbrev pub allowed : ℕ
+allowed = 1326000
+
 unfoldable pub slackAt : ℕ → ℕ
-slackAt d = 1326000 - d / 2 ^ 20
+slackAt d = allowed - d / 2 ^ 20
 
 abbrev pub alike : ℕ → ℕ → ℕ → Bool
 alike x y slack = leb x (y + slack) && leb y (x + slack)

@@ -8,7 +8,7 @@ use Prim.Native.Nat.{ℕ, suc, _+_, _*_, _-_, _/_, _%_, _^_, _<_, _≤_, max}
 use lib.Dec.{eqb}
 use lib.ListN.{drop, getD, length}
 use lib.IntN.{ℤ, pos, negsuc, negℤ, _+ℤ_, _-ℤ_, _*ℤ_}
-use lib.Signed.{quotZ}
+use lib.Signed.{quotZ, shrZ}
 use Rattle.arith.specs.inner.Rounding.{roundedUp}
 use Rattle.sheet.specs.Layout.{exposed}
 use Rattle.sheet.specs.declared.Tier.{Tier}
@@ -96,9 +96,9 @@ pullFigure d l = figureAlong (part d l + lashPad) (lashLength l) (l .ly)
 unfoldable pub verticalFigure : List ℕ → Lash → ℕ
 verticalFigure d l = figureAlong (part d l + lashPad) (l .lz) (l .ly)
 
--- the racking of tier i, and its figure: padded by 0.06 N, in N upwards, with the sign kept
+-- the racking of tier i, rounded down, and its figure: padded by 0.06 N, in N upwards, with the sign kept
 unfoldable pub rackingPart : ℕ → List ℕ → ℕ → ℤ
-rackingPart K d i = quotZ (pos (K * getD d (suc i) 0) -ℤ pos (K * getD d i 0)) (pos 1024)
+rackingPart K d i = shrZ (pos (K * getD d (suc i) 0) -ℤ pos (K * getD d i 0)) 1024
 
 abbrev pub rackingPad : ℕ
 rackingPad = 15729

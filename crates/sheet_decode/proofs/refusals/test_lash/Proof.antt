@@ -1,13 +1,14 @@
 -- `sheet_decode::refusals::test_lash`: a lash: 1, 10, 11, 12. Each return follows from the rows that passed before it.
-use mathlib.Core.Bool.{not}
+use Prim.Native.Nat.{ℕ}
 use mathlib.Core.List.{List}
-use mathlib.Core.Path.{_≡_, sym, _∙_}
+use mathlib.Core.Path.{_≡_, sym, ap, _∙_}
+use lib.Dec.{ltb}
 use lib.ListN.{drop}
 use borrow.Author.Needs.{needs}
 use borrow.Author.Tests.{lt-ltb, le-ltb}
 use Rattle.sheet.specs.Refusals.{Row, first, lashRows, notLater}
-use Rattle.sheet.proofs.Items.{not-later-first, not-later-next}
 use Rattle.sheet.proofs.Rows.{no-rows, row-holds, row-passed}
+use Rattle.sheet_limits.proofs.Ranks.{not-later-rank}
 use Rattle.sheet_decode.proofs.refusals.test_lash.Statement.{statement}
 use Rattle.sheet_decode.proofs.refusals.test_lash.Tie as tie
 
@@ -36,17 +37,16 @@ on e =
     let o = e .before in
     fits (o .before) ∙ row-passed _ _ (simp (← lash o .lash-of .ensures, ← o .off-tiers .ensures, e .if3 .left))
 
--- the last row's test, where there is a lash before this one
-abbrev passed : tie.After-later → tie.Else3
-passed w = w .before .before .before
-
-is-later :
-    (w : tie.After-later) →
-    let a = begun (lash (passed w .before)) .args in
-    notLater (a .s .now) (a .at) (a .k) ≡ not (w .later .result)
-is-later w =
-    not-later-next _ _ _ (w .before .before .if4 .taken)
-    ∙ simp (← lash (passed w .before) .lash-of .ensures, ← w .before .lash-of2 .ensures, ← w .later .ensures)
+-- the last row's test
+ranked :
+    (w : tie.After-rank) →
+    let a = begun (lash (w .before .before)) .args in
+    notLater (a .s .now) (a .at) (a .k) ≡ ltb (w .rank .result) (a .least)
+ranked w =
+    let l = lash (w .before .before) in
+    let a = begun l .args in
+    let r = rw (l .lash-of .ensures) at (w .rank .ensures) in
+    not-later-rank (a .s .now) (a .at) (a .k) (a .least) (begun l .pre .2) (r .2, r .3) ∙ ap (λ (x : ℕ). ltb x (a .least)) (sym (r .0))
 
 add-place : tie.Need-add-place
 add-place c = search needs
@@ -82,23 +82,14 @@ returns-3 c =
     let o = c .before in
     sym (fits (o .before) ∙ row-holds _ _ (simp (← lash o .lash-of .ensures, ← o .off-tiers .ensures, c .if3 .taken)))
 
-sub-lash-of : tie.Need-sub-lash-of
-sub-lash-of c = search needs
-
-lash-of-requires-2 : tie.Need-lash-of-requires-2
-lash-of-requires-2 c κs = search needs
-
-later-requires : tie.Need-later-requires
-later-requires c κs = search needs
+rank-requires : tie.Need-rank-requires
+rank-requires c κs = search needs
 
 returns-4 : tie.Need-returns-4
-returns-4 c = sym (on (passed (c .before)) ∙ row-holds _ _ (is-later (c .before) ∙ c .if5 .taken))
+returns-4 c = sym (on (c .before .before) ∙ row-holds _ _ (ranked (c .before) ∙ lt-ltb _ _ (c .if4 .taken)))
 
 returns-5 : tie.Need-returns-5
-returns-5 c = sym (on (passed (c .before)) ∙ row-passed _ _ (is-later (c .before) ∙ c .if5 .left) ∙ no-rows)
-
-returns-6 : tie.Need-returns-6
-returns-6 c = sym (on (c .before) ∙ row-passed _ _ (not-later-first _ _ _ (c .if4 .left)) ∙ no-rows)
+returns-5 c = sym (on (c .before .before) ∙ row-passed _ _ (ranked (c .before) ∙ le-ltb _ _ (c .if4 .left)) ∙ no-rows)
 
 pub test-lash-spec : {M : Type 1} → statement M
 test-lash-spec =
@@ -114,9 +105,6 @@ test-lash-spec =
     returns-2
     off-tiers-requires
     returns-3
-    sub-lash-of
-    lash-of-requires-2
-    later-requires
+    rank-requires
     returns-4
-    returns-5
-    returns-6)
+    returns-5)
