@@ -87,6 +87,10 @@ D-abs p n = go (decLe n p)
 
 pub ruleset zs = (D-add, D-neg, D-mul, D-pos, D-negsuc, D-le, D-eq, D-abs)
 
+pub distance : (x y : ℕ) → natAbs (pos x -ℤ pos y) ≡ x - y + (y - x)
+unfolding D
+distance x y = D-abs x y
+
 up : ℤ → ℕ
 up (pos n) = n
 up (negsuc n) = 0

@@ -1,10 +1,14 @@
 -- The order of ℤ: laws, the two cases, the absolute value.
 use mathlib.Core.Path.{_≡_, refl, sym, ap, subst, _∙_}
 use mathlib.Core.Logic.{_⊎_, inl, inr}
+use mathlib.Core.Bool.{true, false, not, true≢false}
 use Prim.Native.Nat.{ℕ, zero, suc, _+_, _*_}
 use native.Mathlib.Numerals.{add-one}
+use native.Mathlib.Omega.{arith}
+use borrow.Author.Tests.{ltb-true}
+use lib.Dec.{T, le→leb}
 use lib.IntN.{ℤ, pos, negsuc, negℤ, natAbs, _+ℤ_, _-ℤ_, _*ℤ_, negℤ-+ℤ}
-use lib.Signed.{≤ℤ-refl}
+use lib.Signed.{ltZ, ltZ-no, ≤ℤ-refl}
 use Rattle.arith.proofs.Polynomials.{kn}
 use Rattle.arith.proofs.Rings.{∀₂, ∀₃, ∀₄, by-cert, to, times, _⊞_, _⊠_}
 use Rattle.arith.proofs.Integers.{ℤR, _≼_, nn-pos, of-nn}
@@ -46,6 +50,16 @@ total a b = go (split a b)
     go : (a +ℤ pos 1 ≼ b) ⊎ (b ≼ a) → (a ≼ b) ⊎ (b ≼ a)
     go (inl h) = inl (less a b h)
     go (inr h) = inr h
+
+-- by the test of two signed numbers
+pub tested-less : (x y : ℤ) → ltZ x y ≡ true → x ≼ y
+tested-less (pos a) (pos b) e = record { le = le→leb a b (omega (arith, ltb-true a b e)) }
+tested-less (pos a) (negsuc b) e = absurd (true≢false (sym e))
+tested-less (negsuc a) (pos b) e = record { le = tt }
+tested-less (negsuc a) (negsuc b) e = record { le = le→leb b a (omega (arith, ltb-true b a e)) }
+
+pub tested-not-less : (x y : ℤ) → ltZ x y ≡ false → y ≼ x
+tested-not-less x y e = ltZ-no {a = x} {b = y} (subst (λ c. T (not c)) (sym e) tt)
 
 -- the absolute value
 abbrev pub abs : ℤ → ℤ

@@ -31,9 +31,9 @@ use Rattle.end_verdict.specs.inner.NoneOver.{noneFound}
 use Rattle.end_verdict.proofs.NoneFound.{none-found}
 use Rattle.gear.specs.Gear.{withLashes}
 use Rattle.chosen_lashes.specs.declared.Chosen.{Chosen}
-use Rattle.chosen_lashes.specs.inner.Gathered.{Held, heldIn, heldOf, lashesHeld}
+use Rattle.chosen_lashes.specs.inner.Gathered.{Held, heldIn, heldOf}
 use Rattle.chosen_lashes.proofs.Picked.{levels-long}
-use Rattle.chosen_lashes.proofs.Held.{held-measured, held-levels}
+use Rattle.chosen_lashes.proofs.Held.{lashesHeld, held-measured, held-levels}
 use Rattle.arrangements_judge.specs.inner.Judged.{lashesIn, EndGiven, noFinding, StackGiven, acceptedWith}
 
 -- an end that is given: its shifts can be solved

@@ -16,7 +16,8 @@ use Rattle.choices.specs.Choices.{chosen, choices, those}
 use Rattle.choices.proofs.AmongEight.{among-eight}
 use Rattle.choices.proofs.Once.{all-once}
 use Rattle.chosen_lashes.specs.declared.Chosen.{Chosen}
-use Rattle.chosen_lashes.specs.inner.Gathered.{heldIn, heldOf, lashesHeld}
+use Rattle.chosen_lashes.specs.inner.Gathered.{heldIn, heldOf}
+use Rattle.chosen_lashes.proofs.Held.{lashesHeld}
 use Rattle.arrangements_judge.specs.inner.Judged.{lashesIn, acceptedWith}
 use Rattle.arrangements_list.specs.inner.Listing.{acceptedChoices}
 

@@ -5,7 +5,7 @@ use mathlib.Core.Path.{_≡_, refl, sym, subst, _∙_}
 use native.Mathlib.Decide.{decLt}
 use native.Mathlib.Omega.{arith}
 use borrow.Author.Tests.{ne-eqb}
-use lib.ListN.{length, getD, replicate, length-append, length-replicate, List·getD-append, List·getD-eq-default}
+use lib.ListN.{length, getD, take, replicate, length-append, length-replicate, List·getD-append, List·getD-eq-default}
 use lib.Seq.{getD-append-add}
 use Rattle.arith.specs.Lists.{padded}
 use Rattle.sheet.specs.declared.Lash.{Lash}
@@ -17,7 +17,11 @@ use Rattle.statics.specs.inner.WholeNumbers.{Filled, stiffnessOf, levelStiffnes
 use Rattle.statics.specs.inner.Computed.{stiffnessesOf}
 use Rattle.statics.proofs.Arrays.{blank-entry}
 use Rattle.figures_lashes.specs.inner.Lashes.{LashesMeasured, LevelStiffnesses}
+use Rattle.chosen_lashes.specs.inner.Gathered.{Held}
 use Rattle.chosen_lashes.proofs.Picked.{length-map, levels-long, level-entry}
+
+abbrev pub lashesHeld : Held → List Lash
+lashesHeld h = take (h .count) (h .lashes)
 
 entry-of : (f : Lash → ℕ) (ls : List Lash) (j : ℕ) → j < length ls → getD (map f ls) j 0 ≡ f (getD ls j blankLash)
 entry-of f [] j h = absurd (omega arith)

@@ -1,20 +1,22 @@
 -- Rackings, moments and sums of the posts: their sizes, and the figure of a post by the greater and the lesser sum.
 use Prim.Native.Nat.{ℕ, zero, suc, _+_, _*_, _-_, _/_, _^_, _<_, _≤_, max}
-use mathlib.Core.Bool.{Bool, true, false, cond, not, true≢false}
-use mathlib.Core.Path.{_≡_, refl, sym, ap, ap₂, subst, _∙_}
-use native.Mathlib.Nat.{mul-le-mul, div-eq-of-lt}
+use mathlib.Core.Bool.{Bool, true, false, cond}
+use mathlib.Core.Path.{_≡_, refl, sym, ap, ap₂, _∙_}
+use native.Mathlib.Nat.{div-eq-of-lt}
 use native.Mathlib.Omega.{arith}
 use native.Mathlib.Decide.{decLe}
-use borrow.Author.Tests.{ltb-true}
-use lib.Dec.{T, lit<, lit≤, ltb, le→leb}
+use lib.Dec.{lit<, lit≤, ltb}
 use lib.IntN.{ℤ, pos, negsuc, natAbs, negℤ, _+ℤ_, _-ℤ_, _*ℤ_, +ℤ-assoc}
-use lib.Signed.{quotZ, shrZ, ltZ, ltZ-no}
+use lib.Signed.{quotZ, shrZ, ltZ}
 use Rattle.arith.specs.inner.Rounding.{roundedUp, roundedUpZ}
 use Rattle.arith.specs.inner.Sizes.{Small}
 use Rattle.arith.proofs.Integers.{_≼_}
-use Rattle.arith.proofs.IntegerOmega.{D, D-eq, D-pos, D-neg, nat-le, zs, all₃}
+use Rattle.arith.proofs.IntegerOrder.{tested-less, tested-not-less}
+use Rattle.arith.proofs.IntegerOmega.{D, D-eq, D-pos, D-neg, zs, all₃}
 use Rattle.arith.proofs.Sizes.{small-weaken, small-pos, small-add, small-sub, small-mul}
 use Rattle.springs.specs.Equations.{closedSpring}
+use Rattle.springs.specs.inner.Promise.{farthest}
+use Rattle.springs.proofs.Ranges.{force-small}
 use Rattle.statics.specs.Posts.{postSpacing}
 use Rattle.statics.specs.inner.WholeNumbers.{postPad, notBelow, postFigure}
 use Rattle.statics.specs.declared.PostParts.{PostParts}
@@ -23,15 +25,9 @@ use Rattle.figures_posts.proofs.Shifts.{shifted-small}
 use Rattle.arith.proofs.SignedWords.{small-quot}
 
 -- a racking
-module _ {k u l : ℕ} (hk : k ≤ closedSpring) (hu : u ≤ 2 ^ 40) (hl : l ≤ 2 ^ 40) where
-  pub spring-le : (k * u ≤ closedSpring * 2 ^ 40) × (k * l ≤ closedSpring * 2 ^ 40)
-  spring-le = (mul-le-mul hk hu, mul-le-mul hk hl)
-
-  pub difference : Small (closedSpring * 2 ^ 41) (pos (k * u) -ℤ pos (k * l))
-  difference = small-weaken (small-sub (small-pos (spring-le .0)) (small-pos (spring-le .1))) (lit≤ tt)
-
-  pub racking-small : Small (2 ^ 45) (shrZ (pos (k * u) -ℤ pos (k * l)) 1024)
-  racking-small = shifted-small (pos (k * u) -ℤ pos (k * l)) difference
+pub racking-small :
+    {k u l : ℕ} → k ≤ closedSpring → u ≤ farthest → l ≤ farthest → Small (2 ^ 45) (shrZ (pos (k * u) -ℤ pos (k * l)) 1024)
+racking-small {k} {u} {l} hk hu hl = shifted-small (pos (k * u) -ℤ pos (k * l)) (force-small hk hu hl)
 
 -- a moment, and what it adds to a post
 module _ {height : ℕ} {part : ℤ} (hh : height ≤ 2896) (hp : Small (2 ^ 45) part) where
@@ -99,28 +95,19 @@ added = all₃ _ λ p n q m r s. simp (zs, D-below) (λ h. omega (arith, h))
 taken : (x y q : ℤ) → x ≼ y → notBelow (q -ℤ y) ≤ notBelow (q -ℤ x)
 taken = all₃ _ λ p n q m r s. simp (zs, D-below) (λ h. omega (arith, h))
 
-less : (x y : ℤ) → ltZ x y ≡ true → x ≼ y
-less (pos a) (pos b) e = nat-le a b (omega (arith, ltb-true a b e))
-less (pos a) (negsuc b) e = absurd (true≢false (sym e))
-less (negsuc a) (pos b) e = record { le = tt }
-less (negsuc a) (negsuc b) e = record { le = le→leb b a (omega (arith, ltb-true b a e)) }
-
-not-less : (x y : ℤ) → ltZ x y ≡ false → y ≼ x
-not-less x y e = ltZ-no {a = x} {b = y} (subst (λ c. T (not c)) (sym e) tt)
-
 greater-cut : (x y q : ℤ) → notBelow (greaterOf x y +ℤ q) ≡ max (notBelow (x +ℤ q)) (notBelow (y +ℤ q))
 greater-cut x y q = go (ltZ x y) refl
   where
     go : (second : Bool) → ltZ x y ≡ second → notBelow (cond second y x +ℤ q) ≡ max (notBelow (x +ℤ q)) (notBelow (y +ℤ q))
-    go true e = omega (arith, added x y q (less x y e))
-    go false e = omega (arith, added y x q (not-less x y e))
+    go true e = omega (arith, added x y q (tested-less x y e))
+    go false e = omega (arith, added y x q (tested-not-less x y e))
 
 lesser-cut : (x y q : ℤ) → notBelow (q -ℤ lesserOf x y) ≡ max (notBelow (q -ℤ x)) (notBelow (q -ℤ y))
 lesser-cut x y q = go (ltZ y x) refl
   where
     go : (second : Bool) → ltZ y x ≡ second → notBelow (q -ℤ cond second y x) ≡ max (notBelow (q -ℤ x)) (notBelow (q -ℤ y))
-    go true e = omega (arith, taken y x q (less y x e))
-    go false e = omega (arith, taken x y q (not-less y x e))
+    go true e = omega (arith, taken y x q (tested-less y x e))
+    go false e = omega (arith, taken x y q (tested-not-less y x e))
 
 -- the sum of a post with weight and pad, and with its sign reversed
 summed : (x w p : ℤ) → x +ℤ (w +ℤ p) ≡ w +ℤ x +ℤ p

@@ -10,7 +10,7 @@ use lib.Signed.{shrZ}
 use Rattle.arith.specs.inner.Rounding.{roundedUp, roundedUpZ}
 use Rattle.arith.specs.inner.Sizes.{Small}
 use Rattle.arith.proofs.Sizes.{natAbs-neg}
-use Rattle.springs.specs.Equations.{closedSpring}
+use Rattle.springs.specs.inner.Balance.{mostForce}
 use Rattle.statics.specs.inner.WholeNumbers.{rackingPad, rackingFigure}
 use Rattle.figures_posts.specs.inner.Posts.{outwardOf}
 use Rattle.arith.proofs.SignedWords.{not-below}
@@ -60,6 +60,6 @@ racking-figure-small (negsuc n) s =
     record { size = rw (natAbs-neg (pos (roundedUp (suc n + rackingPad) 262144))) (omega (arith, s .size)) }
 
 -- the size of what is rounded down
-pub shifted-small : (z : ℤ) → Small (closedSpring * 2 ^ 41) z → Small (2 ^ 45) (shrZ z 1024)
+pub shifted-small : (z : ℤ) → Small (2 * mostForce) z → Small (2 ^ 45) (shrZ z 1024)
 shifted-small (pos n) s = record { size = omega (arith, s .size) }
 shifted-small (negsuc n) s = record { size = omega (arith, s .size) }

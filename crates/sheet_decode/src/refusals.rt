@@ -6,7 +6,7 @@ ghost use Prim.Native.Nat.{_+_, _*_, _<_, _≤_};
 ghost use Rattle.arith.specs.Lists.{below};
 ghost use Rattle.sheet.specs.Refusals.{first, headRows, tierRows, tiersRows, lashRows, endRows, doorRows};
 ghost use Rattle.sheet.specs.Refusals.{closedRows, endsRows, sheetRows};
-ghost use Rattle.sheet_limits.specs.inner.Ranks.{Least};
+ghost use Rattle.sheet_limits.specs.inner.Ranks.{leastRank};
 use sheet::Reading;
 use sheet_limits::breaking_fits;
 use sheet_limits::lash_fits;
@@ -80,7 +80,7 @@ fn test_tiers(s: &[u8]) -> Reading
 
 // Lash k of an end whose count stands at `at`, on a stack of n tiers: `least` is the least rank that it may have.
 fn test_lash(n: u64, s: &[u8], at: usize, k: usize, least: u64) -> Reading
-    requires { ⌜ (at < 10000) × (k < 8) × Least (now s) at k least ⌝ }
+    requires { ⌜ (at < 10000) × (k < 8) × (least ≡ leastRank (now s) at k) ⌝ }
     ensures { λ r. ⌜ r ≡ first (lashRows n (now (s .entry)) at k) ⌝ }
 {
     let place = at + 1 + 20 * k;

@@ -1,5 +1,5 @@
 -- One comparison of the ranks of two lashes is the comparison by tier, then hook, then kind, where hooks and kinds are below 256.
-use mathlib.Core.Path.{_≡_, refl, sym, ap, subst, _∙_}
+use mathlib.Core.Path.{_≡_, refl, sym, ap, _∙_}
 use mathlib.Core.Bool.{Bool, true, false, not, _&&_, _||_}
 use mathlib.Core.List.{List}
 use Prim.Native.Nat.{ℕ, zero, suc, _+_, _*_, _<_}
@@ -7,9 +7,10 @@ use native.Mathlib.Numerals.{add-one}
 use native.Mathlib.Omega.{arith}
 use borrow.Author.Tests.{ltb-true, ltb-false, eqb-true, eqb-false, lt-ltb, le-ltb}
 use lib.Dec.{ltb, eqb}
-use Rattle.sheet.specs.Layout.{lashIn}
+use lib.ListN.{getD}
+use Rattle.sheet.specs.Layout.{lashOf, lashPlace, lashIn}
 use Rattle.sheet.specs.Refusals.{later, notLater}
-use Rattle.sheet_limits.specs.inner.Ranks.{rank, leastRank, Least}
+use Rattle.sheet_limits.specs.inner.Ranks.{rank, leastRank}
 
 -- of a lash's tier, hook and kind
 abbrev number : ℕ → ℕ → ℕ → ℕ
@@ -45,34 +46,18 @@ not-less x y = go (ltb x y) refl
     go true e = sym (le-ltb y (x + 1) (omega (arith, ltb-true x y e)))
     go false e = sym (lt-ltb y (x + 1) (omega (arith, ltb-false x y e)))
 
-module _ (s : List ℕ) (at : ℕ) where
-  pub not-later-rank :
-      (k least : ℕ) →
-      Least s at k least →
-      (lashIn s at k .hook < 256) × (lashIn s at k .kind < 256) →
-      notLater s at k ≡ ltb (rank (lashIn s at k)) least
-  unfolding notLater later
-  not-later-rank zero least l b = rw (l .is) (sym (le-ltb (rank (lashIn s at 0)) 0 (omega arith)))
-  not-later-rank (suc k) least l b =
-      let before = lashIn s at k in
-      let own = lashIn s at (suc k) in
-      let c = l .bytes k refl in
-      rw (l .is)
-      (ap not
-      (sym (ranks (before .tier) (before .hook) (before .kind) (own .tier) (own .hook) (own .kind) (c .0) (c .1) (b .0) (b .1)))
-      ∙ not-less (rank before) (rank own))
+module _ (s : List ℕ) (bytes : (i : ℕ) → getD s i 0 < 256) where
+  pub not-later-rank : (at k : ℕ) → notLater s at k ≡ ltb (rank (lashIn s at k)) (leastRank s at k)
+  unfolding notLater later lashOf
+  not-later-rank at zero = sym (le-ltb (rank (lashIn s at 0)) 0 (omega arith))
+  not-later-rank at (suc k) =
+      let p = lashPlace at k in
+      let q = lashPlace at (suc k) in
+      ap not
+      (sym
+      (ranks (getD s p 0) (getD s (p + 1) 0) (getD s (p + 2) 0) (getD s q 0) (getD s (q + 1) 0) (getD s (q + 2) 0)
+      (bytes (p + 1)) (bytes (p + 2)) (bytes (q + 1)) (bytes (q + 2))))
+      ∙ not-less (rank (lashIn s at k)) (rank (lashIn s at (suc k)))
 
-  pub least-first : Least s at 0 0
-  least-first = record { is = refl; bytes = λ j e. absurd (none j e) }
-    where
-      none : (j : ℕ) → 0 ≡ suc j → ⊥
-      none j e = omega (arith, e)
-
-  pub least-next : (k : ℕ) → (lashIn s at k .hook < 256) × (lashIn s at k .kind < 256) → Least s at (k + 1) (rank (lashIn s at k) + 1)
-  least-next k b = record { is = ap (leastRank s at) (sym (add-one k)); bytes = λ j e. subst Bytes (same j e) b }
-    where
-      Bytes : ℕ → Type 0
-      Bytes j = (lashIn s at j .hook < 256) × (lashIn s at j .kind < 256)
-
-      same : (j : ℕ) → k + 1 ≡ suc j → k ≡ j
-      same j e = omega (arith, e)
+pub least-next : (s : List ℕ) (at k : ℕ) → rank (lashIn s at k) + 1 ≡ leastRank s at (k + 1)
+least-next s at k = ap (leastRank s at) (sym (add-one k))

@@ -50,7 +50,7 @@ pub fn off_tiers(n: u64, l: Lash) -> bool
 
 // A lash's place in the order, by tier, then hook, then kind, as one number: no branch on which of them decides.
 pub fn rank(l: Lash) -> u64
-    ensures { λ r. ⌜ (r ≡ rank l) × (r < 16777216) × (l .hook < 256) × (l .kind < 256) ⌝ }
+    ensures { λ r. ⌜ (r ≡ rank l) × (r < 16777216) ⌝ }
 {
     65536 * (l.tier as u64) + 256 * (l.hook as u64) + (l.kind as u64)
 }

@@ -6,15 +6,27 @@ use native.Mathlib.Nat.{div-add-mod', mul-le-mul, mul-le-mul-left, mul-le-mul-ri
 use native.Mathlib.Numerals.{add-one}
 use native.Mathlib.Omega.{arith}
 use native.Mathlib.Decide.{decLe}
+use lib.Dec.{lit≤}
+use lib.IntN.{pos, _-ℤ_}
 use lib.ListN.{getD}
+use Rattle.arith.specs.inner.Sizes.{Small}
+use Rattle.arith.proofs.Sizes.{small-weaken, small-pos, small-sub}
 use Rattle.springs.specs.Equations.{doorSpring, closedSpring}
 use Rattle.springs.specs.inner.Promise.{stiffnessScale, mostLoaded, farthest, Solvable}
+use Rattle.springs.specs.inner.Balance.{mostForce}
 use Rattle.springs.specs.inner.Elimination.{divisor, stiffnessDown, loadDown, shiftUp, InRange, mostLoadTogether}
 use Rattle.springs.proofs.Recursion.{x, y, d, stiffness-top, load-top, stiffness-step, load-step, shift-deck, shift-step}
 use Rattle.springs.proofs.Recursion.{shift-behind}
 
 pub quotient-le : (x c b : ℕ) → 0 < c → x ≤ b * c → x / c ≤ b
 quotient-le x c b p h = le-of-mul-le-mul-right (omega (arith, div-add-mod' x c)) p
+
+-- the force of a spring at shifts that are found, with its sign
+pub force-le : {k u : ℕ} → k ≤ closedSpring → u ≤ farthest → k * u ≤ mostForce
+force-le hk hu = mul-le-mul hk hu
+
+pub force-small : {k u l : ℕ} → k ≤ closedSpring → u ≤ farthest → l ≤ farthest → Small (2 * mostForce) (pos (k * u) -ℤ pos (k * l))
+force-small hk hu hl = small-weaken (small-sub (small-pos (mul-le-mul hk hu)) (small-pos (mul-le-mul hk hl))) (lit≤ tt)
 
 -- a spring with what it carries in line is no stiffer than the spring
 pub stiffness-le : (k κ x : ℕ) → 0 < k → stiffnessDown k κ x ≤ k * stiffnessScale

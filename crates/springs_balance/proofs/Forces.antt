@@ -1,8 +1,7 @@
--- The forces of springs, with their signs: their sizes, and the test of what is left of them, which is that of the definition.
-use mathlib.Core.Path.{_≡_, refl, ap, ap₂, _∙_}
+-- What is left of the forces on a level, with their signs: its size, and its test, which is that of the definition.
+use mathlib.Core.Path.{_≡_, refl, ap, _∙_}
 use mathlib.Core.Bool.{Bool, true, false, _&&_}
 use Prim.Native.Nat.{ℕ, _+_, _*_, _-_, _/_, _^_, _≤_}
-use native.Mathlib.Nat.{mul-le-mul}
 use native.Mathlib.Omega.{arith}
 use borrow.Author.Tests.{leb-true, leb-false}
 use lib.Dec.{leb, lit≤}
@@ -11,17 +10,10 @@ use Rattle.arith.specs.inner.Sizes.{Small}
 use Rattle.arith.proofs.Rings.{∀₆, by-ring}
 use Rattle.arith.proofs.Integers.{ℤR}
 use Rattle.arith.proofs.IntegerTerms.{zq}
-use Rattle.arith.proofs.IntegerOmega.{D, D-pos, D-abs, zs}
+use Rattle.arith.proofs.IntegerOmega.{distance}
 use Rattle.arith.proofs.Sizes.{small-weaken, small-pos, small-add, small-sub}
-use Rattle.springs.specs.Equations.{closedSpring}
 use Rattle.springs.specs.inner.Promise.{farthest, mostLoaded}
 use Rattle.springs.specs.inner.Balance.{allowed, slackAt, alike, mostForce}
-
-pub force-le : {k u : ℕ} → k ≤ closedSpring → u ≤ farthest → k * u ≤ mostForce
-force-le hk hu = mul-le-mul hk hu
-
-pub force-small : {k u l : ℕ} → k ≤ closedSpring → u ≤ farthest → l ≤ farthest → Small (2 * mostForce) (pos (k * u) -ℤ pos (k * l))
-force-small hk hu hl = small-weaken (small-sub (small-pos (mul-le-mul hk hu)) (small-pos (mul-le-mul hk hl))) (lit≤ tt)
 
 -- what is left of the forces on a level, step by step
 module _ {under over : ℤ} (su : Small (2 * mostForce) under) (so : Small (2 * mostForce) over) where
@@ -61,12 +53,6 @@ one-test x y e h = go (leb (x - y + (y - x) + e) allowed) (leb x (y + (allowed -
         ))
 
 -- what is left of forces: the spring under a level holds it with u - l, the one over it pushes it with a - b, h holds and w pushes it
-distance : (x y : ℕ) → natAbs (pos x -ℤ pos y) ≡ x - y + (y - x)
-distance x y = ap natAbs (ap₂ _-ℤ_ (D-pos x) (D-pos y) ∙ apart) ∙ D-abs x y
-  where
-    apart : D x 0 -ℤ D y 0 ≡ D x y
-    apart = simp zs (omega arith)
-
 gathered : (u l a b h w : ℤ) → u -ℤ l -ℤ (a -ℤ b) +ℤ h -ℤ w ≡ u +ℤ b +ℤ h -ℤ (l +ℤ a +ℤ w)
 gathered = ∀₆ ℤR _ λ ρ. simp zq (by-ring tt)
 

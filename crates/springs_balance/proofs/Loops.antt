@@ -14,7 +14,8 @@ use Rattle.springs.specs.Equations.{closedSpring}
 use Rattle.springs.specs.inner.Promise.{stiffnessScale, mostHeld, mostLoaded, farthest, Solvable}
 use Rattle.springs.specs.inner.Balance.{springAt, pulled, pushed, allowed, slackAt, alike, levelInBalance, inBalanceTo, inBalance, mostForce}
 use Rattle.springs.proofs.Balance.{spring-in, spring-top, not-true, not-false}
-use Rattle.springs_balance.proofs.Forces.{force-small, tested-left}
+use Rattle.springs.proofs.Ranges.{force-small}
+use Rattle.springs_balance.proofs.Forces.{tested-left}
 
 -- levels over i are in balance; over is the force of the spring over level i
 pub record Sofar (n : ℕ) (k κ ω d : List ℕ) (over : ℤ) (i : ℕ) : Type 0 where
@@ -106,7 +107,10 @@ module _
         at : (m x y : ℕ) → j ≡ suc m → x ≡ y → springAt n k (suc m) * getD d x 0 ≡ getD k j 0 * getD d y 0
         at m x y z e = ap₂ (λ (a b : ℕ). a * getD d b 0) (is-k m z) e
 
-        down : (m : ℕ) → j ≡ suc m → under k d i j ≡ pos (springAt n k (suc m) * getD d (suc (suc m)) 0) -ℤ pos (springAt n k (suc m) * getD d (suc m) 0)
+        down :
+            (m : ℕ) →
+            j ≡ suc m →
+            under k d i j ≡ pos (springAt n k (suc m) * getD d (suc (suc m)) 0) -ℤ pos (springAt n k (suc m) * getD d (suc m) 0)
         down m z =
             let two : suc (suc m) ≡ i = omega arith in
             sym (ap₂ (λ (x y : ℕ). pos x -ℤ pos y) (at m (suc (suc m)) i z two) (at m (suc m) j z (sym z)))

@@ -1,7 +1,7 @@
 -- Contracts of inner functions: the lashes of a choice in arrays, by name. Nothing here need be believed.
 use Prim.Native.Nat.{ℕ}
 use mathlib.Core.List.{List, map}
-use lib.ListN.{length, take}
+use lib.ListN.{length}
 use Rattle.arith.specs.Lists.{padded}
 use Rattle.sheet.specs.declared.Lash.{Lash}
 use Rattle.sheet.specs.Layout.{blankLash}
@@ -22,9 +22,6 @@ pub record Held : Type 0 where
 abbrev pub heldIn : Chosen → List ℕ → List ℕ → List ℕ → Held
 heldIn g lengths stiffnesses levels =
     record { lashes = g .lashes; lengths = lengths; stiffnesses = stiffnesses; levels = levels; count = g .count }
-
-abbrev pub lashesHeld : Held → List Lash
-lashesHeld h = take (h .count) (h .lashes)
 
 abbrev pub heldOf : List Lash → Held
 heldOf ls =

@@ -5,37 +5,40 @@ use mathlib.Core.Path.{refl}
 use native.Mathlib.Omega.{arith}
 use lib.Dec.{lit<}
 use Rattle.arith.proofs.Sizes.{divisor, fits64}
-use Rattle.figures_posts.proofs.LevelLaws.{spring-le, difference, racking-small}
+use Rattle.springs.proofs.Ranges.{force-le, force-small}
+use Rattle.figures_posts.proofs.LevelLaws.{racking-small}
 use Rattle.figures_posts.proofs.racking_part.Statement.{statement}
 use Rattle.figures_posts.proofs.racking_part.Tie as tie
 
 mul-result : tie.Need-mul-result
-mul-result c = omega (arith, spring-le (c .pre .0) (c .pre .1) (c .pre .2))
+mul-result c = omega (arith, force-le (c .pre .0) (c .pre .1))
 
 cast-result : tie.Need-cast-result
-cast-result c = omega (arith, spring-le (c .pre .0) (c .pre .1) (c .pre .2))
+cast-result c = omega (arith, force-le (c .pre .0) (c .pre .1))
 
 mul-result-2 : tie.Need-mul-result-2
-mul-result-2 c = omega (arith, spring-le (c .pre .0) (c .pre .1) (c .pre .2))
+mul-result-2 c = omega (arith, force-le (c .pre .0) (c .pre .2))
 
 cast-result-2 : tie.Need-cast-result-2
-cast-result-2 c = omega (arith, spring-le (c .pre .0) (c .pre .1) (c .pre .2))
+cast-result-2 c = omega (arith, force-le (c .pre .0) (c .pre .2))
 
 sub-result : tie.Need-sub-result
 sub-result c =
-    let b = spring-le (c .pre .0) (c .pre .1) (c .pre .2) in
+    let u = force-le (c .pre .0) (c .pre .1) in
+    let l = force-le (c .pre .0) (c .pre .2) in
     rw (divisor (c .args .k * c .args .upper) (omega arith), divisor (c .args .k * c .args .lower) (omega arith))
-    (fits64 (difference (c .pre .0) (c .pre .1) (c .pre .2)) (lit< tt))
+    (fits64 (force-small (c .pre .0) (c .pre .1) (c .pre .2)) (lit< tt))
 
 returns : tie.Need-returns
 returns c =
     let a = c .args in
-    let b = spring-le (c .pre .0) (c .pre .1) (c .pre .2) in
+    let u = force-le (c .pre .0) (c .pre .1) in
+    let l = force-le (c .pre .0) (c .pre .2) in
     let s = racking-small (c .pre .0) (c .pre .1) (c .pre .2) in
     simp (
       divisor (a .k * a .upper) (omega arith),
       divisor (a .k * a .lower) (omega arith),
-      held (difference (c .pre .0) (c .pre .1) (c .pre .2)) (lit< tt),
+      held (force-small (c .pre .0) (c .pre .1) (c .pre .2)) (lit< tt),
       held s (lit< tt),
     )
     (refl, s)

@@ -1,6 +1,6 @@
 -- Contracts of inner functions: the rounding of a racking and the sums of the two posts of a level. Nothing here need be believed.
 use mathlib.Core.Bool.{cond}
-use Prim.Native.Nat.{ℕ, _+_, _%_, _^_}
+use Prim.Native.Nat.{ℕ, _+_, _-_, _%_, _^_}
 use lib.IntN.{ℤ, pos, negℤ, _+ℤ_, _-ℤ_}
 use lib.Signed.{ltZ}
 use Rattle.statics.specs.declared.PostParts.{PostParts}
@@ -8,7 +8,7 @@ use Rattle.statics.specs.inner.WholeNumbers.{rackingPad}
 
 -- what is added to a racking before a shift rounds it down: its pad, away from zero, and from zero on a newton less one step
 abbrev pub outwardOf : ℤ → ℤ
-outwardOf part = cond (ltZ part (pos 0)) (negℤ (pos rackingPad)) (pos (rackingPad + 262143))
+outwardOf part = cond (ltZ part (pos 0)) (negℤ (pos rackingPad)) (pos (rackingPad + (2 ^ 18 - 1)))
 
 -- the greater and the lesser of two signed numbers
 abbrev pub greaterOf : ℤ → ℤ → ℤ

@@ -1,7 +1,6 @@
 -- Contracts of inner functions: a lash's place in the order by tier, then hook, then kind, as one number. Nothing here need be believed.
-use Prim.Native.Nat.{ℕ, zero, suc, _+_, _*_, _<_}
+use Prim.Native.Nat.{ℕ, zero, suc, _+_, _*_}
 use mathlib.Core.List.{List}
-use mathlib.Core.Path.{_≡_}
 use Rattle.sheet.specs.declared.Lash.{Lash}
 use Rattle.sheet.specs.Layout.{lashIn}
 
@@ -12,8 +11,3 @@ rank l = 65536 * l .tier + 256 * l .hook + l .kind
 abbrev pub leastRank : List ℕ → ℕ → ℕ → ℕ
 leastRank s at zero = 0
 leastRank s at (suc k) = rank (lashIn s at k) + 1
-
--- that number, where the hook and the kind of the lash before are bytes
-pub record Least (s : List ℕ) (at k least : ℕ) : Type 0 where
-  pub is : least ≡ leastRank s at k
-  pub bytes : (j : ℕ) → k ≡ suc j → (lashIn s at j .hook < 256) × (lashIn s at j .kind < 256)

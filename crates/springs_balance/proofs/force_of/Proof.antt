@@ -5,7 +5,7 @@ use native.Mathlib.Omega.{arith}
 use lib.Dec.{lit<}
 use Rattle.arith.proofs.Sizes.{divisor, fits64}
 use Rattle.arith.proofs.SignedWords.{held}
-use Rattle.springs_balance.proofs.Forces.{force-le, force-small}
+use Rattle.springs.proofs.Ranges.{force-le, force-small}
 use Rattle.springs_balance.proofs.force_of.Statement.{statement}
 use Rattle.springs_balance.proofs.force_of.Tie as tie
 

@@ -1,7 +1,7 @@
 -- `sheet_decode::refusals::test_each_lash`: the lashes of an end in order: the rows of those left give what the rows of all give.
 use Prim.Native.Nat.{_≤_, _+_, _-_}
 use mathlib.Core.List.{flatMap}
-use mathlib.Core.Path.{_≡_, sym, _∙_}
+use mathlib.Core.Path.{_≡_, refl, sym, _∙_}
 use native.Mathlib.Nat.{sub-zero}
 use borrow.Author.Needs.{needs}
 use borrow.Author.Tests.{ltb-false}
@@ -12,20 +12,20 @@ use Rattle.sheet.specs.Layout.{lashPlace}
 use Rattle.sheet.specs.Refusals.{first, lashRows}
 use Rattle.sheet.proofs.Clear.{clear}
 use Rattle.sheet.proofs.Rows.{entry-taken, entry-refused, no-entry-left}
-use Rattle.sheet_limits.specs.inner.Ranks.{Least}
-use Rattle.sheet_limits.proofs.Ranks.{least-first, least-next}
+use Rattle.sheet_limits.specs.inner.Ranks.{leastRank}
+use Rattle.sheet_limits.proofs.Ranks.{least-next}
 use Rattle.sheet_decode.proofs.refusals.test_each_lash.Statement.{statement}
 use Rattle.sheet_decode.proofs.refusals.test_each_lash.Tie as tie
 
 abbrev Inv-loop : tie.InvT-loop
 Inv-loop n s at count k₀ least₀ k least =
-    (k ≤ count) × Least s at k least × (first (flatMap (lashRows n s at) (from k (count - k))) ≡ first (flatMap (lashRows n s at) (below count)))
+    (k ≤ count) × (least ≡ leastRank s at k) × (first (flatMap (lashRows n s at) (from k (count - k))) ≡ first (flatMap (lashRows n s at) (below count)))
 
 abbrev μ-loop : tie.MeasureT-loop
 μ-loop n s at count k₀ least₀ k least = count - k
 
 loop-holds : tie.Need-loop-holds Inv-loop μ-loop
-loop-holds c = (search needs, least-first _ _, rw sub-zero)
+loop-holds c = (search needs, refl, rw sub-zero)
 
 test-lash-requires : tie.Need-test-lash-requires Inv-loop μ-loop
 test-lash-requires c κs = (search needs, search needs, c .before .loop .inv .1)
@@ -88,9 +88,9 @@ loop-again c =
     let m = e .before .before in
     let l = m .before .before in
     let a = l .before .before .args in
-    let r = rw (c .before .lash-of .ensures) at (c .rank .ensures) in (
+    let r = rw (c .before .lash-of .ensures) at (c .rank .ensures .0) in (
       search needs,
-      rw (r .0) (least-next (a .s .now) (a .at) (l .loop .k) (r .2, r .3)),
+      rw r (least-next (a .s .now) (a .at) (l .loop .k)),
       sym (entry-taken (lashRows (a .n) (a .s .now) (a .at)) (l .loop .k) _ (m .before .loop-test .taken) (passed e)) ∙ l .loop .inv .2,
     )
 

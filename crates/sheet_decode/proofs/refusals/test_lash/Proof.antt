@@ -1,8 +1,9 @@
 -- `sheet_decode::refusals::test_lash`: a lash: 1, 10, 11, 12. Each return follows from the rows that passed before it.
-use Prim.Native.Nat.{ℕ}
+use Prim.Native.Nat.{ℕ, _<_}
 use mathlib.Core.List.{List}
-use mathlib.Core.Path.{_≡_, sym, ap, _∙_}
+use mathlib.Core.Path.{_≡_, sym, ap₂, _∙_}
 use lib.Dec.{ltb}
+use Rattle.arith.specs.Bytes.{byteAt}
 use lib.ListN.{drop}
 use borrow.Author.Needs.{needs}
 use borrow.Author.Tests.{lt-ltb, le-ltb}
@@ -45,8 +46,9 @@ ranked :
 ranked w =
     let l = lash (w .before .before) in
     let a = begun l .args in
-    let r = rw (l .lash-of .ensures) at (w .rank .ensures) in
-    not-later-rank (a .s .now) (a .at) (a .k) (a .least) (begun l .pre .2) (r .2, r .3) ∙ ap (λ (x : ℕ). ltb x (a .least)) (sym (r .0))
+    let r = rw (l .lash-of .ensures) at (w .rank .ensures .0) in
+    let bytes : (i : ℕ) → byteAt (a .s .now) i < 256 = λ i. l .before .before .shared-slice-known .given i .fits in
+    not-later-rank (a .s .now) bytes (a .at) (a .k) ∙ ap₂ ltb (sym r) (sym (begun l .pre .2))
 
 add-place : tie.Need-add-place
 add-place c = search needs
