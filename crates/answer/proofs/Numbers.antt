@@ -11,14 +11,14 @@ use Rattle.sheet.specs.declared.Reading.{Reading}
 use Rattle.sheet.specs.declared.Reading.TheVariants.{Taken, Refused}
 use Rattle.sheet.specs.Refusals.{Row, first, refusal}
 use Rattle.sheet.specs.Fits.{Fits}
-use Rattle.sheet.proofs.Numbers.{check-numbers}
-use Rattle.sheet.proofs.Refusal.{sheet-taken}
-use Rattle.sheet.proofs.TakenSheets.{taken-fits}
-use Rattle.sheet.specs.Ends.{End, door, closed, lashesOf}
+use Rattle.sheet.proofs.Numbers.{check_numbers}
+use Rattle.sheet.proofs.Refusal.{sheet_taken}
+use Rattle.sheet.proofs.TakenSheets.{taken_fits}
+use Rattle.sheet.specs.Ends.{End, door, closed, lashes_of}
 use Rattle.statics.specs.Loads.{Rule}
 use Rattle.answer.specs.declared.Outcome.{Outcome}
 use Rattle.answer.specs.Checked.{number, second, AnsweredAs, Checked}
-use Rattle.answer.proofs.Longest.{answer-most}
+use Rattle.answer.proofs.Longest.{answer_most}
 
 pub record Numbers (most : ℕ) (r : Outcome) : Type 0 where
   pub first : number r ≤ most
@@ -42,33 +42,33 @@ first_small most (r ∷ rs) (here, rest) = go r.holds (first_small most rs rest)
     go true later = here
     go false later = later
 
-pub each-join : (most : ℕ) (a b : List Row) → Each most a → Each most b → Each most (a ++ b)
-each-join most [] b h k = k
-each-join most (r ∷ rs) b (here, rest) k = (here, each-join most rs b rest k)
+pub each_join : (most : ℕ) (a b : List Row) → Each most a → Each most b → Each most (a ++ b)
+each_join most [] b h k = k
+each_join most (r ∷ rs) b (here, rest) k = (here, each_join most rs b rest k)
 
 at_most : (ls : List Lash) (n : ℕ) → n ≤ 8 → length (take n ls) ≤ 8
 at_most ls n h = rw (length-take n ls) (omega arith)
 
-lashes : {t : Sheet} → Fits t → (e : End) → length (lashesOf e t) ≤ 8
+lashes : {t : Sheet} → Fits t → (e : End) → length (lashes_of e t) ≤ 8
 lashes {t} f door = at_most t.door t.ndoor f.door.few
 lashes {t} f closed = at_most t.closed t.nclosed f.closed.few
 
 -- by cases on a refusal, whose number is at most `most`
-pub answered-numbers :
+pub answered_numbers :
     (most : ℕ) (q : Reading) (margin : ℕ) (rule : Rule) (t : Sheet) (before after : List ℕ) {r : Outcome} →
     ((n p : ℕ) → q ≡ Refused n p → (1 ≤ n) × (n ≤ most) × (p ≤ 834)) →
     (q ≡ Taken → Fits t) →
     AnsweredAs q margin rule t before after r →
     Numbers most r
-answered-numbers most (Refused n p) margin rule t before after small fits h =
+answered_numbers most (Refused n p) margin rule t before after small fits h =
     let b = small n p refl in
     rw h.refused (record { first = b.1; next = b.2 })
-answered-numbers most Taken margin rule t before after small fits h =
+answered_numbers most Taken margin rule t before after small fits h =
     let f = fits refl in
-    let short = answer-most t h.answer.figures f.few (lashes f) in
+    let short = answer_most t h.answer.figures f.few (lashes f) in
     rw h.taken (record { first = omega arith; next = rw h.answer.encoded (omega (arith, short)) })
 
 pub numbers : {margin : ℕ} {s before after : List ℕ} {r : Outcome} → Checked margin s before after r → Numbers 13 r
 numbers {margin} {s} {before} {after} c =
-    answered-numbers 13 (refusal s (length before)) margin _ _ before after (λ n p e. check-numbers s (length before) e)
-    (λ e. taken-fits s (sheet-taken s (length before) e)) c.holds
+    answered_numbers 13 (refusal s (length before)) margin _ _ before after (λ n p e. check_numbers s (length before) e)
+    (λ e. taken_fits s (sheet_taken s (length before) e)) c.holds

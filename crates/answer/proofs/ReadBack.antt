@@ -9,18 +9,18 @@ use lib.ListN.{get_or, length, length-append}
 use mir.Syntax.{w32}
 use mir.Val.{SFits}
 use Rattle.arith.specs.Bytes.{le4, bytes4, twos, signed4, byte_at}
-use Rattle.arith.proofs.ByteLaws.{getD-behind, le4-back, signed_back}
+use Rattle.arith.proofs.ByteLaws.{get_d_behind, le4_back, signed_back}
 use Rattle.sheet.specs.declared.Sheet.{Sheet}
 use Rattle.statics.specs.declared.EndFigures.{EndFigures}
 use Rattle.statics.specs.declared.Figures.{Figures}
-use Rattle.sheet.specs.Ends.{End, door, closed, lashesOf}
-use Rattle.answer.specs.Findings.{Finding, figuresOf, findings, verdict}
+use Rattle.sheet.specs.Ends.{End, door, closed, lashes_of}
+use Rattle.answer.specs.Findings.{Finding, figures_of, findings, verdict}
 use Rattle.answer.specs.Answers.{endBytes, findingBytes, answerBytes}
 use Rattle.arith.specs.Lists.{counted, from, below}
 use Rattle.statics.specs.Forces as F
-use Rattle.statics.specs.Reported.{reportedNumber, reportedSize, Fitting}
-use Rattle.answer.specs.Places.{sectionSize, entryPlace, endSize, endPlace, findingsPlace, lashesPlace, sectionPlace, forceIn}
-use Rattle.answer.specs.Places.{noFinding, EndReadBack, ReadBack}
+use Rattle.statics.specs.Reported.{reported_number, reported_size, Fitting}
+use Rattle.answer.specs.Places.{section_size, entry_place, end_size, end_place, findings_place, lashes_place, section_place, force_in}
+use Rattle.answer.specs.Places.{no_finding, EndReadBack, ReadBack}
 
 -- xs stands in l from `at` on
 pub record Stands (l : List ℕ) (at : ℕ) (xs : List ℕ) : Type 0 where
@@ -39,8 +39,8 @@ module _ {l : List ℕ} {at : ℕ} where
         place = s.place;
       }
 
-  pub second-part : (xs ys : List ℕ) → Stands l at (xs ++ ys) → Stands l (at + length xs) ys
-  second-part xs ys s =
+  pub second_part : (xs ys : List ℕ) → Stands l at (xs ++ ys) → Stands l (at + length xs) ys
+  second_part xs ys s =
       record {
         front = s.front ++ xs;
         back = s.back;
@@ -51,25 +51,25 @@ module _ {l : List ℕ} {at : ℕ} where
 
   pub first_byte : (x : ℕ) (xs : List ℕ) → Stands l at (x ∷ xs) → byte_at l at ≡ x
   first_byte x xs s =
-      rw s.split (rw (add-zero at) at (getD-behind s.front (x ∷ xs ++ s.back) at 0 s.place))
+      rw s.split (rw (add-zero at) at (get_d_behind s.front (x ∷ xs ++ s.back) at 0 s.place))
 
   behind : (x : ℕ) (xs : List ℕ) → Stands l at (x ∷ xs) → Stands l (at + 1) xs
-  behind x xs s = second-part (x ∷ []) xs s
+  behind x xs s = second_part (x ∷ []) xs s
 
   pub number : (v : ℕ) → v < 2 ^ 32 → Stands l at (bytes4 v) → le4 l at ≡ v
-  number v h s = rw s.split (le4-back v s.front s.back at s.place h)
+  number v h s = rw s.split (le4_back v s.front s.back at s.place h)
 
   signed : (z : ℤ) → SFits w32 z → Stands l at (bytes4 (twos z)) → signed4 l at ≡ z
   signed z h s = rw s.split (signed_back z h s.front s.back at s.place)
 
 -- entries of one size, one after another
 module _ (entry : ℕ → List ℕ) (size : ℕ) (wide : (i : ℕ) → length (entry i) ≡ size) where
-  entries-length : (a n : ℕ) → length (flat_map entry (from a n)) ≡ size * n
+  entries_length : (a n : ℕ) → length (flat_map entry (from a n)) ≡ size * n
   unfolding flat_map from
-  entries-length a zero = omega arith
-  entries-length a (suc n) =
+  entries_length a zero = omega arith
+  entries_length a (suc n) =
       let e : size * suc n ≡ size + size * n = omega arith in
-      length-append (entry a) (flat_map entry (from (suc a) n)) ∙ ap₂ (λ (x y : ℕ). x + y) (wide a) (entries-length (suc a) n) ∙ sym e
+      length-append (entry a) (flat_map entry (from (suc a) n)) ∙ ap₂ (λ (x y : ℕ). x + y) (wide a) (entries_length (suc a) n) ∙ sym e
 
   one_entry : {l : List ℕ} (at a n i : ℕ) → i < n → Stands l at (flat_map entry (from a n)) → Stands l (at + size * i) (entry (a + i))
   unfolding flat_map from
@@ -81,21 +81,21 @@ module _ (entry : ℕ → List ℕ) (size : ℕ) (wide : (i : ℕ) → length (e
       let e : at + size * 0 ≡ at = omega arith in
       rw (e, add-zero a) (first_part (entry a) (flat_map entry (from (suc a) n)) s)
   one_entry {l} at a (suc n) (suc i) h s =
-      let r = rw (wide a) at (second-part (entry a) (flat_map entry (from (suc a) n)) s) in
+      let r = rw (wide a) at (second_part (entry a) (flat_map entry (from (suc a) n)) s) in
       let e : at + size * suc i ≡ at + size + size * i = omega arith in
       let g : a + suc i ≡ suc a + i = omega arith in
       rw (e, g) (one_entry (at + size) (suc a) n i (omega arith) r)
 
-  pub section-length : (n : ℕ) → length (counted n entry) ≡ sectionSize size n
-  section-length n = ap suc (entries-length 0 n) ∙ omega arith
+  pub section_length : (n : ℕ) → length (counted n entry) ≡ section_size size n
+  section_length n = ap suc (entries_length 0 n) ∙ omega arith
 
   -- the count and entry i of a section
   module _ {l : List ℕ} (at n : ℕ) (s : Stands l at (counted n entry)) where
-    pub the-count : byte_at l at ≡ n
-    the-count = first_byte n (flat_map entry (below n)) s
+    pub the_count : byte_at l at ≡ n
+    the_count = first_byte n (flat_map entry (below n)) s
 
-    pub the-entry : (i : ℕ) → i < n → Stands l (entryPlace at size i) (entry i)
-    the-entry i h =
+    pub the_entry : (i : ℕ) → i < n → Stands l (entry_place at size i) (entry i)
+    the_entry i h =
         let e : 0 + i ≡ i = omega arith in
         rw e at (one_entry (at + 1) 0 n i h (behind n (flat_map entry (below n)) s))
 
@@ -131,7 +131,7 @@ module _ (t : Sheet) (e : End) (f : EndFigures) where
   n = t.ntiers
 
   abbrev m : ℕ
-  m = length (lashesOf e t)
+  m = length (lashes_of e t)
 
   abbrev two : List ℕ
   two = counted n racked ++ counted (suc n) pressed
@@ -139,108 +139,108 @@ module _ (t : Sheet) (e : End) (f : EndFigures) where
   abbrev three : List ℕ
   three = two ++ counted n drawn
 
-  two-length : length two ≡ sectionSize 4 n + sectionSize 4 (suc n)
-  two-length =
+  two_length : length two ≡ section_size 4 n + section_size 4 (suc n)
+  two_length =
       length-append (counted n racked) (counted (suc n) pressed)
-      ∙ ap₂ (λ (x y : ℕ). x + y) (section-length racked 4 (λ i. refl) n) (section-length pressed 4 (λ i. refl) (suc n))
+      ∙ ap₂ (λ (x y : ℕ). x + y) (section_length racked 4 (λ i. refl) n) (section_length pressed 4 (λ i. refl) (suc n))
 
-  three-length : length three ≡ sectionSize 4 n + sectionSize 4 (suc n) + sectionSize 4 n
-  three-length =
-      length-append two (counted n drawn) ∙ ap₂ (λ (x y : ℕ). x + y) two-length (section-length drawn 4 (λ i. refl) n)
+  three_length : length three ≡ section_size 4 n + section_size 4 (suc n) + section_size 4 n
+  three_length =
+      length-append two (counted n drawn) ∙ ap₂ (λ (x y : ℕ). x + y) two_length (section_length drawn 4 (λ i. refl) n)
 
-  pub end-length : length (endBytes t e f) ≡ endSize t e
+  pub end_length : length (endBytes t e f) ≡ end_size t e
   unfolding endBytes
-  end-length =
-      omega (arith, length-append three (counted m lashed), three-length, section-length lashed 12 (λ j. refl) m)
+  end_length =
+      omega (arith, length-append three (counted m lashed), three_length, section_length lashed 12 (λ j. refl) m)
 
-  module _ {l : List ℕ} (fits : Fitting f) (s : Stands l (endPlace t e) (endBytes t e f)) where
+  module _ {l : List ℕ} (fits : Fitting f) (s : Stands l (end_place t e) (endBytes t e f)) where
     abbrev at : ℕ
-    at = endPlace t e
+    at = end_place t e
 
-    rackings-there : Stands l at (counted n racked)
+    rackings_there : Stands l at (counted n racked)
     unfolding endBytes
-    rackings-there =
+    rackings_there =
         first_part (counted n racked) (counted (suc n) pressed) (first_part two (counted n drawn) (first_part three (counted m lashed) s))
 
-    compressions-there : Stands l (sectionPlace t e F.compression) (counted (suc n) pressed)
+    compressions_there : Stands l (section_place t e F.compression) (counted (suc n) pressed)
     unfolding endBytes
-    compressions-there =
-        rw (section-length racked 4 (λ i. refl) n) at
-        (second-part (counted n racked) (counted (suc n) pressed)
+    compressions_there =
+        rw (section_length racked 4 (λ i. refl) n) at
+        (second_part (counted n racked) (counted (suc n) pressed)
         (first_part two (counted n drawn) (first_part three (counted m lashed) s)))
 
-    tensions-there : Stands l (sectionPlace t e F.tension) (counted n drawn)
+    tensions_there : Stands l (section_place t e F.tension) (counted n drawn)
     unfolding endBytes
-    tensions-there =
-        let p : at + length two ≡ sectionPlace t e F.tension = omega (arith, two-length) in
-        rw p at (second-part two (counted n drawn) (first_part three (counted m lashed) s))
+    tensions_there =
+        let p : at + length two ≡ section_place t e F.tension = omega (arith, two_length) in
+        rw p at (second_part two (counted n drawn) (first_part three (counted m lashed) s))
 
-    lashes-there : Stands l (lashesPlace t e) (counted m lashed)
+    lashes_there : Stands l (lashes_place t e) (counted m lashed)
     unfolding endBytes
-    lashes-there =
-        let p : at + length three ≡ lashesPlace t e = omega (arith, three-length) in
-        rw p at (second-part three (counted m lashed) s)
+    lashes_there =
+        let p : at + length three ≡ lashes_place t e = omega (arith, three_length) in
+        rw p at (second_part three (counted m lashed) s)
 
-    counts : (x : F.Force) → byte_at l (sectionPlace t e x) ≡ F.entryCount x e t
-    counts F.racking = the-count racked 4 (λ i. refl) at n rackings-there
-    counts F.compression = the-count pressed 4 (λ i. refl) (sectionPlace t e F.compression) (suc n) compressions-there
-    counts F.tension = the-count drawn 4 (λ i. refl) (sectionPlace t e F.tension) n tensions-there
-    counts F.lashTension = the-count lashed 12 (λ j. refl) (lashesPlace t e) m lashes-there
-    counts F.lashAthwart = the-count lashed 12 (λ j. refl) (lashesPlace t e) m lashes-there
-    counts F.lashVertical = the-count lashed 12 (λ j. refl) (lashesPlace t e) m lashes-there
+    counts : (x : F.Force) → byte_at l (section_place t e x) ≡ F.entry_count x e t
+    counts F.racking = the_count racked 4 (λ i. refl) at n rackings_there
+    counts F.compression = the_count pressed 4 (λ i. refl) (section_place t e F.compression) (suc n) compressions_there
+    counts F.tension = the_count drawn 4 (λ i. refl) (section_place t e F.tension) n tensions_there
+    counts F.lash_tension = the_count lashed 12 (λ j. refl) (lashes_place t e) m lashes_there
+    counts F.lash_athwart = the_count lashed 12 (λ j. refl) (lashes_place t e) m lashes_there
+    counts F.lash_vertical = the_count lashed 12 (λ j. refl) (lashes_place t e) m lashes_there
 
     -- an unsigned number of four bytes
-    plain : {at : ℕ} (x : F.Force) (i : ℕ) (v : ℕ) → reportedSize x f i ≡ v → Stands l at (bytes4 v) → pos (le4 l at) ≡ pos v
+    plain : {at : ℕ} (x : F.Force) (i : ℕ) (v : ℕ) → reported_size x f i ≡ v → Stands l at (bytes4 v) → pos (le4 l at) ≡ pos v
     plain x i v e s = ap pos (number v (omega (arith, fits.small x i)) s)
 
-    abbrev lash : (j : ℕ) → j < m → Stands l (entryPlace (lashesPlace t e) 12 j) (lashed j)
-    lash = the-entry lashed 12 (λ j. refl) (lashesPlace t e) m lashes-there
+    abbrev lash : (j : ℕ) → j < m → Stands l (entry_place (lashes_place t e) 12 j) (lashed j)
+    lash = the_entry lashed 12 (λ j. refl) (lashes_place t e) m lashes_there
 
     -- at the start of an entry
-    first-at : {p : ℕ} (xs : List ℕ) → Stands l p xs → Stands l (p + 0) xs
-    first-at {p} xs s = rw (add-zero p) s
+    first_at : {p : ℕ} (xs : List ℕ) → Stands l p xs → Stands l (p + 0) xs
+    first_at {p} xs s = rw (add-zero p) s
 
-    forces : (x : F.Force) (i : ℕ) → i < F.entryCount x e t → forceIn t e l x i ≡ reportedNumber x f i
+    forces : (x : F.Force) (i : ℕ) → i < F.entry_count x e t → force_in t e l x i ≡ reported_number x f i
     forces F.racking i h =
-        rw (add-zero (entryPlace at 4 i))
+        rw (add-zero (entry_place at 4 i))
         (signed (get_or f.racking i (pos 0)) (fits_signed _ (fits.small F.racking i))
-        (the-entry racked 4 (λ i. refl) at n rackings-there i h))
+        (the_entry racked 4 (λ i. refl) at n rackings_there i h))
     forces F.compression i h =
         plain F.compression i _ refl
-        (first-at (pressed i) (the-entry pressed 4 (λ i. refl) (sectionPlace t e F.compression) (suc n) compressions-there i h))
+        (first_at (pressed i) (the_entry pressed 4 (λ i. refl) (section_place t e F.compression) (suc n) compressions_there i h))
     forces F.tension i h =
-        plain F.tension i _ refl (first-at (drawn i) (the-entry drawn 4 (λ i. refl) (sectionPlace t e F.tension) n tensions-there i h))
-    forces F.lashTension j h =
-        plain F.lashTension j _ refl
-        (first-at (pulled j) (first_part (pulled j) (athwarted j) (first_part (pulled j ++ athwarted j) (raised j) (lash j h))))
-    forces F.lashAthwart j h =
-        plain F.lashAthwart j _ refl
-        (second-part (pulled j) (athwarted j) (first_part (pulled j ++ athwarted j) (raised j) (lash j h)))
-    forces F.lashVertical j h = plain F.lashVertical j _ refl (second-part (pulled j ++ athwarted j) (raised j) (lash j h))
+        plain F.tension i _ refl (first_at (drawn i) (the_entry drawn 4 (λ i. refl) (section_place t e F.tension) n tensions_there i h))
+    forces F.lash_tension j h =
+        plain F.lash_tension j _ refl
+        (first_at (pulled j) (first_part (pulled j) (athwarted j) (first_part (pulled j ++ athwarted j) (raised j) (lash j h))))
+    forces F.lash_athwart j h =
+        plain F.lash_athwart j _ refl
+        (second_part (pulled j) (athwarted j) (first_part (pulled j ++ athwarted j) (raised j) (lash j h)))
+    forces F.lash_vertical j h = plain F.lash_vertical j _ refl (second_part (pulled j ++ athwarted j) (raised j) (lash j h))
 
     end_back : EndReadBack t e f l
     end_back = record { counts = counts; forces = forces }
 
 -- findings, three bytes each
-pub bytes-length : (xs : List Finding) → length (flat_map findingBytes xs) ≡ 3 * length xs
+pub bytes_length : (xs : List Finding) → length (flat_map findingBytes xs) ≡ 3 * length xs
 unfolding flat_map
-bytes-length [] = refl
-bytes-length (x ∷ xs) = omega (arith, bytes-length xs)
+bytes_length [] = refl
+bytes_length (x ∷ xs) = omega (arith, bytes_length xs)
 
-abbrev findingFrom : List ℕ → ℕ → Finding
-findingFrom l p = record { end = byte_at l p; kind = byte_at l (p + 1); index = byte_at l (p + 2) }
+abbrev finding_from : List ℕ → ℕ → Finding
+finding_from l p = record { end = byte_at l p; kind = byte_at l (p + 1); index = byte_at l (p + 2) }
 
-one-finding :
+one_finding :
     {l : List ℕ} (at k : ℕ) (xs : List Finding) →
     k < length xs →
     Stands l at (flat_map findingBytes xs) →
-    findingFrom l (at + 3 * k) ≡ get_or xs k noFinding
+    finding_from l (at + 3 * k) ≡ get_or xs k no_finding
 unfolding flat_map
-one-finding at k [] h s = absurd (none h)
+one_finding at k [] h s = absurd (none h)
   where
     none : k < 0 → ⊥
     none h = omega arith
-one-finding {l} at zero (x ∷ xs) h s =
+one_finding {l} at zero (x ∷ xs) h s =
     let e : at + 3 * 0 ≡ at = omega arith in
     let g : at + 1 + 1 ≡ at + 2 = omega arith in
     let rest = flat_map findingBytes xs in
@@ -249,12 +249,12 @@ one-finding {l} at zero (x ∷ xs) h s =
     let second = first_byte x.kind (x.index ∷ rest) b in
     let third = rw g at (first_byte x.index rest (behind x.kind (x.index ∷ rest) b)) in
     rw e (λ i. record { end = first i; kind = second i; index = third i })
-one-finding {l} at (suc k) (x ∷ xs) h s =
+one_finding {l} at (suc k) (x ∷ xs) h s =
     let e : at + 3 * suc k ≡ at + 3 + 3 * k = omega arith in
-    rw e (one-finding (at + 3) k xs (omega arith) (second-part (findingBytes x) (flat_map findingBytes xs) s))
+    rw e (one_finding (at + 3) k xs (omega arith) (second_part (findingBytes x) (flat_map findingBytes xs) s))
 
 -- the whole answer, whatever stands behind it
-module _ (t : Sheet) (f : Figures) (fits : (e : End) → Fitting (figuresOf e f)) (rest : List ℕ) where
+module _ (t : Sheet) (f : Figures) (fits : (e : End) → Fitting (figures_of e f)) (rest : List ℕ) where
   abbrev s : List ℕ
   s = answerBytes t f ++ rest
 
@@ -274,38 +274,38 @@ module _ (t : Sheet) (f : Figures) (fits : (e : End) → Fitting (figuresOf e f)
   ends_there : Stands s 0 (mark ++ endBytes t door f.door)
   ends_there = first_part (mark ++ endBytes t door f.door) (endBytes t closed f.closed) (first_part both tail all_there)
 
-  door-there : Stands s (endPlace t door) (endBytes t door f.door)
-  door-there = second-part mark (endBytes t door f.door) ends_there
+  door_there : Stands s (end_place t door) (endBytes t door f.door)
+  door_there = second_part mark (endBytes t door f.door) ends_there
 
-  front_length : length (mark ++ endBytes t door f.door) ≡ endPlace t closed
-  front_length = length-append mark (endBytes t door f.door) ∙ ap (λ (k : ℕ). 1 + k) (end-length t door f.door)
+  front_length : length (mark ++ endBytes t door f.door) ≡ end_place t closed
+  front_length = length-append mark (endBytes t door f.door) ∙ ap (λ (k : ℕ). 1 + k) (end_length t door f.door)
 
-  closed-there : Stands s (endPlace t closed) (endBytes t closed f.closed)
-  closed-there =
-      let p : 0 + length (mark ++ endBytes t door f.door) ≡ endPlace t closed = zero-add _ ∙ front_length in
-      rw p at (second-part (mark ++ endBytes t door f.door) (endBytes t closed f.closed) (first_part both tail all_there))
+  closed_there : Stands s (end_place t closed) (endBytes t closed f.closed)
+  closed_there =
+      let p : 0 + length (mark ++ endBytes t door f.door) ≡ end_place t closed = zero-add _ ∙ front_length in
+      rw p at (second_part (mark ++ endBytes t door f.door) (endBytes t closed f.closed) (first_part both tail all_there))
 
-  findings-there : Stands s (findingsPlace t) tail
-  findings-there =
-      let p : 0 + length both ≡ findingsPlace t =
+  findings_there : Stands s (findings_place t) tail
+  findings_there =
+      let p : 0 + length both ≡ findings_place t =
       zero-add _
       ∙ length-append (mark ++ endBytes t door f.door) (endBytes t closed f.closed)
-      ∙ ap₂ (λ (j k : ℕ). j + k) front_length (end-length t closed f.closed) in
-      rw p at (second-part both tail all_there)
+      ∙ ap₂ (λ (j k : ℕ). j + k) front_length (end_length t closed f.closed) in
+      rw p at (second_part both tail all_there)
 
-  an-end : (e : End) → EndReadBack t e (figuresOf e f) s
-  an-end door = end_back t door f.door (fits door) door-there
-  an-end closed = end_back t closed f.closed (fits closed) closed-there
+  an_end : (e : End) → EndReadBack t e (figures_of e f) s
+  an_end door = end_back t door f.door (fits door) door_there
+  an_end closed = end_back t closed f.closed (fits closed) closed_there
 
   -- the numbers read back
   pub read_back : ReadBack t f s
   read_back =
       record {
         verdict = first_byte (verdict (findings t f)) [] (first_part mark (endBytes t door f.door) ends_there);
-        ends = an-end;
-        count = first_byte (length (findings t f)) (flat_map findingBytes (findings t f)) findings-there;
+        ends = an_end;
+        count = first_byte (length (findings t f)) (flat_map findingBytes (findings t f)) findings_there;
         finding =
             λ k h.
-            one-finding (findingsPlace t + 1) k (findings t f) h
-            (behind (length (findings t f)) (flat_map findingBytes (findings t f)) findings-there);
+            one_finding (findings_place t + 1) k (findings t f) h
+            (behind (length (findings t f)) (flat_map findingBytes (findings t f)) findings_there);
       }

@@ -3,17 +3,17 @@ use Rattle.std.specs.Prelude.{◌≡◌, List, [], ◌∷◌, ◌++◌, ℕ, dro
 use Rattle.sheet.specs.declared.Reading.{Reading}
 use Rattle.sheet.specs.declared.Reading.TheVariants.{Taken, Refused}
 use Rattle.sheet.specs.declared.Sheet.{Sheet}
-use Rattle.sheet.specs.Layout.{sheetOf}
-use Rattle.sheet.specs.Refusals.{row13, first, longestAnswer, refusal}
+use Rattle.sheet.specs.Layout.{sheet_of}
+use Rattle.sheet.specs.Refusals.{row13, first, longest_answer, refusal}
 use Rattle.statics.specs.declared.Figures.{Figures}
 use Rattle.statics.specs.declared.LoadRule.{LoadRule}
-use Rattle.statics.specs.Loads.{Rule, ruleOf, StandsFor}
+use Rattle.statics.specs.Loads.{Rule, rule_of, StandsFor}
 use Rattle.statics.specs.Ends.{OneSolution}
 use Rattle.sheet.specs.Ends.{End}
 use Rattle.statics.specs.Reported.{EndFigured}
 use Rattle.answer.specs.declared.Outcome.{Outcome}
 use Rattle.answer.specs.declared.Outcome.TheVariants as O
-use Rattle.answer.specs.Findings.{figuresOf}
+use Rattle.answer.specs.Findings.{figures_of}
 use Rattle.answer.specs.Answers.{answerBytes}
 
 -- the two numbers that document 01 returns: 0 and the answer's length, or a refusal's number and second number
@@ -30,7 +30,7 @@ second (O.Refused c p) = p
 pub record AnswerTo (margin : ℕ) (rule : Rule) (t : Sheet) (bytes : List ℕ) : Type 0 where
   pub figures : Figures
   pub encoded : bytes ≡ answerBytes t figures
-  pub reports : (e : End) → EndFigured margin rule e t (figuresOf e figures)
+  pub reports : (e : End) → EndFigured margin rule e t (figures_of e figures)
   pub one : (e : End) → OneSolution rule e t
 
 -- a refused sheet: its two numbers, and the buffer as it was
@@ -52,11 +52,11 @@ AnsweredAs Taken margin rule t before after r = Answered margin rule t before af
 
 -- the check of the sheet s with a buffer that held `before`, by document 01's refusals; its loads go by the rule of the sheet
 pub record Checked (margin : ℕ) (s before after : List ℕ) (r : Outcome) : Type 0 where
-  pub holds : AnsweredAs (refusal s (length before)) margin (ruleOf (sheetOf s)) (sheetOf s) before after r
+  pub holds : AnsweredAs (refusal s (length before)) margin (rule_of (sheet_of s)) (sheet_of s) before after r
 
 -- the answer to a decoded sheet t, by every rule that c stands for: only the room can be too short
 abbrev pub room_for : ℕ → Reading
-room_for room = first (row13 longestAnswer room ∷ [])
+room_for room = first (row13 longest_answer room ∷ [])
 
 pub record AnsweredBy (margin : ℕ) (c : LoadRule) (t : Sheet) (before after : List ℕ) (r : Outcome) : Type 0 where
   pub holds : (rule : Rule) → StandsFor c rule → AnsweredAs (room_for (length before)) margin rule t before after r

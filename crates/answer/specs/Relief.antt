@@ -6,20 +6,20 @@ use Rattle.sheet.specs.declared.Tier.{Tier}
 use Rattle.sheet.specs.declared.Lash.{Lash}
 use Rattle.sheet.specs.declared.Sheet.{Sheet}
 use Rattle.sheet.specs.Fits.{Fits}
-use Rattle.sheet.specs.Ends.{End, door, closed, tiersOf, lashesOf}
-use Rattle.statics.specs.Loads.{ruleOf}
-use Rattle.statics.specs.Ends.{endLashes, EndSolved}
+use Rattle.sheet.specs.Ends.{End, door, closed, tiers_of, lashes_of}
+use Rattle.statics.specs.Loads.{rule_of}
+use Rattle.statics.specs.Ends.{end_lashes, EndSolved}
 use Rattle.statics.specs.Posts.{tension}
-use Rattle.answer.specs.Limits.{cornerTensionLimit}
-use Rattle.answer.specs.Table.{sheetWith}
+use Rattle.answer.specs.Limits.{corner_tension_limit}
+use Rattle.answer.specs.Table.{sheet_with}
 
 -- a box of 40 ft and 2896 mm, A_T 1,000, A_Vmax 1,500, A_Vmin 100, sheltered
-abbrev pub highBox : ℕ → Tier
-highBox mass = record { size = 40; wind = 0; height = 2896; mass = mass; aT = 1000; aVmax = 1500; aVmin = 100 }
+abbrev pub high_box : ℕ → Tier
+high_box mass = record { size = 40; wind = 0; height = 2896; mass = mass; aT = 1000; aVmax = 1500; aVmin = 100 }
 
 -- a side lash of LY 1950, LZ 2600, area 1,000, modulus 200,000
-abbrev pub sideRod : ℕ → ℕ → Lash
-sideRod tier hook =
+abbrev pub side_rod : ℕ → ℕ → Lash
+side_rod tier hook =
     record {
       tier = tier;
       hook = hook;
@@ -34,9 +34,9 @@ sideRod tier hook =
     }
 
 -- 28,000 kg over two boxes of 2,000 kg, with this lash at both ends
-abbrev pub lashedBy : Lash → Sheet
-lashedBy l =
-    let s = sheetWith 0 (highBox 2000 ∷ highBox 2000 ∷ highBox 28000 ∷ []) (l ∷ []) in
+abbrev pub lashed_by : Lash → Sheet
+lashed_by l =
+    let s = sheet_with 0 (high_box 2000 ∷ high_box 2000 ∷ high_box 28000 ∷ []) (l ∷ []) in
     record {
       head = s.head;
       tiers = s.tiers;
@@ -48,16 +48,16 @@ lashedBy l =
     }
 
 -- on the bottom corner of tier 2, and on the top corner of tier 1: both at level 1
-abbrev pub byBottom : Sheet
-byBottom = lashedBy (sideRod 2 1)
+abbrev pub by_bottom : Sheet
+by_bottom = lashed_by (side_rod 2 1)
 
-abbrev pub byTop : Sheet
-byTop = lashedBy (sideRod 1 0)
+abbrev pub by_top : Sheet
+by_top = lashed_by (side_rod 1 0)
 
 -- the exact tension at level 1 of an end is x
 abbrev pub TensionIs : Sheet → End → Frac → Type 0
 TensionIs t e x =
-    (Ds : List Frac) → EndSolved (ruleOf t) e t Ds → tension (ruleOf t) (tiersOf t) (lashesOf e t) Ds 1 ≈ x
+    (Ds : List Frac) → EndSolved (rule_of t) e t Ds → tension (rule_of t) (tiers_of t) (lashes_of e t) Ds 1 ≈ x
 
 -- M/2259 − V/2 at level 1, and the vertical part of the lash at each end
 abbrev pub unrelieved : Frac
@@ -69,11 +69,11 @@ relief closed = nat 1940025600 /q nat 16399
 
 pub record Relief : Type 0 where
   -- both are within the limits, and their equations are the same
-  pub bottom-fits : Fits byBottom
-  pub top-fits : Fits byTop
-  pub same-equations : (e : End) → endLashes e byBottom ≡ endLashes e byTop
+  pub bottom_fits : Fits by_bottom
+  pub top_fits : Fits by_top
+  pub same_equations : (e : End) → end_lashes e by_bottom ≡ end_lashes e by_top
   -- a top hook leaves the tension as it is without a lash, above the limit of a corner; a bottom hook takes its vertical part off
-  pub top : (e : End) → TensionIs byTop e unrelieved
-  pub above : nat cornerTensionLimit ⊏ unrelieved
-  pub bottom : (e : End) → TensionIs byBottom e (unrelieved -q relief e)
-  pub below : (e : End) → unrelieved -q relief e ⊏ nat cornerTensionLimit
+  pub top : (e : End) → TensionIs by_top e unrelieved
+  pub above : nat corner_tension_limit ⊏ unrelieved
+  pub bottom : (e : End) → TensionIs by_bottom e (unrelieved -q relief e)
+  pub below : (e : End) → unrelieved -q relief e ⊏ nat corner_tension_limit

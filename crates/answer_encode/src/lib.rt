@@ -1,10 +1,10 @@
 // Document 01, "The answer sheet": its bytes, one section behind another.
 
 ghost use Rattle.std.specs.Prelude.{◌≡◌, cond, ◌≤◌, eqb, length};
-ghost use Rattle.statics.specs.inner.InArrays.{Lengths};
+ghost use Rattle.statics.specs.Inner.InArrays.{Lengths};
 ghost use Rattle.answer.specs.Answers.{answerBytes};
-ghost use Rattle.answer_findings.specs.inner.Findings.{Sized, bothIn};
-ghost use Rattle.answer_encode.specs.inner.Stored.{Stored};
+ghost use Rattle.answer_findings.specs.Inner.Findings.{Sized, both_in};
+ghost use Rattle.answer_encode.specs.Inner.Stored.{Stored};
 
 use answer_findings::put_findings;
 use answer_write::{write_end, write_found};
@@ -36,7 +36,7 @@ pub fn write_answer(
     requires { Sized t × (834 ≤ length answer.old) × Lengths doorRacking.now doorLevels.now doorForces.now
         × Lengths closedRacking.now closedLevels.now closedForces.now }
     ensures { Stored (answerBytes t
-        (bothIn doorRacking.now doorLevels.now doorForces.now
+        (both_in doorRacking.now doorLevels.now doorForces.now
         closedRacking.now closedLevels.now closedForces.now))
         answer.old answer.new result }
 {

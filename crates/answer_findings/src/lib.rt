@@ -1,10 +1,10 @@
 // Document 01, "The answer sheet": a finding wherever a reported size exceeds its limit; one for a tension (02, P11).
 
 ghost use Rattle.std.specs.Prelude.{◌≡◌, ◌++◌, ◌+◌, ◌*◌, ◌≤◌, length};
-ghost use Rattle.statics.specs.inner.InArrays.{Lengths, figuresIn};
+ghost use Rattle.statics.specs.Inner.InArrays.{Lengths, figures_in};
 ghost use Rattle.answer.specs.Findings.{accepted};
-ghost use Rattle.answer_put.specs.inner.Puts.{Put};
-ghost use Rattle.answer_findings.specs.inner.Findings.{Sized, PutFindings, tierFindings, lashFindings, bothIn};
+ghost use Rattle.answer_put.specs.Inner.Puts.{Put};
+ghost use Rattle.answer_findings.specs.Inner.Findings.{Sized, PutFindings, tier_findings, lash_findings, both_in};
 
 use answer_put::{put_over, put_pulls, put_rackings};
 use limits::{Limits, PullLimit, lower_of, safe_load};
@@ -25,8 +25,8 @@ pub fn put_end(
 ) -> usize
     requires { (n ≤ 10) × (m ≤ 8) × (at + 3 * n + 3 * m ≤ length found.old) × Lengths racking.now levels.now forces.now }
     ensures { Put found.old at
-        (tierFindings end n pull (figuresIn racking.now levels.now forces.now)
-        ++ lashFindings end lashes m (figuresIn racking.now levels.now forces.now))
+        (tier_findings end n pull (figures_in racking.now levels.now forces.now)
+        ++ lash_findings end lashes m (figures_in racking.now levels.now forces.now))
         found.new result × (result ≤ at + 3 * n + 3 * m) }
 {
     let second = 11;
@@ -59,7 +59,7 @@ pub fn put_findings(
     requires { Sized t × (108 ≤ length found.old) × Lengths doorRacking.now doorLevels.now doorForces.now
         × Lengths closedRacking.now closedLevels.now closedForces.now }
     ensures { PutFindings t
-        (bothIn doorRacking.now doorLevels.now doorForces.now
+        (both_in doorRacking.now doorLevels.now doorForces.now
         closedRacking.now closedLevels.now closedForces.now)
         found.old found.new result }
 {
@@ -108,7 +108,7 @@ pub fn accepted(
     requires { Sized t × Lengths doorRacking.now doorLevels.now doorForces.now
         × Lengths closedRacking.now closedLevels.now closedForces.now }
     ensures { result ≡ accepted t
-        (bothIn doorRacking.now doorLevels.now doorForces.now
+        (both_in doorRacking.now doorLevels.now doorForces.now
         closedRacking.now closedLevels.now closedForces.now) }
 {
     let mut found = [0u32; 108];

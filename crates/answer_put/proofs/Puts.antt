@@ -10,7 +10,7 @@ use lib.ListN.{length, take, drop, set, length-append, length-set}
 use lib.Seq.{drop-drop}
 use mir.Val.{bool_byte}
 use Rattle.arith.specs.Lists.{from}
-use Rattle.answer_put.specs.inner.Puts.{Put, word_bytes, findingWhere, findingsOver}
+use Rattle.answer_put.specs.Inner.Puts.{Put, word_bytes, finding_where, findings_over}
 use Rattle.answer_put.proofs.Entries.{one_more}
 
 none : (l : List ℕ) (at : ℕ) → Put l at [] l at
@@ -64,8 +64,8 @@ words_append (x ∷ xs) ys = ap (λ (l : List ℕ). word_bytes x ++ l) (words_ap
 low : (byte more : ℕ) → byte < 256 → (byte + 256 * more) % 256 ≡ byte
 low byte more h = omega arith
 
-byte-is : (byte : ℕ) → byte < 256 → byte % 256 ≡ byte
-byte-is byte h = omega arith
+byte_is : (byte : ℕ) → byte < 256 → byte % 256 ≡ byte
+byte_is byte h = omega arith
 
 module _ (l : List ℕ) (at end kind index : ℕ) (room : at < length l) (byte : end < 256) (kinds : kind < 256) (few : index < 256) where
   abbrev word : ℕ
@@ -78,11 +78,11 @@ module _ (l : List ℕ) (at end kind index : ℕ) (room : at < length l) (byte :
       let over : word / 256 ≡ kind + 256 * index = omega arith in
       let b : word / 256 % 256 ≡ kind = ap (λ (n : ℕ). n % 256) over ∙ low kind index kinds in
       let last : word / 65536 ≡ index = omega arith in
-      let c : word / 65536 % 256 ≡ index = ap (λ (n : ℕ). n % 256) last ∙ byte-is index few in
+      let c : word / 65536 % 256 ≡ index = ap (λ (n : ℕ). n % 256) last ∙ byte_is index few in
       rw (a, b, c) refl
 
-  pub stored-where : (over : Bool) → Put l at (cond over (end ∷ kind ∷ index ∷ []) []) (set l at word) (at + bool_byte over)
-  stored-where true =
+  pub stored_where : (over : Bool) → Put l at (cond over (end ∷ kind ∷ index ∷ []) []) (set l at word) (at + bool_byte over)
+  stored_where true =
       record {
         stored =
             rw (add-one at)
@@ -93,7 +93,7 @@ module _ (l : List ℕ) (at end kind index : ℕ) (room : at < length l) (byte :
         behind = later l (set l at word) (suc at) (at + 1 + 1) (rest l at word) (omega arith);
         room = length-set l at word;
       }
-  stored-where false =
+  stored_where false =
       let e : at + 0 ≡ at = omega arith in
       record {
         stored = rw e (ap (flat_map word_bytes) (kept l at word room) ∙ sym (append-nil (flat_map word_bytes (take at l))));
@@ -104,20 +104,20 @@ module _ (l : List ℕ) (at end kind index : ℕ) (room : at < length l) (byte :
 
 -- the findings of one kind: before the first, after one more, and after the last of n
 module _ (end kind first : ℕ) (size limit : ℕ → ℕ) where
-  pub over_none : (l : List ℕ) (at : ℕ) → Put l at (findingsOver end kind first size limit 0) l at
-  unfolding findingsOver flat_map from
+  pub over_none : (l : List ℕ) (at : ℕ) → Put l at (findings_over end kind first size limit 0) l at
+  unfolding findings_over flat_map from
   over_none l at = none l at
 
-  module _ {l m : List ℕ} {at p : ℕ} (k : ℕ) (w : Put l at (findingsOver end kind first size limit k) m p) where
-    pub over-more :
+  module _ {l m : List ℕ} {at p : ℕ} (k : ℕ) (w : Put l at (findings_over end kind first size limit k) m p) where
+    pub over_more :
         {n : List ℕ} {q index : ℕ} →
         index ≡ first + k →
         Put m p (cond (ltb (limit index) (size index)) (end ∷ kind ∷ index ∷ []) []) n q →
-        Put l at (findingsOver end kind first size limit (k + 1)) n q
-    unfolding findingsOver findingWhere
-    over-more e v = rw (one_more (λ j. findingWhere end kind (first + j) (size (first + j)) (limit (first + j))) k) (then w (rw e at v))
+        Put l at (findings_over end kind first size limit (k + 1)) n q
+    unfolding findings_over finding_where
+    over_more e v = rw (one_more (λ j. finding_where end kind (first + j) (size (first + j)) (limit (first + j))) k) (then w (rw e at v))
 
-    pub over-all : (n : ℕ) → k ≤ n → n ≤ k → Put l at (findingsOver end kind first size limit n) m p
-    over-all n h g =
+    pub over_all : (n : ℕ) → k ≤ n → n ≤ k → Put l at (findings_over end kind first size limit n) m p
+    over_all n h g =
         let e : n ≡ k = omega arith in
         rw e w

@@ -7,11 +7,11 @@ use borrow.Author.Tests.{ltb-true, ltb-false, lt-ltb, le-ltb}
 use lib.Dec.{ltb}
 use lib.IntN.{ℤ, pos, negsuc, nat_abs, ◌-ℤ◌}
 use lib.Signed.{lt_z}
-use Rattle.answer.specs.Limits.{rackingLimit}
+use Rattle.answer.specs.Limits.{racking_limit}
 
-or-false : (b : Bool) → b || false ≡ b
-or-false true = refl
-or-false false = refl
+or_false : (b : Bool) → b || false ≡ b
+or_false true = refl
+or_false false = refl
 
 one_more : (a n : ℕ) → ltb a n ≡ ltb (suc a) (suc n)
 one_more a n = go (ltb a n) refl
@@ -20,6 +20,6 @@ one_more a n = go (ltb a n) refl
     go true e = e ∙ sym (lt-ltb (suc a) (suc n) (omega (arith, ltb-true a n e)))
     go false e = e ∙ sym (le-ltb (suc a) (suc n) (omega (arith, ltb-false a n e)))
 
-pub either_side : (z : ℤ) → (lt_z (pos rackingLimit) z || lt_z z (pos 0 -ℤ pos rackingLimit)) ≡ ltb rackingLimit (nat_abs z)
-either_side (pos n) = or-false (ltb rackingLimit n)
+pub either_side : (z : ℤ) → (lt_z (pos racking_limit) z || lt_z z (pos 0 -ℤ pos racking_limit)) ≡ ltb racking_limit (nat_abs z)
+either_side (pos n) = or_false (ltb racking_limit n)
 either_side (negsuc n) = one_more 149999 n

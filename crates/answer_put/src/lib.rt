@@ -1,15 +1,15 @@
 // Findings of one kind, a word each, put into a buffer wherever a size exceeds its limit (document 01, "The answer sheet").
 
 ghost use Rattle.std.specs.Prelude.{◌≡◌, cond, [], ◌∷◌, ◌+◌, ◌-◌, ◌*◌, ◌<◌, ◌≤◌, pos, nat_abs, ltb, length, get_or, set};
-ghost use Rattle.answer.specs.Limits.{rackingLimit};
-ghost use Rattle.answer_put.specs.inner.Puts.{Put, lashLimit, findingsOver};
+ghost use Rattle.answer.specs.Limits.{racking_limit};
+ghost use Rattle.answer_put.specs.Inner.Puts.{Put, lash_limit, findings_over};
 
 use limits::{Limits, safe_load};
 use sheet::Lash;
 
 // Whether a racking exceeds its limit in size: to leeward, or to windward below zero.
 pub fn racking_over(x: i32) -> bool
-    ensures { result ≡ ltb rackingLimit (nat_abs x) }
+    ensures { result ≡ ltb racking_limit (nat_abs x) }
 {
     let limit = Limits::RACKING as i32;
     (limit < x) | (x < 0 - limit)
@@ -30,7 +30,7 @@ pub fn put_where(found: &mut [u32], at: usize, end: u8, kind: u8, index: usize, 
 pub fn put_rackings(found: &mut [u32], at: usize, end: u8, xs: &[i32], n: usize) -> usize
     requires { (n ≤ 10) × (n ≤ length xs.now) × (at + n ≤ length found.old) }
     ensures { Put found.old at
-        (findingsOver end 1 1 (λ i. nat_abs (get_or xs.now (i - 1) (pos 0))) (λ i. rackingLimit) n)
+        (findings_over end 1 1 (λ i. nat_abs (get_or xs.now (i - 1) (pos 0))) (λ i. racking_limit) n)
         found.new result × (result ≤ at + n) }
 {
     let mut next = at;
@@ -54,7 +54,7 @@ pub fn put_over(
     n: usize,
 ) -> usize
     requires { (first ≤ 1) × (n ≤ 10) × (first + n ≤ length xs.now) × (at + n ≤ length found.old) }
-    ensures { Put found.old at (findingsOver end kind first (λ i. get_or xs.now i 0) (λ i. limit) n)
+    ensures { Put found.old at (findings_over end kind first (λ i. get_or xs.now i 0) (λ i. limit) n)
         found.new result × (result ≤ at + n) }
 {
     let mut next = at;
@@ -77,7 +77,7 @@ pub fn put_pulls(
     m: usize,
 ) -> usize
     requires { (m ≤ 8) × (m ≤ length xs.now) × (at + m ≤ length found.old) }
-    ensures { Put found.old at (findingsOver end 5 0 (λ j. get_or xs.now j 0) (lashLimit lashes) m)
+    ensures { Put found.old at (findings_over end 5 0 (λ j. get_or xs.now j 0) (lash_limit lashes) m)
         found.new result × (result ≤ at + m) }
 {
     let mut next = at;

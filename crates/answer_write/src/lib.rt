@@ -4,10 +4,10 @@ ghost use mathlib.Core.List.{flat_map};
 ghost use Rattle.std.specs.Prelude.{◌≡◌, ◌+◌, ◌*◌, ◌≤◌, pos, length, get_or, take};
 ghost use Rattle.std.proofs.lemmas.List.Edits.{sets};
 ghost use Rattle.arith.specs.Bytes.{bytes4, twos};
-ghost use Rattle.statics.specs.inner.InArrays.{Lengths, figuresIn};
+ghost use Rattle.statics.specs.Inner.InArrays.{Lengths, figures_in};
 ghost use Rattle.arith.specs.Lists.{counted};
-ghost use Rattle.answer_put.specs.inner.Puts.{word_bytes};
-ghost use Rattle.answer_write.specs.inner.Encoding.{Wrote, lashBytes, endBytesOf};
+ghost use Rattle.answer_put.specs.Inner.Puts.{word_bytes};
+ghost use Rattle.answer_write.specs.Inner.Encoding.{Wrote, lash_bytes, end_bytes_of};
 
 use arith::bytes::{write_signed, write1, write4};
 
@@ -55,7 +55,7 @@ fn write_figures(answer: &mut [u8], at: usize, xs: &[u32], n: usize) -> usize
 // The three forces of a lash.
 fn write_lash(answer: &mut [u8], at: usize, pull: u32, athwart: u32, vertical: u32) -> usize
     requires { at + 12 ≤ length answer.old }
-    ensures { Wrote answer.old at (lashBytes pull athwart vertical) answer.new result × (result ≡ at + 12) }
+    ensures { Wrote answer.old at (lash_bytes pull athwart vertical) answer.new result × (result ≡ at + 12) }
 {
     write_figure(answer, at, pull);
     write_figure(answer, at + 4, athwart);
@@ -75,7 +75,7 @@ fn write_lashes<'a>(
     requires { (m ≤ 8) × (m ≤ length pull.now) × (m ≤ length athwart.now) × (m ≤ length vertical.now)
         × (at + 1 + 12 * m ≤ length answer.old) }
     ensures { Wrote answer.old at
-        (counted m (λ j. lashBytes (get_or pull.now j 0) (get_or athwart.now j 0) (get_or vertical.now j 0)))
+        (counted m (λ j. lash_bytes (get_or pull.now j 0) (get_or athwart.now j 0) (get_or vertical.now j 0)))
         answer.new result × (result ≡ at + 1 + 12 * m) }
 {
     write1(answer, at, m as u64);
@@ -100,7 +100,7 @@ pub fn write_end(
 ) -> usize
     requires { (n ≤ 10) × (m ≤ 8) × (at + 8 + 12 * n + 12 * m ≤ length answer.old) × Lengths racking.now levels.now forces.now }
     ensures { Wrote answer.old at
-        (endBytesOf n m (figuresIn racking.now levels.now forces.now)) answer.new result
+        (end_bytes_of n m (figures_in racking.now levels.now forces.now)) answer.new result
         × (result ≡ at + 8 + 12 * n + 12 * m) }
 {
     let second = 11;

@@ -20,9 +20,9 @@
 --     to h             h : a ≤ b gives b - a
 --     times m e        e : a ≡ b gives m * (a - b), for any expression m
 --     sq e             e * e;      num n   the number n
--- and z is joined by ⊹ from `mul-eq m e`, which is m * (a - b) too. Expressions: v 0, kp 3 (3), kn 3 (-4), ⊕, ⊖, ⊗ and ⊖ v 0.
+-- and z is joined by ⊹ from `mul_eq m e`, which is m * (a - b) too. Expressions: v 0, kp 3 (3), kn 3 (-4), ⊕, ⊖, ⊗ and ⊖ v 0.
 -- To find c: write b - a as a sum of products of what is not below 0. Where `tt` is refused (⊥ against Unit), `look c ?` in place of
--- `by-cert c tt`, checked with --allow-holes, prints what is left: `negsuc 0 · (1 ∷ 2 ∷ [])` is - v 1 * v 2.
+-- `by_cert c tt`, checked with --allow-holes, prints what is left: `negsuc 0 · (1 ∷ 2 ∷ [])` is - v 1 * v 2.
 --
 -- A linear statement over ℤ, absolute values too, needs no certificate: `all₃ _ λ p n q m r s. simp zs (omega arith)`, two naturals a
 -- variable.
@@ -33,68 +33,68 @@ use native.Mathlib.Omega.{arith}
 use lib.IntN.{ℤ, pos, ◌+ℤ◌, ◌-ℤ◌, ◌*ℤ◌}
 use Rattle.arith.specs.Fractions.{Frac, nat, ◌≈◌, ◌⊑◌, ◌+q◌, ◌*q◌, ◌/q◌}
 use Rattle.arith.proofs.Polynomials.{v, ◌⊖◌, ⊖◌}
-use Rattle.arith.proofs.Rings.{ORing, ∀₂, ∀₃, ∀₄, ∀₈, by-ring, by-cert, by-eqs, part, over, to, sq, mul-eq, gq, ◌⊞◌, ◌⊠◌, ◌⊹◌}
+use Rattle.arith.proofs.Rings.{ORing, ∀₂, ∀₃, ∀₄, ∀₈, by_ring, by_cert, by_eqs, part, over, to, sq, mul_eq, gq, ◌⊞◌, ◌⊠◌, ◌⊹◌}
 use Rattle.arith.proofs.Integers.{ℤR, ◌≼◌}
 use Rattle.arith.proofs.IntegerTerms.{zq}
 use Rattle.arith.proofs.IntegerOrder.{abs}
 use Rattle.arith.proofs.IntegerOmega.{all₃, zs}
-use Rattle.arith.proofs.Rationals.{ℚR, ℚ, mk, int, recipℚ, recip-times, ◌+ℚ◌, ◌-ℚ◌, ◌*ℚ◌, ◌/ℚ◌, ◌≤ℚ◌, absℚ, negℚ, of-⊑, to-⊑}
+use Rattle.arith.proofs.Rationals.{ℚR, ℚ, mk, int, recipℚ, recip_times, ◌+ℚ◌, ◌-ℚ◌, ◌*ℚ◌, ◌/ℚ◌, ◌≤ℚ◌, absℚ, negℚ, of-⊑, to-⊑}
 use Rattle.arith.proofs.RationalTerms.{qq}
-use Rattle.arith.proofs.RationalOrder.{above-0}
-use Rattle.arith.proofs.Signs.{ge-q, ge-neg-q, absℚ-le}
+use Rattle.arith.proofs.RationalOrder.{above_0}
+use Rattle.arith.proofs.Signs.{ge_q, ge_neg_q, absℚ_le}
 use Rattle.arith.proofs.FractionsInRationals.{to-≈, toℚ}
 
 -- an identity
-pub square-of-sum : (a b : ℤ) → (a +ℤ b) *ℤ (a +ℤ b) ≡ a *ℤ a +ℤ pos 2 *ℤ a *ℤ b +ℤ b *ℤ b
-square-of-sum = ∀₂ ℤR _ λ ρ. simp zq (by-ring tt)
+pub square_of_sum : (a b : ℤ) → (a +ℤ b) *ℤ (a +ℤ b) ≡ a *ℤ a +ℤ pos 2 *ℤ a *ℤ b +ℤ b *ℤ b
+square_of_sum = ∀₂ ℤR _ λ ρ. simp zq (by_ring tt)
 
 -- the same in any ordered ring
-pub square-of-difference :
+pub square_of_difference :
     (R : ORing) (a b : R.C) →
     R.times (R.plus a (R.minus b)) (R.plus a (R.minus b)) ≡
     R.plus (R.plus (R.times a a) (R.minus (R.times (R.int (pos 2)) (R.times a b)))) (R.times b b)
-square-of-difference R = ∀₂ R _ λ ρ. simp gq (by-ring tt)
+square_of_difference R = ∀₂ R _ λ ρ. simp gq (by_ring tt)
 
 -- an inequality: 4 a b is below the square of a + b by the square of a - b
 pub four_products : (a b : ℚ) → int (pos 4) *ℚ (a *ℚ b) ≤ℚ (a +ℚ b) *ℚ (a +ℚ b)
-four_products = ∀₂ ℚR _ λ ρ. simp qq (by-cert (sq (v 0 ⊖ v 1)) tt)
+four_products = ∀₂ ℚR _ λ ρ. simp qq (by_cert (sq (v 0 ⊖ v 1)) tt)
 
 -- from hypotheses: products of what is not below 0
 pub grows : (a b c : ℚ) → int (pos 0) ≤ℚ c → a ≤ℚ b → c *ℚ a ≤ℚ c *ℚ b
-grows = ∀₃ ℚR _ λ ρ. simp qq λ h l. by-cert (to h ⊠ to l) tt
+grows = ∀₃ ℚR _ λ ρ. simp qq λ h l. by_cert (to h ⊠ to l) tt
 
 -- the goal twice: half and half
 pub halves : (a b c : ℚ) → int (pos 2) *ℚ a ≤ℚ c → int (pos 2) *ℚ b ≤ℚ c → a +ℚ b ≤ℚ c
 halves = ∀₃ ℚR _ λ ρ. simp qq λ h l. part 1 (to h ⊞ to l) tt
 
 -- the goal times a factor above 0
-pub cancel-factor : (m a b : ℚ) → ¬ (m ≤ℚ int (pos 0)) → m *ℚ a ≤ℚ m *ℚ b → a ≤ℚ b
-cancel-factor = ∀₃ ℚR _ λ ρ. simp qq λ h l. over (v 0) h (to l) tt
+pub cancel_factor : (m a b : ℚ) → ¬ (m ≤ℚ int (pos 0)) → m *ℚ a ≤ℚ m *ℚ b → a ≤ℚ b
+cancel_factor = ∀₃ ℚR _ λ ρ. simp qq λ h l. over (v 0) h (to l) tt
 
 -- an equation from equations: p = a r, where p d = a and d r = 1
 pub solved : (p a d r : ℚ) → p *ℚ d ≡ a → d *ℚ r ≡ int (pos 1) → p ≡ a *ℚ r
-solved = ∀₄ ℚR _ λ ρ. simp qq λ e f. by-eqs (mul-eq (v 3) e ⊹ mul-eq (⊖ v 0) f) tt
+solved = ∀₄ ℚR _ λ ρ. simp qq λ e f. by_eqs (mul_eq (v 3) e ⊹ mul_eq (⊖ v 0) f) tt
 
 -- a division: its reciprocal is a variable
-pub half-and-half : (p : ℚ) → p /ℚ int (pos 2) +ℚ p /ℚ int (pos 2) ≡ p
-half-and-half p = go p (recipℚ (int (pos 2))) (recip-times (int (pos 2)) (above-0 2 (omega arith)))
+pub half_and_half : (p : ℚ) → p /ℚ int (pos 2) +ℚ p /ℚ int (pos 2) ≡ p
+half_and_half p = go p (recipℚ (int (pos 2))) (recip_times (int (pos 2)) (above_0 2 (omega arith)))
   where
     go : (p r : ℚ) → int (pos 2) *ℚ r ≡ int (pos 1) → p *ℚ r +ℚ p *ℚ r ≡ p
-    go = ∀₂ ℚR _ λ ρ. simp qq λ e. by-eqs (mul-eq (v 0) e) tt
+    go = ∀₂ ℚR _ λ ρ. simp qq λ e. by_eqs (mul_eq (v 0) e) tt
 
 -- a linear statement on ℤ with absolute values, by omega
 pub triangle : (x y z : ℤ) → abs (x -ℤ z) ≼ abs (x -ℤ y) +ℤ abs (y -ℤ z)
 triangle = all₃ _ λ p n q m r s. simp zs (omega arith)
 
--- over ℚ an absolute value is a variable (x, y) of which `ge-q` and `ge-neg-q` are known: two errors add up
-pub errors-add : (p a q b e f : ℚ) → absℚ (p -ℚ a) ≤ℚ e → absℚ (q -ℚ b) ≤ℚ f → absℚ (p +ℚ q -ℚ (a +ℚ b)) ≤ℚ e +ℚ f
-errors-add p a q b e f h l =
-    absℚ-le (p +ℚ q -ℚ (a +ℚ b)) (e +ℚ f)
-    (up p a q b e f (absℚ (p -ℚ a)) (absℚ (q -ℚ b)) (ge-q (p -ℚ a)) (ge-q (q -ℚ b)) h l)
-    (down p a q b e f (absℚ (p -ℚ a)) (absℚ (q -ℚ b)) (ge-neg-q (p -ℚ a)) (ge-neg-q (q -ℚ b)) h l)
+-- over ℚ an absolute value is a variable (x, y) of which `ge_q` and `ge_neg_q` are known: two errors add up
+pub errors_add : (p a q b e f : ℚ) → absℚ (p -ℚ a) ≤ℚ e → absℚ (q -ℚ b) ≤ℚ f → absℚ (p +ℚ q -ℚ (a +ℚ b)) ≤ℚ e +ℚ f
+errors_add p a q b e f h l =
+    absℚ_le (p +ℚ q -ℚ (a +ℚ b)) (e +ℚ f)
+    (up p a q b e f (absℚ (p -ℚ a)) (absℚ (q -ℚ b)) (ge_q (p -ℚ a)) (ge_q (q -ℚ b)) h l)
+    (down p a q b e f (absℚ (p -ℚ a)) (absℚ (q -ℚ b)) (ge_neg_q (p -ℚ a)) (ge_neg_q (q -ℚ b)) h l)
   where
     up : (p a q b e f x y : ℚ) → p -ℚ a ≤ℚ x → q -ℚ b ≤ℚ y → x ≤ℚ e → y ≤ℚ f → p +ℚ q -ℚ (a +ℚ b) ≤ℚ e +ℚ f
-    up = ∀₈ ℚR _ λ ρ. simp qq λ s t h l. by-cert (to s ⊞ to t ⊞ to h ⊞ to l) tt
+    up = ∀₈ ℚR _ λ ρ. simp qq λ s t h l. by_cert (to s ⊞ to t ⊞ to h ⊞ to l) tt
 
     down :
         (p a q b e f x y : ℚ) →
@@ -103,14 +103,14 @@ errors-add p a q b e f h l =
         x ≤ℚ e →
         y ≤ℚ f →
         negℚ (p +ℚ q -ℚ (a +ℚ b)) ≤ℚ e +ℚ f
-    down = ∀₈ ℚR _ λ ρ. simp qq λ s t h l. by-cert (to s ⊞ to t ⊞ to h ⊞ to l) tt
+    down = ∀₈ ℚR _ λ ρ. simp qq λ s t h l. by_cert (to s ⊞ to t ⊞ to h ⊞ to l) tt
 
 -- statements in fractions, through ℚ
-pub half-and-half-q : (x : Frac) → x /q nat 2 +q x /q nat 2 ≈ x
-half-and-half-q x = to-≈ (x /q nat 2 +q x /q nat 2) x (simp toℚ (half-and-half (mk x)))
+pub half_and_half_q : (x : Frac) → x /q nat 2 +q x /q nat 2 ≈ x
+half_and_half_q x = to-≈ (x /q nat 2 +q x /q nat 2) x (simp toℚ (half_and_half (mk x)))
 
 pub doubled : (x y : Frac) → x ⊑ y → nat 2 *q x ⊑ x +q y
 doubled x y h = to-⊑ (nat 2 *q x) (x +q y) (simp toℚ (go (mk x) (mk y) (of-⊑ x y h)))
   where
     go : (p q : ℚ) → p ≤ℚ q → int (pos 2) *ℚ p ≤ℚ p +ℚ q
-    go = ∀₂ ℚR _ λ ρ. simp qq λ h. by-cert (to h) tt
+    go = ∀₂ ℚR _ λ ρ. simp qq λ h. by_cert (to h) tt

@@ -12,92 +12,92 @@ use lib.Seq.{sets, sets-eq, get_or-append-add, length-take-le}
 use lib.Signed.{lt_z}
 use mir.Syntax.{w32, w64}
 use mir.Val.{Fits, SFits}
-use Rattle.arith.specs.Bytes.{le2, le4, bytes2, bytes4, twos, ofTwos, signed4}
+use Rattle.arith.specs.Bytes.{le2, le4, bytes2, bytes4, twos, of_twos, signed4}
 
 -- digits of base 256
 digits2 : (v : ℕ) → v < 65536 → v % 256 + 256 * (v / 256 % 256) ≡ v
 digits2 v h = omega arith
 
-digits4-of :
+digits4_of :
     (v a b d : ℕ) →
     a ≡ v / 256 →
     b ≡ a / 256 →
     d ≡ b / 256 →
     v < 4294967296 →
     v % 256 + 256 * (a % 256) + 65536 * (b % 256 + 256 * (d % 256)) ≡ v
-digits4-of v a b d p q r h = omega arith
+digits4_of v a b d p q r h = omega arith
 
 digits4 : (v : ℕ) → v < 4294967296 → v % 256 + 256 * (v / 256 % 256) + 65536 * (v / 65536 % 256 + 256 * (v / 16777216 % 256)) ≡ v
 digits4 v h =
-    digits4-of v (v / 256) (v / 65536) (v / 16777216) refl (sym (div-div-eq-div-mul v 256 256)) (sym (div-div-eq-div-mul v 65536 256)) h
+    digits4_of v (v / 256) (v / 65536) (v / 16777216) refl (sym (div-div-eq-div-mul v 256 256)) (sym (div-div-eq-div-mul v 65536 256)) h
 
 -- the element n places into the second list
-pub getD-behind : (a ys : List ℕ) (at n : ℕ) → length a ≡ at → get_or (a ++ ys) (at + n) 0 ≡ get_or ys n 0
-getD-behind a ys at n e = rw (← e) (get_or-append-add a ys n 0)
+pub get_d_behind : (a ys : List ℕ) (at n : ℕ) → length a ≡ at → get_or (a ++ ys) (at + n) 0 ≡ get_or ys n 0
+get_d_behind a ys at n e = rw (← e) (get_or-append-add a ys n 0)
 
-getD-first : (a ys : List ℕ) (at : ℕ) → length a ≡ at → get_or (a ++ ys) at 0 ≡ get_or ys 0 0
-getD-first a ys at e = rw (add-zero at) at (getD-behind a ys at 0 e)
+get_d_first : (a ys : List ℕ) (at : ℕ) → length a ≡ at → get_or (a ++ ys) at 0 ≡ get_or ys 0 0
+get_d_first a ys at e = rw (add-zero at) at (get_d_behind a ys at 0 e)
 
 -- the number whose bytes stand between a and b
 module _ (v : ℕ) (a b : List ℕ) (at : ℕ) (e : length a ≡ at) where
-  pub le2-back : v < 65536 → le2 (a ++ (bytes2 v ++ b)) at ≡ v
-  le2-back h =
-      rw (getD-first a (bytes2 v ++ b) at e, getD-behind a (bytes2 v ++ b) at 1 e) (digits2 v h)
+  pub le2_back : v < 65536 → le2 (a ++ (bytes2 v ++ b)) at ≡ v
+  le2_back h =
+      rw (get_d_first a (bytes2 v ++ b) at e, get_d_behind a (bytes2 v ++ b) at 1 e) (digits2 v h)
 
-  pub le4-back : v < 4294967296 → le4 (a ++ (bytes4 v ++ b)) at ≡ v
-  le4-back h =
+  pub le4_back : v < 4294967296 → le4 (a ++ (bytes4 v ++ b)) at ≡ v
+  le4_back h =
       let l = a ++ (bytes4 v ++ b) in
       let r : at + 2 + 1 ≡ at + 3 = omega arith in
-      let e3 : get_or l (at + 2 + 1) 0 ≡ v / 16777216 % 256 = rw r (getD-behind a (bytes4 v ++ b) at 3 e) in
-      rw (getD-first a (bytes4 v ++ b) at e, getD-behind a (bytes4 v ++ b) at 1 e, getD-behind a (bytes4 v ++ b) at 2 e, e3)
+      let e3 : get_or l (at + 2 + 1) 0 ≡ v / 16777216 % 256 = rw r (get_d_behind a (bytes4 v ++ b) at 3 e) in
+      rw (get_d_first a (bytes4 v ++ b) at e, get_d_behind a (bytes4 v ++ b) at 1 e, get_d_behind a (bytes4 v ++ b) at 2 e, e3)
       (digits4 v h)
 
 -- the same after stores at `at`
 module _ (v : ℕ) (l : List ℕ) (at : ℕ) where
-  pub le2-stored : v < 65536 → at + 2 ≤ length l → le2 (sets l at (bytes2 v)) at ≡ v
-  le2-stored h r =
+  pub le2_stored : v < 65536 → at + 2 ≤ length l → le2 (sets l at (bytes2 v)) at ≡ v
+  le2_stored h r =
       let s : at ≤ length l = omega arith in
-      rw (sets-eq (bytes2 v) l at r, append_assoc) (le2-back v (take at l) (drop (at + 2) l) at (length-take-le at l s) h)
+      rw (sets-eq (bytes2 v) l at r, append_assoc) (le2_back v (take at l) (drop (at + 2) l) at (length-take-le at l s) h)
 
-  pub le4-stored : v < 4294967296 → at + 4 ≤ length l → le4 (sets l at (bytes4 v)) at ≡ v
-  le4-stored h r =
+  pub le4_stored : v < 4294967296 → at + 4 ≤ length l → le4 (sets l at (bytes4 v)) at ≡ v
+  le4_stored h r =
       let s : at ≤ length l = omega arith in
-      rw (sets-eq (bytes4 v) l at r, append_assoc) (le4-back v (take at l) (drop (at + 4) l) at (length-take-le at l s) h)
+      rw (sets-eq (bytes4 v) l at r, append_assoc) (le4_back v (take at l) (drop (at + 4) l) at (length-take-le at l s) h)
 
 -- the bits of a signed number of 32 bits
-pub twos-lt : (z : ℤ) → SFits w32 z → twos z < 4294967296
+pub twos_lt : (z : ℤ) → SFits w32 z → twos z < 4294967296
 unfolding twos
-twos-lt (pos n) f = omega (arith, f.sfits)
-twos-lt (negsuc n) f = omega arith
+twos_lt (pos n) f = omega (arith, f.sfits)
+twos_lt (negsuc n) f = omega arith
 
-back-neg : (n : ℕ) → n < 2147483648 → 4294967296 - suc (4294967296 - suc n) ≡ n
-back-neg n h = omega arith
+back_neg : (n : ℕ) → n < 2147483648 → 4294967296 - suc (4294967296 - suc n) ≡ n
+back_neg n h = omega arith
 
-pub twos_back : (z : ℤ) → SFits w32 z → ofTwos (twos z) ≡ z
-unfolding twos ofTwos
+pub twos_back : (z : ℤ) → SFits w32 z → of_twos (twos z) ≡ z
+unfolding twos of_twos
 twos_back (pos n) f = rw (lt-ltb n 2147483648 f.sfits) refl
 twos_back (negsuc n) f =
     let v = 4294967296 - suc n in
     let h : n < 2147483648 = f.sfits in
     let up : 2147483648 ≤ v = omega arith in
     let below : v < 4294967296 = omega arith in
-    rw (le-ltb v 2147483648 up, lt-ltb v 4294967296 below) (ap negsuc (back-neg n h))
+    rw (le-ltb v 2147483648 up, lt-ltb v 4294967296 below) (ap negsuc (back_neg n h))
 
 -- the four bytes of a signed number read back as the number: where they stand between a and b, and after stores
 pub signed_back : (z : ℤ) → SFits w32 z → (a b : List ℕ) (at : ℕ) → length a ≡ at → signed4 (a ++ (bytes4 (twos z) ++ b)) at ≡ z
-signed_back z f a b at e = ap ofTwos (le4-back (twos z) a b at e (twos-lt z f)) ∙ twos_back z f
+signed_back z f a b at e = ap of_twos (le4_back (twos z) a b at e (twos_lt z f)) ∙ twos_back z f
 
-pub signed-stored : (z : ℤ) → SFits w32 z → (l : List ℕ) (at : ℕ) → at + 4 ≤ length l → signed4 (sets l at (bytes4 (twos z))) at ≡ z
-signed-stored z f l at r = ap ofTwos (le4-stored (twos z) l at (twos-lt z f) r) ∙ twos_back z f
+pub signed_stored : (z : ℤ) → SFits w32 z → (l : List ℕ) (at : ℕ) → at + 4 ≤ length l → signed4 (sets l at (bytes4 (twos z))) at ≡ z
+signed_stored z f l at r = ap of_twos (le4_stored (twos z) l at (twos_lt z f) r) ∙ twos_back z f
 
 -- what the function `bits` computes
-not-below : (n : ℕ) → n < 0 → ⊥
-not-below n h = omega arith
+not_below_lem : (n : ℕ) → n < 0 → ⊥
+not_below_lem n h = omega arith
 
-pub below-zero : (z : ℤ) → SFits w32 z → lt_z z (pos 0) ≡ true → pos 4294967296 +ℤ z ≡ pos (twos z)
+pub below_zero : (z : ℤ) → SFits w32 z → lt_z z (pos 0) ≡ true → pos 4294967296 +ℤ z ≡ pos (twos z)
 unfolding twos
-below-zero (pos n) f e = absurd (not-below n (ltb-true n 0 e))
-below-zero (negsuc n) f e = simp (le-ltb 4294967296 (suc n) (omega (arith, f.sfits)))
+below_zero (pos n) f e = absurd (not_below_lem n (ltb-true n 0 e))
+below_zero (negsuc n) f e = simp (le-ltb 4294967296 (suc n) (omega (arith, f.sfits)))
 
 pub from_zero : (z : ℤ) → lt_z z (pos 0) ≡ false → z ≡ pos (twos z)
 unfolding twos
@@ -108,7 +108,7 @@ pub wide64 : {z : ℤ} → SFits w32 z → SFits w64 z
 wide64 {z} f = record { sfits = omega (arith, f.sfits) }
 
 pub twos64 : (z : ℤ) → SFits w32 z → SFits w64 (pos (twos z))
-twos64 z f = record { sfits = omega (arith, twos-lt z f) }
+twos64 z f = record { sfits = omega (arith, twos_lt z f) }
 
-pub twosU : (z : ℤ) → SFits w32 z → Fits w64 (twos z)
-twosU z f = record { fits = omega (arith, twos-lt z f) }
+pub twos_u : (z : ℤ) → SFits w32 z → Fits w64 (twos z)
+twos_u z f = record { fits = omega (arith, twos_lt z f) }

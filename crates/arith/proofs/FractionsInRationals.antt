@@ -10,48 +10,48 @@ use lib.IntN.{ℤ, pos, negsuc, ◌*ℤ◌}
 use lib.Signed.{◌≤ℤ◌, ◌<ℤ◌, le_z, lt_z, lt_z_no, clash_ℤ}
 use Rattle.arith.specs.Fractions as F
 use Rattle.arith.specs.Fractions.{Frac, ◌≈◌, ◌⊑◌, ◌⊏◌, ◌+q◌, ◌-q◌, ◌*q◌, ◌/q◌, negq, absq, recip, sumq}
-use Rattle.arith.proofs.Rings.{∀₂, by-cert, to}
+use Rattle.arith.proofs.Rings.{∀₂, by_cert, to}
 use Rattle.arith.proofs.Integers.{ℤR, ◌≼◌}
 use Rattle.arith.proofs.IntegerTerms.{zq}
 use Rattle.arith.proofs.Rationals.{ℚ, mk, same, int, ◌+ℚ◌, ◌-ℚ◌, ◌*ℚ◌, ◌/ℚ◌, negℚ, recipℚ, absℚ, ◌≤ℚ◌, ◌<ℚ◌, leℚ, to-⊑}
-use Rattle.arith.proofs.Signs.{same-le, on}
+use Rattle.arith.proofs.Signs.{same_le, on}
 use Rattle.arith.proofs.FractionLaws.{⊑-antisym}
 
-pub mk-int : (z : ℤ) → mk (F.int z) ≡ int z
+pub mk_int : (z : ℤ) → mk (F.int z) ≡ int z
 unfolding int
-mk-int z = refl
+mk_int z = refl
 
-pub mk-add : (x y : Frac) → mk (x +q y) ≡ mk x +ℚ mk y
+pub mk_add : (x y : Frac) → mk (x +q y) ≡ mk x +ℚ mk y
 unfolding ◌+ℚ◌
-mk-add x y = refl
+mk_add x y = refl
 
-pub mk-neg : (x : Frac) → mk (negq x) ≡ negℚ (mk x)
+pub mk_neg : (x : Frac) → mk (negq x) ≡ negℚ (mk x)
 unfolding negℚ
-mk-neg x = refl
+mk_neg x = refl
 
-pub mk-sub : (x y : Frac) → mk (x -q y) ≡ mk x -ℚ mk y
+pub mk_sub : (x y : Frac) → mk (x -q y) ≡ mk x -ℚ mk y
 unfolding ◌+ℚ◌ negℚ
-mk-sub x y = refl
+mk_sub x y = refl
 
-pub mk-mul : (x y : Frac) → mk (x *q y) ≡ mk x *ℚ mk y
+pub mk_mul : (x y : Frac) → mk (x *q y) ≡ mk x *ℚ mk y
 unfolding ◌*ℚ◌
-mk-mul x y = refl
+mk_mul x y = refl
 
-pub mk-recip : (x : Frac) → mk (recip x) ≡ recipℚ (mk x)
+pub mk_recip : (x : Frac) → mk (recip x) ≡ recipℚ (mk x)
 unfolding recipℚ
-mk-recip x = refl
+mk_recip x = refl
 
-pub mk-div : (x y : Frac) → mk (x /q y) ≡ mk x /ℚ mk y
+pub mk_div : (x y : Frac) → mk (x /q y) ≡ mk x /ℚ mk y
 unfolding ◌*ℚ◌ recipℚ
-mk-div x y = refl
+mk_div x y = refl
 
 -- the size
 -- the sign of a fraction is that of its top
-top-nn : (a b : ℤ) → (pos 0 *ℤ b) ≤ℤ (a *ℤ pos 1) → pos 0 ≼ a
-top-nn = ∀₂ ℤR _ λ ρ. simp zq λ h. by-cert (to h) tt
+top_nn : (a b : ℤ) → (pos 0 *ℤ b) ≤ℤ (a *ℤ pos 1) → pos 0 ≼ a
+top_nn = ∀₂ ℤR _ λ ρ. simp zq λ h. by_cert (to h) tt
 
-top-np : (a b : ℤ) → (a *ℤ pos 1) ≤ℤ (pos 0 *ℤ b) → a ≼ pos 0
-top-np = ∀₂ ℤR _ λ ρ. simp zq λ h. by-cert (to h) tt
+top_np : (a b : ℤ) → (a *ℤ pos 1) ≤ℤ (pos 0 *ℤ b) → a ≼ pos 0
+top_np = ∀₂ ℤR _ λ ρ. simp zq λ h. by_cert (to h) tt
 
 up : (x : Frac) → pos 0 ≼ x.top → mk (absq x) ≡ mk x
 up x h = go x.top x.bot x.ok h
@@ -74,30 +74,30 @@ down x h = go x.top x.bot x.ok h
         no_less l = omega arith
     go (negsuc n) b p h = refl
 
-pub mk-abs : (x : Frac) → mk (absq x) ≡ absℚ (mk x)
+pub mk_abs : (x : Frac) → mk (absq x) ≡ absℚ (mk x)
 unfolding absℚ int negℚ
-mk-abs x =
+mk_abs x =
     on (mk x) (λ c. mk (absq x) ≡ cond c (mk x) (negℚ (mk x)))
-    (λ h. up x (top-nn x.top x.bot (to-⊑ (F.int (pos 0)) x h).cross))
-    (λ h. down x (top-np x.top x.bot (to-⊑ x (F.int (pos 0)) h).cross))
+    (λ h. up x (top_nn x.top x.bot (to-⊑ (F.int (pos 0)) x h).cross))
+    (λ h. down x (top_np x.top x.bot (to-⊑ x (F.int (pos 0)) h).cross))
 
 -- equality and order
 pub to-≈ : (x y : Frac) → mk x ≡ mk y → x ≈ y
 to-≈ x y e =
-    ⊑-antisym x y (to-⊑ x y (subst (λ z. mk x ≤ℚ z) e (same-le (mk x)))) (to-⊑ y x (subst (λ z. z ≤ℚ mk x) e (same-le (mk x))))
+    ⊑-antisym x y (to-⊑ x y (subst (λ z. mk x ≤ℚ z) e (same_le (mk x)))) (to-⊑ y x (subst (λ z. z ≤ℚ mk x) e (same_le (mk x))))
 
 pub of-≈ : (x y : Frac) → x ≈ y → mk x ≡ mk y
 of-≈ x y h = same h
 
-not-le : (a b : ℤ) → a <ℤ b → T (not (le_z b a))
-not-le a b h = go (le_z b a) refl
+not_le : (a b : ℤ) → a <ℤ b → T (not (le_z b a))
+not_le a b h = go (le_z b a) refl
   where
     go : (c : Bool) → le_z b a ≡ c → T (not c)
     go true e = absurd (clash_ℤ h (record { le = subst T (sym e) tt }))
     go false e = tt
 
-not-ge : (a b : ℤ) → T (not (le_z b a)) → a <ℤ b
-not-ge a b t = go (lt_z a b) refl
+not_ge : (a b : ℤ) → T (not (le_z b a)) → a <ℤ b
+not_ge a b t = go (lt_z a b) refl
   where
     go : (c : Bool) → lt_z a b ≡ c → a <ℤ b
     go true e = record { lt = subst T (sym e) tt }
@@ -108,20 +108,20 @@ not-ge a b t = go (lt_z a b) refl
 
 pub of-⊏ : (x y : Frac) → x ⊏ y → mk x <ℚ mk y
 unfolding leℚ
-of-⊏ x y h = record { lt = not-le (x.top *ℤ y.bot) (y.top *ℤ x.bot) h.cross }
+of-⊏ x y h = record { lt = not_le (x.top *ℤ y.bot) (y.top *ℤ x.bot) h.cross }
 
 pub to-⊏ : (x y : Frac) → mk x <ℚ mk y → x ⊏ y
 unfolding leℚ
-to-⊏ x y h = record { cross = not-ge (x.top *ℤ y.bot) (y.top *ℤ x.bot) h.lt }
+to-⊏ x y h = record { cross = not_ge (x.top *ℤ y.bot) (y.top *ℤ x.bot) h.lt }
 
 -- sums over lists
 unfoldable pub sumℚ : {A : Type 0} → (A → ℚ) → List A → ℚ
 sumℚ f [] = int (pos 0)
 sumℚ f (x ∷ xs) = f x +ℚ sumℚ f xs
 
-pub mk-sum : {A : Type 0} (f : A → Frac) (xs : List A) → mk (sumq f xs) ≡ sumℚ (λ a. mk (f a)) xs
+pub mk_sum : {A : Type 0} (f : A → Frac) (xs : List A) → mk (sumq f xs) ≡ sumℚ (λ a. mk (f a)) xs
 unfolding sumq sumℚ int
-mk-sum f [] = refl
-mk-sum f (x ∷ xs) = mk-add (f x) (sumq f xs) ∙ ap (λ z. mk (f x) +ℚ z) (mk-sum f xs)
+mk_sum f [] = refl
+mk_sum f (x ∷ xs) = mk_add (f x) (sumq f xs) ∙ ap (λ z. mk (f x) +ℚ z) (mk_sum f xs)
 
-pub ruleset toℚ = (mk-int, mk-add, mk-neg, mk-mul, mk-recip, mk-abs, mk-sum)
+pub ruleset toℚ = (mk_int, mk_add, mk_neg, mk_mul, mk_recip, mk_abs, mk_sum)

@@ -1,4 +1,4 @@
--- `simp zq`: statements over ℤ read as statements between expressions. `law = ∀₃ ℤR _ λ ρ. simp zq (by-ring tt)`.
+-- `simp zq`: statements over ℤ read as statements between expressions. `law = ∀₃ ℤR _ λ ρ. simp zq (by_ring tt)`.
 use mathlib.Core.Path.{◌≡◌}
 use mathlib.Core.Logic.{◌↔◌}
 use mathlib.Core.List.{List}
@@ -9,89 +9,89 @@ use Rattle.arith.proofs.Rings as O
 use Rattle.arith.proofs.Rings.{X, Eq, Le}
 use Rattle.arith.proofs.Integers.{ℤR, ◌≼◌}
 
-pub z-add : (ρ : List ℤ) (a b : E) → X ℤR ρ a +ℤ X ℤR ρ b ≡ X ℤR ρ (a ⊕ b)
-z-add = O.q_add ℤR
+pub z_add : (ρ : List ℤ) (a b : E) → X ℤR ρ a +ℤ X ℤR ρ b ≡ X ℤR ρ (a ⊕ b)
+z_add = O.q_add ℤR
 
-pub z-mul : (ρ : List ℤ) (a b : E) → X ℤR ρ a *ℤ X ℤR ρ b ≡ X ℤR ρ (a ⊗ b)
-z-mul = O.q-mul ℤR
+pub z_mul : (ρ : List ℤ) (a b : E) → X ℤR ρ a *ℤ X ℤR ρ b ≡ X ℤR ρ (a ⊗ b)
+z_mul = O.q_mul ℤR
 
-pub z-neg : (ρ : List ℤ) (a : E) → neg_ℤ (X ℤR ρ a) ≡ X ℤR ρ (⊖ a)
-z-neg = O.q-neg ℤR
+pub z_neg : (ρ : List ℤ) (a : E) → neg_ℤ (X ℤR ρ a) ≡ X ℤR ρ (⊖ a)
+z_neg = O.q_neg ℤR
 
-pub z-pos-add : (ρ : List ℤ) (n : ℕ) (b : E) → pos n +ℤ X ℤR ρ b ≡ X ℤR ρ (kp n ⊕ b)
-z-pos-add = O.q-pos-add ℤR
+pub z_pos_add : (ρ : List ℤ) (n : ℕ) (b : E) → pos n +ℤ X ℤR ρ b ≡ X ℤR ρ (kp n ⊕ b)
+z_pos_add = O.q_pos_add ℤR
 
-pub z-add-pos : (ρ : List ℤ) (n : ℕ) (b : E) → X ℤR ρ b +ℤ pos n ≡ X ℤR ρ (b ⊕ kp n)
-z-add-pos = O.q-add-pos ℤR
+pub z_add_pos : (ρ : List ℤ) (n : ℕ) (b : E) → X ℤR ρ b +ℤ pos n ≡ X ℤR ρ (b ⊕ kp n)
+z_add_pos = O.q_add_pos ℤR
 
-pub z-neg-add : (ρ : List ℤ) (n : ℕ) (b : E) → negsuc n +ℤ X ℤR ρ b ≡ X ℤR ρ (kn n ⊕ b)
-z-neg-add = O.q-neg-add ℤR
+pub z_neg_add : (ρ : List ℤ) (n : ℕ) (b : E) → negsuc n +ℤ X ℤR ρ b ≡ X ℤR ρ (kn n ⊕ b)
+z_neg_add = O.q_neg_add ℤR
 
-pub z-add-neg : (ρ : List ℤ) (n : ℕ) (b : E) → X ℤR ρ b +ℤ negsuc n ≡ X ℤR ρ (b ⊕ kn n)
-z-add-neg = O.q-add-neg ℤR
+pub z_add_neg : (ρ : List ℤ) (n : ℕ) (b : E) → X ℤR ρ b +ℤ negsuc n ≡ X ℤR ρ (b ⊕ kn n)
+z_add_neg = O.q_add_neg ℤR
 
-pub z-pos-mul : (ρ : List ℤ) (n : ℕ) (b : E) → pos n *ℤ X ℤR ρ b ≡ X ℤR ρ (kp n ⊗ b)
-z-pos-mul = O.q-pos-mul ℤR
+pub z_pos_mul : (ρ : List ℤ) (n : ℕ) (b : E) → pos n *ℤ X ℤR ρ b ≡ X ℤR ρ (kp n ⊗ b)
+z_pos_mul = O.q_pos_mul ℤR
 
-pub z-mul-pos : (ρ : List ℤ) (n : ℕ) (b : E) → X ℤR ρ b *ℤ pos n ≡ X ℤR ρ (b ⊗ kp n)
-z-mul-pos = O.q-mul-pos ℤR
+pub z_mul_pos : (ρ : List ℤ) (n : ℕ) (b : E) → X ℤR ρ b *ℤ pos n ≡ X ℤR ρ (b ⊗ kp n)
+z_mul_pos = O.q_mul_pos ℤR
 
-pub z-neg-mul : (ρ : List ℤ) (n : ℕ) (b : E) → negsuc n *ℤ X ℤR ρ b ≡ X ℤR ρ (kn n ⊗ b)
-z-neg-mul = O.q-neg-mul ℤR
+pub z_neg_mul : (ρ : List ℤ) (n : ℕ) (b : E) → negsuc n *ℤ X ℤR ρ b ≡ X ℤR ρ (kn n ⊗ b)
+z_neg_mul = O.q_neg_mul ℤR
 
-pub z-mul-neg : (ρ : List ℤ) (n : ℕ) (b : E) → X ℤR ρ b *ℤ negsuc n ≡ X ℤR ρ (b ⊗ kn n)
-z-mul-neg = O.q-mul-neg ℤR
+pub z_mul_neg : (ρ : List ℤ) (n : ℕ) (b : E) → X ℤR ρ b *ℤ negsuc n ≡ X ℤR ρ (b ⊗ kn n)
+z_mul_neg = O.q_mul_neg ℤR
 
-pub z-eq : (ρ : List ℤ) (a b : E) → (X ℤR ρ a ≡ X ℤR ρ b) ↔ Eq ℤR ρ a b
-z-eq = O.q-eq ℤR
+pub z_eq : (ρ : List ℤ) (a b : E) → (X ℤR ρ a ≡ X ℤR ρ b) ↔ Eq ℤR ρ a b
+z_eq = O.q_eq ℤR
 
-pub z-eq-pos : (ρ : List ℤ) (a : E) (n : ℕ) → (X ℤR ρ a ≡ pos n) ↔ Eq ℤR ρ a (kp n)
-z-eq-pos = O.q-eq-pos ℤR
+pub z_eq_pos : (ρ : List ℤ) (a : E) (n : ℕ) → (X ℤR ρ a ≡ pos n) ↔ Eq ℤR ρ a (kp n)
+z_eq_pos = O.q_eq_pos ℤR
 
-pub z-le : (ρ : List ℤ) (a b : E) → (X ℤR ρ a ≼ X ℤR ρ b) ↔ Le ℤR ρ a b
-z-le = O.q-le ℤR
+pub z_le : (ρ : List ℤ) (a b : E) → (X ℤR ρ a ≼ X ℤR ρ b) ↔ Le ℤR ρ a b
+z_le = O.q_le ℤR
 
-pub z-pos-le : (ρ : List ℤ) (n : ℕ) (b : E) → (pos n ≼ X ℤR ρ b) ↔ Le ℤR ρ (kp n) b
-z-pos-le = O.q-pos-le ℤR
+pub z_pos_le : (ρ : List ℤ) (n : ℕ) (b : E) → (pos n ≼ X ℤR ρ b) ↔ Le ℤR ρ (kp n) b
+z_pos_le = O.q_pos_le ℤR
 
-pub z-le-pos : (ρ : List ℤ) (a : E) (n : ℕ) → (X ℤR ρ a ≼ pos n) ↔ Le ℤR ρ a (kp n)
-z-le-pos = O.q-le-pos ℤR
+pub z_le_pos : (ρ : List ℤ) (a : E) (n : ℕ) → (X ℤR ρ a ≼ pos n) ↔ Le ℤR ρ a (kp n)
+z_le_pos = O.q_le_pos ℤR
 
-pub z-neg-le : (ρ : List ℤ) (n : ℕ) (b : E) → (negsuc n ≼ X ℤR ρ b) ↔ Le ℤR ρ (kn n) b
-z-neg-le = O.q-neg-le ℤR
+pub z_neg_le : (ρ : List ℤ) (n : ℕ) (b : E) → (negsuc n ≼ X ℤR ρ b) ↔ Le ℤR ρ (kn n) b
+z_neg_le = O.q_neg_le ℤR
 
-pub z-le-neg : (ρ : List ℤ) (a : E) (n : ℕ) → (X ℤR ρ a ≼ negsuc n) ↔ Le ℤR ρ a (kn n)
-z-le-neg = O.q-le-neg ℤR
+pub z_le_neg : (ρ : List ℤ) (a : E) (n : ℕ) → (X ℤR ρ a ≼ negsuc n) ↔ Le ℤR ρ a (kn n)
+z_le_neg = O.q_le_neg ℤR
 
-pub z-pos-eq : (ρ : List ℤ) (n : ℕ) (b : E) → (pos n ≡ X ℤR ρ b) ↔ Eq ℤR ρ (kp n) b
-z-pos-eq = O.q-pos-eq ℤR
+pub z_pos_eq : (ρ : List ℤ) (n : ℕ) (b : E) → (pos n ≡ X ℤR ρ b) ↔ Eq ℤR ρ (kp n) b
+z_pos_eq = O.q_pos_eq ℤR
 
-pub z-neg-eq : (ρ : List ℤ) (n : ℕ) (b : E) → (negsuc n ≡ X ℤR ρ b) ↔ Eq ℤR ρ (kn n) b
-z-neg-eq = O.q-neg-eq ℤR
+pub z_neg_eq : (ρ : List ℤ) (n : ℕ) (b : E) → (negsuc n ≡ X ℤR ρ b) ↔ Eq ℤR ρ (kn n) b
+z_neg_eq = O.q_neg_eq ℤR
 
-pub z-eq-neg : (ρ : List ℤ) (a : E) (n : ℕ) → (X ℤR ρ a ≡ negsuc n) ↔ Eq ℤR ρ a (kn n)
-z-eq-neg = O.q-eq-neg ℤR
+pub z_eq_neg : (ρ : List ℤ) (a : E) (n : ℕ) → (X ℤR ρ a ≡ negsuc n) ↔ Eq ℤR ρ a (kn n)
+z_eq_neg = O.q_eq_neg ℤR
 
 pub ruleset zq = (
-  z-add,
-  z-mul,
-  z-neg,
-  z-pos-add,
-  z-add-pos,
-  z-neg-add,
-  z-add-neg,
-  z-pos-mul,
-  z-mul-pos,
-  z-neg-mul,
-  z-mul-neg,
-  z-eq,
-  z-eq-pos,
-  z-pos-eq,
-  z-eq-neg,
-  z-neg-eq,
-  z-le,
-  z-pos-le,
-  z-le-pos,
-  z-neg-le,
-  z-le-neg,
+  z_add,
+  z_mul,
+  z_neg,
+  z_pos_add,
+  z_add_pos,
+  z_neg_add,
+  z_add_neg,
+  z_pos_mul,
+  z_mul_pos,
+  z_neg_mul,
+  z_mul_neg,
+  z_eq,
+  z_eq_pos,
+  z_pos_eq,
+  z_eq_neg,
+  z_neg_eq,
+  z_le,
+  z_pos_le,
+  z_le_pos,
+  z_neg_le,
+  z_le_neg,
 )

@@ -8,12 +8,12 @@ use lib.ListN.{length, take, drop, length-drop, drop_of_length-le}
 use lib.Seq.{take_all, drop-drop}
 
 -- a text of k bytes, copied to the start of the part of xs from `at` on
-pub part-put :
+pub part_put :
     (xs text : List ℕ) (at k : ℕ) →
     k ≡ length text →
     at + k ≤ length xs →
     put_mid at (length xs - at) xs (text ++ drop k (mid_of at (length xs - at) xs)) ≡ take at xs ++ text ++ drop (at + k) xs
-part-put xs text at k e h =
+part_put xs text at k e h =
     rw (
       take_all (length xs - at) (drop at xs) (rw length-drop (omega arith)),
       drop_of_length-le (drop at xs) {i = length xs - at} (rw length-drop (omega arith)),

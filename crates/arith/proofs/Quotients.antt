@@ -14,50 +14,50 @@ by_parts x m c =
     ∙ ap (λ (n : ℕ). n * m) (div-add-mod' x c)
 
 module _ (x m c : ℕ) (h : 0 < c) where
-  pub split-div : x / c * m + x % c * m / c ≡ x * m / c
-  split-div = sym (mul-add-div_right h (x / c * m) (x % c * m)) ∙ ap (λ (n : ℕ). n / c) (by_parts x m c)
+  pub split_div : x / c * m + x % c * m / c ≡ x * m / c
+  split_div = sym (mul-add-div_right h (x / c * m) (x % c * m)) ∙ ap (λ (n : ℕ). n / c) (by_parts x m c)
 
-  pub split-mod : x % c * m % c ≡ x * m % c
-  split-mod = sym (mul-add-mod_self_right (x / c * m) c (x % c * m)) ∙ ap (λ (n : ℕ). n % c) (by_parts x m c)
+  pub split_mod : x % c * m % c ≡ x * m % c
+  split_mod = sym (mul-add-mod_self_right (x / c * m) c (x % c * m)) ∙ ap (λ (n : ℕ). n % c) (by_parts x m c)
 
   -- what stays in range
   pub rest_le : x % c * m ≤ c * m
   rest_le = mul-le-mul_right m (le_of_lt (mod-lt x h))
 
-  pub rest-div-le : x % c * m / c ≤ m
-  rest-div-le = div-le_of_le-mul c rest_le
+  pub rest_div_le : x % c * m / c ≤ m
+  rest_div_le = div-le_of_le-mul c rest_le
 
-  pub scaled-le : x * m / c ≤ (x / c + 1) * m
-  scaled-le = rw (← split-div) (omega (arith, rest-div-le))
+  pub scaled_le : x * m / c ≤ (x / c + 1) * m
+  scaled_le = rw (← split_div) (omega (arith, rest_div_le))
 
 -- the second step from the first one's remainder
 module _ (x m n c : ℕ) (h : 0 < c) where
-  pub split-twice : x * m / c * n + x % c * m % c * n / c ≡ x * (m * n) / c
-  split-twice = rw (split-mod x m c h, ← mul_assoc x m n) (split-div (x * m) n c h)
+  pub split_twice : x * m / c * n + x % c * m % c * n / c ≡ x * (m * n) / c
+  split_twice = rw (split_mod x m c h, ← mul_assoc x m n) (split_div (x * m) n c h)
 
-  pub twice-le : x * m / c * n + x % c * m % c * n / c ≤ (x / c + 1) * (m * n)
-  twice-le = rw split-twice (scaled-le x (m * n) c h)
+  pub twice_le : x * m / c * n + x % c * m % c * n / c ≤ (x / c + 1) * (m * n)
+  twice_le = rw split_twice (scaled_le x (m * n) c h)
 
-  pub once-le : 0 < n → (x / c + 1) * m ≤ (x / c + 1) * (m * n)
-  once-le l = rw (← mul_assoc (x / c + 1) m n) (omega (arith, mul-le-mul_left ((x / c + 1) * m) l))
+  pub once_le : 0 < n → (x / c + 1) * m ≤ (x / c + 1) * (m * n)
+  once_le l = rw (← mul_assoc (x / c + 1) m n) (omega (arith, mul-le-mul_left ((x / c + 1) * m) l))
 
 module _ (x y m : ℕ) (h : 0 < m) where
-  pub split-mul : x * (y / m) + x * (y % m) / m ≡ x * y / m
-  split-mul = rw (mul_comm x (y / m), mul_comm x (y % m), mul_comm x y) (split-div y x m h)
+  pub split_mul : x * (y / m) + x * (y % m) / m ≡ x * y / m
+  split_mul = rw (mul_comm x (y / m), mul_comm x (y % m), mul_comm x y) (split_div y x m h)
 
-  pub part-le : x * (y % m) ≤ x * m
-  part-le = mul-le-mul_left x (le_of_lt (mod-lt y h))
+  pub part_le : x * (y % m) ≤ x * m
+  part_le = mul-le-mul_left x (le_of_lt (mod-lt y h))
 
-  pub part-div-le : x * (y % m) / m ≤ x
-  part-div-le = rw (mul_comm x (y % m)) (rest-div-le y x m h)
+  pub part_div_le : x * (y % m) / m ≤ x
+  part_div_le = rw (mul_comm x (y % m)) (rest_div_le y x m h)
 
-pub split-mul-twice : (x y m n : ℕ) → 0 < m → (x * (y / m) + x * (y % m) / m) / n ≡ x * y / (m * n)
-split-mul-twice x y m n h = rw (split-mul x y m h) (div-div-eq-div-mul (x * y) m n)
+pub split_mul_twice : (x y m n : ℕ) → 0 < m → (x * (y / m) + x * (y % m) / m) / n ≡ x * y / (m * n)
+split_mul_twice x y m n h = rw (split_mul x y m h) (div-div-eq-div-mul (x * y) m n)
 
 -- rounded up: one above the quotient rounded down where there is a remainder
 module _ (x d : ℕ) (h : 0 < d) where
-  up-by-parts : (x + (d - 1)) / d ≡ x / d + (x % d + (d - 1)) / d
-  up-by-parts =
+  up_by_parts : (x + (d - 1)) / d ≡ x / d + (x % d + (d - 1)) / d
+  up_by_parts =
       let e : x + (d - 1) ≡ x / d * d + (x % d + (d - 1)) = omega (arith, div-add-mod' x d) in
       ap (λ (n : ℕ). n / d) e ∙ mul-add-div_right h (x / d) (x % d + (d - 1))
 
@@ -65,38 +65,38 @@ module _ (x d : ℕ) (h : 0 < d) where
   up_step r =
       let l : 1 * d ≤ x % d + (d - 1) = omega arith in
       let u : x % d + (d - 1) < (1 + 1) * d = omega (arith, mod-lt x h) in
-      sym (up-by-parts ∙ ap (λ (n : ℕ). x / d + n) (div-eq_of_lt-le d l u))
+      sym (up_by_parts ∙ ap (λ (n : ℕ). x / d + n) (div-eq_of_lt-le d l u))
 
-  pub up-level : x % d ≤ 0 → x / d ≡ (x + (d - 1)) / d
-  up-level r =
+  pub up_level : x % d ≤ 0 → x / d ≡ (x + (d - 1)) / d
+  up_level r =
       let l : x % d + (d - 1) < d = omega arith in
-      sym (up-by-parts ∙ ap (λ (n : ℕ). x / d + n) (div-eq_of_lt l) ∙ add-zero (x / d))
+      sym (up_by_parts ∙ ap (λ (n : ℕ). x / d + n) (div-eq_of_lt l) ∙ add-zero (x / d))
 
-  pub step-le : 0 < x % d → x / d + 1 ≤ x
-  step-le r = omega (arith, div-add-mod' x d, mul-le-mul_left (x / d) h)
+  pub step_le : 0 < x % d → x / d + 1 ≤ x
+  step_le r = omega (arith, div-add-mod' x d, mul-le-mul_left (x / d) h)
 
 -- a product rounded up, by the parts of y over m, then over n
 module _ (x y m : ℕ) (h : 0 < m) where
-  pub up-part-le : (x * (y % m) + (m - 1)) / m ≤ x
-  up-part-le =
-      let l : x * (y % m) + (m - 1) < (x + 1) * m = omega (arith, part-le x y m h) in
+  pub up_part_le : (x * (y % m) + (m - 1)) / m ≤ x
+  up_part_le =
+      let l : x * (y % m) + (m - 1) < (x + 1) * m = omega (arith, part_le x y m h) in
       omega (arith, (div-lt_iff_lt-mul h).1 l)
 
-  split-up : x * (y / m) + (x * (y % m) + (m - 1)) / m ≡ (x * y + (m - 1)) / m
-  split-up =
+  split_up : x * (y / m) + (x * (y % m) + (m - 1)) / m ≡ (x * y + (m - 1)) / m
+  split_up =
       let e : x * (y / m) * m + (x * (y % m) + (m - 1)) ≡ x * y + (m - 1) = omega (arith, parts) in
       sym (mul-add-div_right h (x * (y / m)) (x * (y % m) + (m - 1))) ∙ ap (λ (k : ℕ). k / m) e
     where
       parts : x * (y / m) * m + x * (y % m) ≡ x * y
       parts = rw (mul_comm x (y / m), mul_comm x (y % m), mul_comm x y) (by_parts y x m)
 
-  pub split-up-twice :
+  pub split_up_twice :
       (n : ℕ) → 0 < n → (x * (y / m) + (x * (y % m) + (m - 1)) / m + (n - 1)) / n ≡ (x * y + (m * n - 1)) / (m * n)
-  split-up-twice n l =
+  split_up_twice n l =
       let one : n - 1 + 1 ≡ n = omega arith in
       let whole : (n - 1) * m + 1 * m ≡ m * n = sym (add-mul (n - 1) 1 m) ∙ ap (λ (k : ℕ). k * m) one ∙ mul_comm n m in
       let e : (n - 1) * m + (x * y + (m - 1)) ≡ x * y + (m * n - 1) = omega (arith, whole) in
       let over : (x * y + (m - 1)) / m + (n - 1) ≡ (x * y + (m * n - 1)) / m =
       add_comm ((x * y + (m - 1)) / m) (n - 1) ∙ sym (mul-add-div_right h (n - 1) (x * y + (m - 1))) ∙ ap (λ (k : ℕ). k / m) e
       in
-      rw split-up (ap (λ (k : ℕ). k / n) over ∙ div-div-eq-div-mul (x * y + (m * n - 1)) m n)
+      rw split_up (ap (λ (k : ℕ). k / n) over ∙ div-div-eq-div-mul (x * y + (m * n - 1)) m n)

@@ -9,7 +9,7 @@ use Prim.Native.Nat.{ℕ}
 use lib.Dec.{T, T_prop, T_not}
 use lib.IntN.{ℤ, pos, ◌+ℤ◌, ◌*ℤ◌}
 use lib.Signed.{le_z}
-use Rattle.arith.proofs.Rings.{ORing, ∀₂, by-cert, to}
+use Rattle.arith.proofs.Rings.{ORing, ∀₂, by_cert, to}
 use Rattle.arith.proofs.Integers.{ℤR, ◌≼◌}
 use Rattle.arith.proofs.IntegerTerms.{zq}
 use Rattle.arith.proofs.IntegerOrder.{split}
@@ -66,10 +66,10 @@ unfoldable pub ◌*ℚ◌ : ℚ → ℚ → ℚ
 p *ℚ q = lift₂ ◌*q◌ F.*q-cong F.*q-cong-r p q
 
 unfoldable pub negℚ : ℚ → ℚ
-negℚ p = lift₁ negq F.negq-cong p
+negℚ p = lift₁ negq F.negq_cong p
 
 unfoldable pub recipℚ : ℚ → ℚ
-recipℚ p = lift₁ Fr.recip F.recip-cong p
+recipℚ p = lift₁ Fr.recip F.recip_cong p
 
 abbrev pub ◌-ℚ◌ : ℚ → ℚ → ℚ
 p -ℚ q = p +ℚ negℚ q
@@ -89,44 +89,44 @@ pub plus_comm : (p q : ℚ) → p +ℚ q ≡ q +ℚ p
 unfolding ◌+ℚ◌
 plus_comm = eq₂ (λ p q. p +ℚ q) (λ p q. q +ℚ p) (λ x y. same (F.+q-comm x y))
 
-pub plus-zero : (p : ℚ) → int (pos 0) +ℚ p ≡ p
+pub plus_zero : (p : ℚ) → int (pos 0) +ℚ p ≡ p
 unfolding ◌+ℚ◌ int
-plus-zero = eq₁ (λ p. int (pos 0) +ℚ p) (λ p. p) (λ x. same (F.+q-zero x))
+plus_zero = eq₁ (λ p. int (pos 0) +ℚ p) (λ p. p) (λ x. same (F.+q-zero x))
 
-pub plus-neg : (p : ℚ) → p +ℚ negℚ p ≡ int (pos 0)
+pub plus_neg : (p : ℚ) → p +ℚ negℚ p ≡ int (pos 0)
 unfolding ◌+ℚ◌ negℚ int
-plus-neg = eq₁ (λ p. p +ℚ negℚ p) (λ p. int (pos 0)) (λ x. same (F.+q-neg x))
+plus_neg = eq₁ (λ p. p +ℚ negℚ p) (λ p. int (pos 0)) (λ x. same (F.+q-neg x))
 
-pub times-assoc : (p q r : ℚ) → (p *ℚ q) *ℚ r ≡ p *ℚ (q *ℚ r)
+pub times_assoc : (p q r : ℚ) → (p *ℚ q) *ℚ r ≡ p *ℚ (q *ℚ r)
 unfolding ◌*ℚ◌
-times-assoc = eq₃ (λ p q r. (p *ℚ q) *ℚ r) (λ p q r. p *ℚ (q *ℚ r)) (λ x y z. same (F.*q-assoc x y z))
+times_assoc = eq₃ (λ p q r. (p *ℚ q) *ℚ r) (λ p q r. p *ℚ (q *ℚ r)) (λ x y z. same (F.*q-assoc x y z))
 
-pub times-comm : (p q : ℚ) → p *ℚ q ≡ q *ℚ p
+pub times_comm : (p q : ℚ) → p *ℚ q ≡ q *ℚ p
 unfolding ◌*ℚ◌
-times-comm = eq₂ (λ p q. p *ℚ q) (λ p q. q *ℚ p) (λ x y. same (F.*q-comm x y))
+times_comm = eq₂ (λ p q. p *ℚ q) (λ p q. q *ℚ p) (λ x y. same (F.*q-comm x y))
 
-pub times-one : (p : ℚ) → int (pos 1) *ℚ p ≡ p
+pub times_one : (p : ℚ) → int (pos 1) *ℚ p ≡ p
 unfolding ◌*ℚ◌ int
-times-one = eq₁ (λ p. int (pos 1) *ℚ p) (λ p. p) (λ x. same (F.*q-one x))
+times_one = eq₁ (λ p. int (pos 1) *ℚ p) (λ p. p) (λ x. same (F.*q-one x))
 
-pub times-plus : (p q r : ℚ) → p *ℚ (q +ℚ r) ≡ p *ℚ q +ℚ p *ℚ r
+pub times_plus : (p q r : ℚ) → p *ℚ (q +ℚ r) ≡ p *ℚ q +ℚ p *ℚ r
 unfolding ◌*ℚ◌ ◌+ℚ◌
-times-plus = eq₃ (λ p q r. p *ℚ (q +ℚ r)) (λ p q r. p *ℚ q +ℚ p *ℚ r) (λ x y z. same (F.*q-+q x y z))
+times_plus = eq₃ (λ p q r. p *ℚ (q +ℚ r)) (λ p q r. p *ℚ q +ℚ p *ℚ r) (λ x y z. same (F.*q-+q x y z))
 
-pub int-plus : (a b : ℤ) → int (a +ℤ b) ≡ int a +ℚ int b
+pub int_plus : (a b : ℤ) → int (a +ℤ b) ≡ int a +ℚ int b
 unfolding ◌+ℚ◌ int
-int-plus a b = same (F.int-+q a b)
+int_plus a b = same (F.int-+q a b)
 
-pub int-times : (a b : ℤ) → int (a *ℤ b) ≡ int a *ℚ int b
+pub int_times : (a b : ℤ) → int (a *ℤ b) ≡ int a *ℚ int b
 unfolding ◌*ℚ◌ int
-int-times a b = same (F.int-*q a b)
+int_times a b = same (F.int-*q a b)
 
 -- the order: a test, which respects the equality
-bool-ext : (a b : Bool) → (T a → T b) → (T b → T a) → a ≡ b
-bool-ext true true f g = refl
-bool-ext true false f g = absurd (f tt)
-bool-ext false true f g = absurd (g tt)
-bool-ext false false f g = refl
+bool_ext : (a b : Bool) → (T a → T b) → (T b → T a) → a ≡ b
+bool_ext true true f g = refl
+bool_ext true false f g = absurd (f tt)
+bool_ext false true f g = absurd (g tt)
+bool_ext false false f g = refl
 
 pub Bool-set : IsSet Bool
 Bool-set = hedberg Bool-discrete
@@ -138,26 +138,26 @@ test x y = le_z (x.top *ℤ y.bot) (y.top *ℤ x.bot)
 of_test : (x y : Frac) → T (test x y) → x ⊑ y
 of_test x y t = record { cross = record { le = t } }
 
-to-test : (x y : Frac) → x ⊑ y → T (test x y)
-to-test x y h = h.cross.le
+to_test : (x y : Frac) → x ⊑ y → T (test x y)
+to_test x y h = h.cross.le
 
-pub test-l : (x y z : Frac) → x ≈ y → test x z ≡ test y z
-test-l x y z h =
-    bool-ext (test x z) (test y z) (λ t. to-test y z (F.⊑-cong x y z h (of_test x z t)))
-    (λ t. to-test x z (F.⊑-cong y x z (F.≈-sym x y h) (of_test y z t)))
+pub test_l : (x y z : Frac) → x ≈ y → test x z ≡ test y z
+test_l x y z h =
+    bool_ext (test x z) (test y z) (λ t. to_test y z (F.⊑-cong x y z h (of_test x z t)))
+    (λ t. to_test x z (F.⊑-cong y x z (F.≈-sym x y h) (of_test y z t)))
 
-pub test-r : (x y z : Frac) → x ≈ y → test z x ≡ test z y
-test-r x y z h =
-    bool-ext (test z x) (test z y) (λ t. to-test z y (F.⊑-cong-r x y z h (of_test z x t)))
-    (λ t. to-test z x (F.⊑-cong-r y x z (F.≈-sym x y h) (of_test z y t)))
+pub test_r : (x y z : Frac) → x ≈ y → test z x ≡ test z y
+test_r x y z h =
+    bool_ext (test z x) (test z y) (λ t. to_test z y (F.⊑-cong-r x y z h (of_test z x t)))
+    (λ t. to_test z x (F.⊑-cong-r y x z (F.≈-sym x y h) (of_test z y t)))
 
 abbrev test₁ : Frac → ℚ → Bool
-test₁ x q = lift Bool-set (test x) (λ y z h. test-r y z x h) q
+test₁ x q = lift Bool-set (test x) (λ y z h. test_r y z x h) q
 
 unfoldable pub leℚ : ℚ → ℚ → Bool
 leℚ p q =
     lift Bool-set (λ x. test₁ x q)
-    (λ x y h. ind₁ (λ q. test₁ x q ≡ test₁ y q) (λ q. Bool-set (test₁ x q) (test₁ y q)) (λ z. test-l x y z h) q) p
+    (λ x y h. ind₁ (λ q. test₁ x q ≡ test₁ y q) (λ q. Bool-set (test₁ x q) (test₁ y q)) (λ z. test_l x y z h) q) p
 
 infix 4 ◌≤ℚ◌
 pub record ◌≤ℚ◌ (p q : ℚ) : Type 0 where
@@ -177,43 +177,43 @@ to-⊑ x y h = record { cross = record { le = h.le } }
 pub ind₂ : (C : ℚ → ℚ → Type 0) → ((p q : ℚ) → IsProp (C p q)) → ((x y : Frac) → C (mk x) (mk y)) → (p q : ℚ) → C p q
 ind₂ C h f p q = ind₁ (λ p. C p q) (λ p. h p q) (λ x. ind₁ (C (mk x)) (h (mk x)) (f x) q) p
 
-pub nn-int : (n : ℕ) → int (pos 0) ≤ℚ int (pos n)
+pub nn_int : (n : ℕ) → int (pos 0) ≤ℚ int (pos n)
 unfolding int
-nn-int n = of-⊑ (Fr.int (pos 0)) (Fr.int (pos n)) (F.nn-intq n)
+nn_int n = of-⊑ (Fr.int (pos 0)) (Fr.int (pos n)) (F.nn_intq n)
 
-pub nn-plus : (p q : ℚ) → int (pos 0) ≤ℚ p → int (pos 0) ≤ℚ q → int (pos 0) ≤ℚ p +ℚ q
+pub nn_plus : (p q : ℚ) → int (pos 0) ≤ℚ p → int (pos 0) ≤ℚ q → int (pos 0) ≤ℚ p +ℚ q
 unfolding int ◌+ℚ◌
-nn-plus =
+nn_plus =
     ind₂ (λ p q. int (pos 0) ≤ℚ p → int (pos 0) ≤ℚ q → int (pos 0) ≤ℚ p +ℚ q)
     (λ p q. Π_prop (λ h. Π_prop (λ l. ≤-prop (int (pos 0)) (p +ℚ q))))
     (λ x y h l. of-⊑ (Fr.int (pos 0)) (x +q y) (F.nn-+q x y (to-⊑ (Fr.int (pos 0)) x h) (to-⊑ (Fr.int (pos 0)) y l)))
 
-pub nn-times : (p q : ℚ) → int (pos 0) ≤ℚ p → int (pos 0) ≤ℚ q → int (pos 0) ≤ℚ p *ℚ q
+pub nn_times : (p q : ℚ) → int (pos 0) ≤ℚ p → int (pos 0) ≤ℚ q → int (pos 0) ≤ℚ p *ℚ q
 unfolding int ◌*ℚ◌
-nn-times =
+nn_times =
     ind₂ (λ p q. int (pos 0) ≤ℚ p → int (pos 0) ≤ℚ q → int (pos 0) ≤ℚ p *ℚ q)
     (λ p q. Π_prop (λ h. Π_prop (λ l. ≤-prop (int (pos 0)) (p *ℚ q))))
     (λ x y h l. of-⊑ (Fr.int (pos 0)) (x *q y) (F.nn-*q x y (to-⊑ (Fr.int (pos 0)) x h) (to-⊑ (Fr.int (pos 0)) y l)))
 
-pub nn-sq : (p : ℚ) → int (pos 0) ≤ℚ p *ℚ p
+pub nn_sq : (p : ℚ) → int (pos 0) ≤ℚ p *ℚ p
 unfolding int ◌*ℚ◌
-nn-sq = ind₁ (λ p. int (pos 0) ≤ℚ p *ℚ p) (λ p. ≤-prop (int (pos 0)) (p *ℚ p)) (λ x. of-⊑ (Fr.int (pos 0)) (x *q x) (F.nn-sqq x))
+nn_sq = ind₁ (λ p. int (pos 0) ≤ℚ p *ℚ p) (λ p. ≤-prop (int (pos 0)) (p *ℚ p)) (λ x. of-⊑ (Fr.int (pos 0)) (x *q x) (F.nn_sqq x))
 
-pub to-nn : (p q : ℚ) → p ≤ℚ q → int (pos 0) ≤ℚ q +ℚ negℚ p
+pub to_nn : (p q : ℚ) → p ≤ℚ q → int (pos 0) ≤ℚ q +ℚ negℚ p
 unfolding int ◌+ℚ◌ negℚ
-to-nn =
+to_nn =
     ind₂ (λ p q. p ≤ℚ q → int (pos 0) ≤ℚ q +ℚ negℚ p) (λ p q. Π_prop (λ h. ≤-prop (int (pos 0)) (q +ℚ negℚ p)))
-    (λ x y h. of-⊑ (Fr.int (pos 0)) (y +q negq x) (F.to-nnq x y (to-⊑ x y h)))
+    (λ x y h. of-⊑ (Fr.int (pos 0)) (y +q negq x) (F.to_nnq x y (to-⊑ x y h)))
 
-pub of-nn : (p q : ℚ) → int (pos 0) ≤ℚ q +ℚ negℚ p → p ≤ℚ q
+pub of_nn : (p q : ℚ) → int (pos 0) ≤ℚ q +ℚ negℚ p → p ≤ℚ q
 unfolding int ◌+ℚ◌ negℚ
-of-nn =
+of_nn =
     ind₂ (λ p q. int (pos 0) ≤ℚ q +ℚ negℚ p → p ≤ℚ q) (λ p q. Π_prop (λ h. ≤-prop p q))
-    (λ x y h. of-⊑ x y (F.of-nnq x y (to-⊑ (Fr.int (pos 0)) (y +q negq x) h)))
+    (λ x y h. of-⊑ x y (F.of_nnq x y (to-⊑ (Fr.int (pos 0)) (y +q negq x) h)))
 
-pub one-pos : ¬ (int (pos 1) ≤ℚ int (pos 0))
+pub one_pos : ¬ (int (pos 1) ≤ℚ int (pos 0))
 unfolding int
-one-pos h = F.one-posq (to-⊑ (Fr.int (pos 1)) (Fr.int (pos 0)) h)
+one_pos h = F.one_posq (to-⊑ (Fr.int (pos 1)) (Fr.int (pos 0)) h)
 
 pub cancel : (m p : ℚ) → ¬ (m ≤ℚ int (pos 0)) → int (pos 0) ≤ℚ m *ℚ p → int (pos 0) ≤ℚ p
 unfolding int ◌*ℚ◌
@@ -236,37 +236,37 @@ abbrev pub ℚR : ORing
   int = int;
   plus_assoc = plus_assoc;
   plus_comm = plus_comm;
-  plus-zero = plus-zero;
-  plus-minus = plus-neg;
-  times-assoc = times-assoc;
-  times-comm = times-comm;
-  times-one = times-one;
-  times-plus = times-plus;
-  int-plus = int-plus;
-  int-times = int-times;
+  plus_zero = plus_zero;
+  plus_minus = plus_neg;
+  times_assoc = times_assoc;
+  times_comm = times_comm;
+  times_one = times_one;
+  times_plus = times_plus;
+  int_plus = int_plus;
+  int_times = int_times;
   leq = ◌≤ℚ◌;
-  nn-int = nn-int;
-  nn-plus = nn-plus;
-  nn-times = nn-times;
-  nn-sq = nn-sq;
-  to-nn = to-nn;
-  of-nn = of-nn;
-  one-pos = one-pos;
+  nn_int = nn_int;
+  nn_plus = nn_plus;
+  nn_times = nn_times;
+  nn_sq = nn_sq;
+  to_nn = to_nn;
+  of_nn = of_nn;
+  one_pos = one_pos;
   cancel = cancel;
   antisym = antisym;
 }
 
 -- a test that fails, and what is above 0
-flip-at : (x y : Frac) → T (not (test x y)) → y ⊑ x
-flip-at x y t = go (F.⊑-total x y)
+flip_at : (x y : Frac) → T (not (test x y)) → y ⊑ x
+flip_at x y t = go (F.⊑-total x y)
   where
     go : (x ⊑ y) ⊎ (y ⊑ x) → y ⊑ x
-    go (inl h) = absurd (T_not (test x y) t (to-test x y h))
+    go (inl h) = absurd (T_not (test x y) t (to_test x y h))
     go (inr h) = h
 
 pub flip : (p q : ℚ) → T (not (leℚ p q)) → q ≤ℚ p
 unfolding leℚ
-flip = ind₂ (λ p q. T (not (leℚ p q)) → q ≤ℚ p) (λ p q. Π_prop (λ t. ≤-prop q p)) (λ x y t. of-⊑ y x (flip-at x y t))
+flip = ind₂ (λ p q. T (not (leℚ p q)) → q ≤ℚ p) (λ p q. Π_prop (λ t. ≤-prop q p)) (λ x y t. of-⊑ y x (flip_at x y t))
 
 infix 4 ◌<ℚ◌
 pub record ◌<ℚ◌ (p q : ℚ) : Type 0 where
@@ -283,18 +283,18 @@ above_at x t = go (split (pos 0) x.top)
     go (inr h) = absurd (T_not (test x (Fr.int (pos 0))) t (low x.top x.bot h).le)
       where
         low : (a b : ℤ) → a ≼ pos 0 → a *ℤ pos 1 ≼ pos 0 *ℤ b
-        low = ∀₂ ℤR _ λ ρ. simp zq λ h. by-cert (to h) tt
+        low = ∀₂ ℤR _ λ ρ. simp zq λ h. by_cert (to h) tt
 
-pub recip-times : (p : ℚ) → int (pos 0) <ℚ p → p *ℚ recipℚ p ≡ int (pos 1)
+pub recip_times : (p : ℚ) → int (pos 0) <ℚ p → p *ℚ recipℚ p ≡ int (pos 1)
 unfolding leℚ int ◌*ℚ◌ recipℚ
-recip-times =
+recip_times =
     ind₁ (λ p. int (pos 0) <ℚ p → p *ℚ recipℚ p ≡ int (pos 1)) (λ p. Π_prop (λ h. Quot-set (p *ℚ recipℚ p) (int (pos 1))))
-    (λ x h. same (F.recip-mul x (above_at x h.lt)))
+    (λ x h. same (F.recip_mul x (above_at x h.lt)))
 
-pub recip-nn : (p : ℚ) → int (pos 0) ≤ℚ recipℚ p
+pub recip_nn : (p : ℚ) → int (pos 0) ≤ℚ recipℚ p
 unfolding int recipℚ
-recip-nn =
-    ind₁ (λ p. int (pos 0) ≤ℚ recipℚ p) (λ p. ≤-prop (int (pos 0)) (recipℚ p)) (λ x. of-⊑ (Fr.int (pos 0)) (Fr.recip x) (F.recip-nnq x))
+recip_nn =
+    ind₁ (λ p. int (pos 0) ≤ℚ recipℚ p) (λ p. ≤-prop (int (pos 0)) (recipℚ p)) (λ x. of-⊑ (Fr.int (pos 0)) (Fr.recip x) (F.recip_nnq x))
 
 -- the absolute value
 unfoldable pub absℚ : ℚ → ℚ

@@ -25,9 +25,9 @@ unfoldable pub twos : ℤ → ℕ
 twos (pos n) = n
 twos (negsuc n) = 4294967296 - suc n
 
-unfoldable pub ofTwos : ℕ → ℤ
-ofTwos v = cond (ltb v 2147483648) (pos v) (pos v -ℤ pos 4294967296)
+unfoldable pub of_twos : ℕ → ℤ
+of_twos v = cond (ltb v 2147483648) (pos v) (pos v -ℤ pos 4294967296)
 
 -- the signed number whose four bytes stand at `at`
 abbrev pub signed4 : List ℕ → ℕ → ℤ
-signed4 s at = ofTwos (le4 s at)
+signed4 s at = of_twos (le4 s at)

@@ -19,8 +19,8 @@ pub record ◌⊏◌ (x y : Frac) : Type 0 where
   pub cross : (x.top *ℤ y.bot) <ℤ (y.top *ℤ x.bot)
 
 -- a product of whole numbers above zero is above zero
-pub one-le : (n : ℕ) → pos 1 ≤ℤ pos (suc n)
-one-le n = record { le = le→leb 1 (suc n) (omega arith) }
+pub one_le : (n : ℕ) → pos 1 ≤ℤ pos (suc n)
+one_le n = record { le = le→leb 1 (suc n) (omega arith) }
 
 pub ok_mul : (a b : ℤ) → pos 1 ≤ℤ a → pos 1 ≤ℤ b → pos 1 ≤ℤ (a *ℤ b)
 ok_mul (pos zero) b h l = absurd h.le
@@ -31,7 +31,7 @@ ok_mul (negsuc n) b h l = absurd h.le
 
 -- a whole number
 abbrev pub int : ℤ → Frac
-int z = record { top = z; bot = pos 1; ok = one-le 0 }
+int z = record { top = z; bot = pos 1; ok = one_le 0 }
 
 abbrev pub nat : ℕ → Frac
 nat n = int (pos n)
@@ -58,13 +58,13 @@ x *q y =
 
 -- 1 over a fraction above zero. What is not above zero divides nothing here: for it 0 stands, so that a quotient needs no proof to be
 -- written
-abbrev pub recip-at : (a b : ℤ) → pos 1 ≤ℤ b → Frac
-recip-at (pos zero) b p = int (pos 0)
-recip-at (pos (suc n)) b p = record { top = b; bot = pos (suc n); ok = one-le n }
-recip-at (negsuc n) b p = int (pos 0)
+abbrev pub recip_at : (a b : ℤ) → pos 1 ≤ℤ b → Frac
+recip_at (pos zero) b p = int (pos 0)
+recip_at (pos (suc n)) b p = record { top = b; bot = pos (suc n); ok = one_le n }
+recip_at (negsuc n) b p = int (pos 0)
 
 unfoldable pub recip : Frac → Frac
-recip x = recip-at x.top x.bot x.ok
+recip x = recip_at x.top x.bot x.ok
 
 -- the quotient by a fraction above zero
 abbrev pub ◌/q◌ : Frac → Frac → Frac

@@ -3,4 +3,4 @@ pub mod Wholes
 pub mod Lists
 pub mod Bytes
 pub mod Theorems
-pub mod inner
+pub mod Inner

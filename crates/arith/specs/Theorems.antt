@@ -5,12 +5,12 @@ use Rattle.arith.specs.Wholes.{floor, ceiling}
 
 -- n is the greatest whole number not above x
 pub record GreatestNotAbove (x : Frac) (n : ℤ) : Type 0 where
-  pub notAbove : int n ⊑ x
+  pub not_above : int n ⊑ x
   pub greatest : (m : ℤ) → int m ⊑ x → m ≤ℤ n
 
 -- n is the least whole number not below x
 pub record LeastNotBelow (x : Frac) (n : ℤ) : Type 0 where
-  pub notBelow : x ⊑ int n
+  pub not_below : x ⊑ int n
   pub least : (m : ℤ) → x ⊑ int m → n ≤ℤ m
 
 pub record Wholes (x : Frac) : Type 0 where

@@ -8,107 +8,107 @@ use Rattle.sheet.specs.declared.Reading.TheVariants.{Taken, Refused}
 use Rattle.sheet.specs.declared.Decoded.{Decoded}
 use Rattle.sheet.specs.declared.Sheet.{Sheet}
 use Rattle.sheet.specs.Fits.{Fits}
-use Rattle.sheet.specs.Layout.{sheetOf}
+use Rattle.sheet.specs.Layout.{sheet_of}
 use Rattle.sheet.specs.Refusals.{Row, first, decoded}
 use Rattle.sheet.proofs.Clear.{clear}
-use Rattle.sheet.proofs.Refusal.{decoded-reading, decoded-sheet, refusal-of, refused-by-sheet, sheet-taken-of, own-taken-of}
-use Rattle.sheet.proofs.Rows.{or_else, row-passed}
-use Rattle.sheet.proofs.SheetLimits.{sheet-limits}
-use Rattle.sheet.proofs.TakenSheets.{taken-fits, decoded-fits}
-use Rattle.statics.specs.Loads.{ruleOf}
-use Rattle.statics.proofs.EndChain.{rule-stands}
+use Rattle.sheet.proofs.Refusal.{decoded_reading, decoded_sheet, refusal_of_lem, refused_by_sheet, sheet_taken_of, own_taken_of}
+use Rattle.sheet.proofs.Rows.{or_else, row_passed}
+use Rattle.sheet.proofs.SheetLimits.{sheet_limits}
+use Rattle.sheet.proofs.TakenSheets.{taken_fits, decoded_fits}
+use Rattle.statics.specs.Loads.{rule_of}
+use Rattle.statics.proofs.EndChain.{rule_stands}
 use Rattle.answer.specs.declared.Outcome.{Outcome}
 use Rattle.answer.specs.declared.Outcome.TheVariants as O
 use Rattle.answer.specs.Checked.{AnswerTo, kept}
-use Rattle.answer.specs.inner.Named.{returnedAs, writtenAs}
-use Rattle.answer.proofs.Named.{answer-named}
-use Rattle.gear.specs.Gear.{gearCount, gearLashes, row24, gearRows}
-use Rattle.gear.proofs.Section.{as-counted}
-use Rattle.gear.proofs.Subsets.{no-choice-refused}
-use Rattle.arrangements.specs.Arrangements.{ownRows, longestList, listRefusal, withChoice, listBytes, ListedAs, Listed}
-use Rattle.arrangements.specs.inner.Named.{answerWith, listFor, gearReading, Settled, listReturned, listWritten}
+use Rattle.answer.specs.Inner.Named.{returned_as, written_as}
+use Rattle.answer.proofs.Named.{answer_named}
+use Rattle.gear.specs.Gear.{gear_count, gear_lashes, row24, gear_rows}
+use Rattle.gear.proofs.Section.{as_counted}
+use Rattle.gear.proofs.Subsets.{no_choice_refused}
+use Rattle.arrangements.specs.Arrangements.{own_rows, longest_list, list_refusal, with_choice, list_bytes, ListedAs, Listed}
+use Rattle.arrangements.specs.Inner.Named.{answer_with, list_for, gear_reading, Settled, list_returned, list_written}
 
 -- where no row holds, none of the later ones does
 first_rest : (r : Row) (rs : List Row) → first (r ∷ rs) ≡ Taken → first rs ≡ Taken
-first_rest r rs e = sym (row-passed r rs (clear (r ∷ rs) e).0) ∙ e
+first_rest r rs e = sym (row_passed r rs (clear (r ∷ rs) e).0) ∙ e
 
 -- a sheet and a gear section that are taken
-module _ (s g : List ℕ) (room : ℕ) (e : listRefusal s g room ≡ Taken) where
-  pub sheet-is-taken : (decoded s).reading ≡ Taken
-  sheet-is-taken = sheet-taken-of s (ownRows (sheetOf s) g) longestList room e
+module _ (s g : List ℕ) (room : ℕ) (e : list_refusal s g room ≡ Taken) where
+  pub sheet_is_taken : (decoded s).reading ≡ Taken
+  sheet_is_taken = sheet_taken_of s (own_rows (sheet_of s) g) longest_list room e
 
-  pub sheet-within : Fits (sheetOf s)
-  sheet-within = taken-fits s (sym (decoded-reading s) ∙ sheet-is-taken)
+  pub sheet_within : Fits (sheet_of s)
+  sheet_within = taken_fits s (sym (decoded_reading s) ∙ sheet_is_taken)
 
-  pub gear-is-taken : first (gearRows (sheetOf s).ntiers g) ≡ Taken
-  gear-is-taken =
-      first_rest (row24 (sheetOf s)) (gearRows (sheetOf s).ntiers g)
-      (own-taken-of s (ownRows (sheetOf s) g) longestList room sheet-is-taken e)
+  pub gear_is_taken : first (gear_rows (sheet_of s).ntiers g) ≡ Taken
+  gear_is_taken =
+      first_rest (row24 (sheet_of s)) (gear_rows (sheet_of s).ntiers g)
+      (own_taken_of s (own_rows (sheet_of s) g) longest_list room sheet_is_taken e)
 
-  pub choice-fits : (c : ℕ) → Fits (withChoice s g c)
-  choice-fits c = no-choice-refused (sheetOf s) g c sheet-within gear-is-taken
+  pub choice_fits : (c : ℕ) → Fits (with_choice s g c)
+  choice_fits c = no_choice_refused (sheet_of s) g c sheet_within gear_is_taken
 
-  pub choice-answered : (c : ℕ) → AnswerTo kept (ruleOf (withChoice s g c)) (withChoice s g c) (answerWith (sheetOf s) (gearLashes g) c)
-  choice-answered c = answer-named (rule-stands (sheet-limits (choice-fits c))) (choice-fits c)
+  pub choice_answered : (c : ℕ) → AnswerTo kept (rule_of (with_choice s g c)) (with_choice s g c) (answer_with (sheet_of s) (gear_lashes g) c)
+  choice_answered c = answer_named (rule_stands (sheet_limits (choice_fits c))) (choice_fits c)
 
-pub list-by-count : (s g : List ℕ) → listFor (sheetOf s) (gearLashes g) ≡ listBytes (answerWith (sheetOf s) (gearLashes g)) (gearCount g)
-list-by-count s g = ap (listBytes (answerWith (sheetOf s) (gearLashes g))) (as-counted g)
+pub list_by_count : (s g : List ℕ) → list_for (sheet_of s) (gear_lashes g) ≡ list_bytes (answer_with (sheet_of s) (gear_lashes g)) (gear_count g)
+list_by_count s g = ap (list_bytes (answer_with (sheet_of s) (gear_lashes g))) (as_counted g)
 
-pub list-named : (s g before : List ℕ) → Listed kept s g before (listWritten s g before) (listReturned s g (length before))
-unfolding listWritten listReturned
-list-named s g before = record { holds = go (listRefusal s g (length before)) refl }
+pub list_named : (s g before : List ℕ) → Listed kept s g before (list_written s g before) (list_returned s g (length before))
+unfolding list_written list_returned
+list_named s g before = record { holds = go (list_refusal s g (length before)) refl }
   where
     go :
         (q : Reading) →
-        listRefusal s g (length before) ≡ q →
-        ListedAs q kept s g before (writtenAs q (listFor (sheetOf s) (gearLashes g)) before) (returnedAs q (listFor (sheetOf s) (gearLashes g)))
+        list_refusal s g (length before) ≡ q →
+        ListedAs q kept s g before (written_as q (list_for (sheet_of s) (gear_lashes g)) before) (returned_as q (list_for (sheet_of s) (gear_lashes g)))
     go (Refused a b) e = record { refused = refl; untouched = refl }
     go Taken e =
         record {
-          answer = answerWith (sheetOf s) (gearLashes g);
-          answers = λ c h. choice-answered s g (length before) e c;
-          taken = ap (λ (b : List ℕ). O.Taken (length b)) (list-by-count s g);
-          written = ap (λ (b : List ℕ). b ++ drop (length b) before) (list-by-count s g);
+          answer = answer_with (sheet_of s) (gear_lashes g);
+          answers = λ c h. choice_answered s g (length before) e c;
+          taken = ap (λ (b : List ℕ). O.Taken (length b)) (list_by_count s g);
+          written = ap (λ (b : List ℕ). b ++ drop (length b) before) (list_by_count s g);
         }
 
 -- what `list` returns and writes
 module _ (s g before : List ℕ) where
   abbrev Lists : List ℕ → Outcome → Type 0
   Lists after r =
-      Listed kept s g before after r × ((r ≡ listReturned s g (length before)) × (after ≡ listWritten s g before))
+      Listed kept s g before after r × ((r ≡ list_returned s g (length before)) × (after ≡ list_written s g before))
 
   by_name :
       {after : List ℕ} {r : Outcome} →
-      Settled (listRefusal s g (length before)) (listFor (sheetOf s) (gearLashes g)) before after r →
+      Settled (list_refusal s g (length before)) (list_for (sheet_of s) (gear_lashes g)) before after r →
       Lists after r
-  unfolding listReturned listWritten
-  by_name h = (rw (h.returns, h.writes) (list-named s g before), (h.returns, h.writes))
+  unfolding list_returned list_written
+  by_name h = (rw (h.returns, h.writes) (list_named s g before), (h.returns, h.writes))
 
   module _ (d : Decoded) (is : d ≡ decoded s) where
-    reading-is : {q : Reading} → d.reading ≡ q → (decoded s).reading ≡ q
-    reading-is e = sym (ap (λ (x : Decoded). x.reading) is) ∙ e
+    reading_is : {q : Reading} → d.reading ≡ q → (decoded s).reading ≡ q
+    reading_is e = sym (ap (λ (x : Decoded). x.reading) is) ∙ e
 
-    pub sheet-refused : {a b : ℕ} → d.reading ≡ Refused a b → Lists before (O.Refused a b)
-    sheet-refused {a} {b} e =
-        by_name (subst (λ (q : Reading). Settled q (listFor (sheetOf s) (gearLashes g)) before before (O.Refused a b))
-        (sym (refused-by-sheet s (ownRows (sheetOf s) g) longestList (length before) (reading-is e)))
+    pub sheet_refused : {a b : ℕ} → d.reading ≡ Refused a b → Lists before (O.Refused a b)
+    sheet_refused {a} {b} e =
+        by_name (subst (λ (q : Reading). Settled q (list_for (sheet_of s) (gear_lashes g)) before before (O.Refused a b))
+        (sym (refused_by_sheet s (own_rows (sheet_of s) g) longest_list (length before) (reading_is e)))
         (record { returns = refl; writes = refl }))
 
     module _ (e : d.reading ≡ Taken) where
-      pub sheet-fits : Fits d.sheet
-      sheet-fits = decoded-fits s d is e
+      pub sheet_fits : Fits d.sheet
+      sheet_fits = decoded_fits s d is e
 
-      past-sheet : listRefusal s g (length before) ≡ gearReading (sheetOf s) g (length before)
-      past-sheet =
-          refusal-of s (ownRows (sheetOf s) g) longestList (length before)
-          ∙ ap (λ (q : Reading). or_else q (gearReading (sheetOf s) g (length before))) (reading-is e)
+      past_sheet : list_refusal s g (length before) ≡ gear_reading (sheet_of s) g (length before)
+      past_sheet =
+          refusal_of_lem s (own_rows (sheet_of s) g) longest_list (length before)
+          ∙ ap (λ (q : Reading). or_else q (gear_reading (sheet_of s) g (length before))) (reading_is e)
 
-      pub sheet-taken :
+      pub sheet_taken :
           {after : List ℕ} {r : Outcome} →
-          Settled (gearReading d.sheet g (length before)) (listFor d.sheet (gearLashes g)) before after r →
+          Settled (gear_reading d.sheet g (length before)) (list_for d.sheet (gear_lashes g)) before after r →
           Lists after r
-      sheet-taken {after} {r} h =
-          let same : d.sheet ≡ sheetOf s = ap (λ (x : Decoded). x.sheet) is ∙ decoded-sheet s (reading-is e) in
+      sheet_taken {after} {r} h =
+          let same : d.sheet ≡ sheet_of s = ap (λ (x : Decoded). x.sheet) is ∙ decoded_sheet s (reading_is e) in
           let held =
-          subst (λ (t : Sheet). Settled (gearReading t g (length before)) (listFor t (gearLashes g)) before after r) same h in
-          by_name (subst (λ (q : Reading). Settled q (listFor (sheetOf s) (gearLashes g)) before after r) (sym past-sheet) held)
+          subst (λ (t : Sheet). Settled (gear_reading t g (length before)) (list_for t (gear_lashes g)) before after r) same h in
+          by_name (subst (λ (q : Reading). Settled q (list_for (sheet_of s) (gear_lashes g)) before after r) (sym past_sheet) held)

@@ -1,3 +1,3 @@
 pub mod Arrangements
 pub mod Theorems
-pub mod inner
+pub mod Inner

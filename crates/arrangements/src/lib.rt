@@ -4,11 +4,11 @@
 ghost use Rattle.std.specs.Prelude.{◌≡◌, ◌≤◌, length, take};
 ghost use Rattle.sheet.specs.Fits.{Fits};
 ghost use Rattle.answer.specs.Checked.{kept};
-ghost use Rattle.answer_write.specs.inner.Encoding.{Wrote};
-ghost use Rattle.gear.specs.Gear.{gearLashes};
+ghost use Rattle.answer_write.specs.Inner.Encoding.{Wrote};
+ghost use Rattle.gear.specs.Gear.{gear_lashes};
 ghost use Rattle.arrangements.specs.Arrangements.{Listed};
-ghost use Rattle.arrangements.specs.inner.Named.{listFor, roomReading, gearReading, listReturned, listWritten};
-ghost use Rattle.arrangements.specs.inner.Named.{Aboard, Settled};
+ghost use Rattle.arrangements.specs.Inner.Named.{list_for, room_reading, gear_reading, list_returned, list_written};
+ghost use Rattle.arrangements.specs.Inner.Named.{Aboard, Settled};
 
 use answer::Outcome;
 use arrangements_list::{put_choices, put_count};
@@ -24,7 +24,7 @@ const LONGEST: usize = 258;
 // The list of a stack within the limits, with m lashes aboard; its length. What does not depend on the choice is worked out once.
 fn write_list(t: Sheet, lashes: [Lash; 8], m: usize, list: &mut [u8]) -> usize
     requires { Fits t × Aboard t m (take m lashes) × (258 ≤ length list.old) }
-    ensures { Wrote list.old 0 (listFor t (take m lashes)) list.new result × (result ≤ 258) }
+    ensures { Wrote list.old 0 (list_for t (take m lashes)) list.new result × (result ≤ 258) }
 {
     let n = t.ntiers;
     let ts = t.tiers;
@@ -63,7 +63,7 @@ fn write_list(t: Sheet, lashes: [Lash; 8], m: usize, list: &mut [u8]) -> usize
 // The list of a stack within the limits, unless the buffer is short, which is left as it was.
 fn list_aboard(t: Sheet, lashes: [Lash; 8], m: usize, list: &mut [u8]) -> Outcome
     requires { Fits t × Aboard t m (take m lashes) }
-    ensures { Settled (roomReading (length list.old)) (listFor t (take m lashes)) list.old
+    ensures { Settled (room_reading (length list.old)) (list_for t (take m lashes)) list.old
         list.new result }
 {
     if list.len() < LONGEST {
@@ -75,7 +75,7 @@ fn list_aboard(t: Sheet, lashes: [Lash; 8], m: usize, list: &mut [u8]) -> Outcom
 // The list of a stack within the limits, unless it holds a lash or the gear section is turned back.
 fn list_gear(t: Sheet, gear: &[u8], list: &mut [u8]) -> Outcome
     requires { Fits t }
-    ensures { Settled (gearReading t gear.now (length list.old)) (listFor t (gearLashes gear.now))
+    ensures { Settled (gear_reading t gear.now (length list.old)) (list_for t (gear_lashes gear.now))
         list.old list.new result }
 {
     if (0 < t.ndoor) | (0 < t.nclosed) {
@@ -95,8 +95,8 @@ fn list_gear(t: Sheet, gear: &[u8], list: &mut [u8]) -> Outcome
 // The list of a stack sheet and the gear aboard, written from the buffer's start; a refusal leaves the buffer as it was.
 pub fn list(sheet: &[u8], gear: &[u8], list: &mut [u8]) -> Outcome
     ensures listed { Listed kept sheet.now gear.now list.old list.new result }
-    ensures named { (result ≡ listReturned sheet.now gear.now (length list.old))
-        × (list.new ≡ listWritten sheet.now gear.now list.old) }
+    ensures named { (result ≡ list_returned sheet.now gear.now (length list.old))
+        × (list.new ≡ list_written sheet.now gear.now list.old) }
 {
     let decoded = sheet_decode::decode(sheet);
     let reading = decoded.reading;

@@ -4,12 +4,12 @@ ghost use Rattle.std.specs.Prelude.{◌≡◌, List, take};
 ghost use Rattle.sheet.specs.Fits.{Fits};
 ghost use Rattle.sheet.specs.declared.Tier.{Tier};
 ghost use Rattle.statics.specs.Reported.{Fitting};
-ghost use Rattle.figures.specs.inner.Ends.{figuresWith};
-ghost use Rattle.figures_tiers.specs.inner.Loads.{TiersMeasured};
-ghost use Rattle.figures_lashes.specs.inner.Lashes.{LashesMeasured};
-ghost use Rattle.gear.specs.Gear.{withLashes};
-ghost use Rattle.chosen_lashes.specs.inner.Gathered.{heldIn, held_of};
-ghost use Rattle.arrangements_judge.specs.inner.Judged.{EndGiven, noFinding, StackGiven, acceptedWith};
+ghost use Rattle.figures.specs.Inner.Ends.{figures_with};
+ghost use Rattle.figures_tiers.specs.Inner.Loads.{TiersMeasured};
+ghost use Rattle.figures_lashes.specs.Inner.Lashes.{LashesMeasured};
+ghost use Rattle.gear.specs.Gear.{with_lashes};
+ghost use Rattle.chosen_lashes.specs.Inner.Gathered.{held_in, held_of};
+ghost use Rattle.arrangements_judge.specs.Inner.Judged.{EndGiven, no_finding, StackGiven, accepted_with};
 
 use chosen_lashes::Chosen;
 use end_verdict::no_finding;
@@ -35,8 +35,8 @@ fn end_without_finding(
     requires end_given { EndGiven n k.now heights.now m (take m lashes) kappa.now loads.now weights.now }
     requires lashes_measured { LashesMeasured m (take m lashes) lengths.now stiffnesses.now }
     ensures { (ts : List Tier) → TiersMeasured n ts heights.now weights.now
-        → Fitting (figuresWith n k.now ts (take m lashes) loads.now)
-        → result ≡ noFinding n k.now ts lashes m pull loads.now }
+        → Fitting (figures_with n k.now ts (take m lashes) loads.now)
+        → result ≡ no_finding n k.now ts lashes m pull loads.now }
 {
     let d = springs_solve::solve(n, k, kappa, loads);
     let mut racking = [0i32; 10];
@@ -75,9 +75,9 @@ pub fn accepts(
     weights: &[u64; 22],
 ) -> bool
     requires stack_given { StackGiven t pull k.now h.now heights.now loads.now weights.now }
-    requires kappa_value { (heldIn g lengths.now stiffnesses.now kappa.now ≡ held_of (take g.count g.lashes))
-        × Fits (withLashes (take g.count g.lashes) t) }
-    ensures { result ≡ acceptedWith (take g.count g.lashes) t }
+    requires kappa_value { (held_in g lengths.now stiffnesses.now kappa.now ≡ held_of (take g.count g.lashes))
+        × Fits (with_lashes (take g.count g.lashes) t) }
+    ensures { result ≡ accepted_with (take g.count g.lashes) t }
 {
     let n = t.ntiers;
     let lashes = g.lashes;

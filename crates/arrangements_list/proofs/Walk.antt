@@ -10,16 +10,16 @@ use lib.ListN.{length, get_or, take}
 use lib.Seq.{take-suc, take_all, take_at}
 use Rattle.sheet.specs.declared.Lash.{Lash}
 use Rattle.sheet.specs.declared.Sheet.{Sheet}
-use Rattle.answer_write.specs.inner.Encoding.{Wrote}
+use Rattle.answer_write.specs.Inner.Encoding.{Wrote}
 use Rattle.answer_write.proofs.Stores.{none, then}
 use Rattle.choices.specs.Choices.{chosen, choices, those}
-use Rattle.choices.proofs.AmongEight.{among-eight}
+use Rattle.choices.proofs.AmongEight.{among_eight}
 use Rattle.choices.proofs.Once.{all_once}
 use Rattle.chosen_lashes.specs.declared.Chosen.{Chosen}
-use Rattle.chosen_lashes.specs.inner.Gathered.{heldIn, held_of}
-use Rattle.chosen_lashes.proofs.Held.{lashesHeld}
-use Rattle.arrangements_judge.specs.inner.Judged.{lashesIn, acceptedWith}
-use Rattle.arrangements_list.specs.inner.Listing.{acceptedChoices}
+use Rattle.chosen_lashes.specs.Inner.Gathered.{held_in, held_of}
+use Rattle.chosen_lashes.proofs.Held.{lashes_held}
+use Rattle.arrangements_judge.specs.Inner.Judged.{lashes_in, accepted_with}
+use Rattle.arrangements_list.specs.Inner.Listing.{accepted_choices}
 
 -- the number of choices
 pub power : (m : ℕ) → m ≤ 8 → get_or (1 ∷ 2 ∷ 4 ∷ 8 ∷ 16 ∷ 32 ∷ 64 ∷ 128 ∷ 256 ∷ []) m 0 ≡ 2 ^ m
@@ -36,10 +36,10 @@ power (suc (suc (suc (suc (suc (suc (suc (suc (suc m))))))))) h = absurd (omega 
 
 -- those of a list that pass a test: of one more, and of those that pass another
 module _ {A : Type 0} where
-  those-last : (p : A → Bool) (xs : List A) (x : A) → those p (xs ++ x ∷ []) ≡ those p xs ++ cond (p x) (x ∷ []) []
+  those_last : (p : A → Bool) (xs : List A) (x : A) → those p (xs ++ x ∷ []) ≡ those p xs ++ cond (p x) (x ∷ []) []
   unfolding those
-  those-last p [] x = refl
-  those-last p (y ∷ ys) x = with_first (p y) y (those-last p ys x)
+  those_last p [] x = refl
+  those_last p (y ∷ ys) x = with_first (p y) y (those_last p ys x)
     where
       with_first :
           (b : Bool) (y : A) →
@@ -48,16 +48,16 @@ module _ {A : Type 0} where
       with_first true y e = ap (λ (l : List A). y ∷ l) e
       with_first false y e = e
 
-  pub those-next :
+  pub those_next :
       (p : A → Bool) (l : List A) (i : ℕ) (z : A) →
       i < length l →
       those p (take (suc i) l) ≡ those p (take i l) ++ cond (p (get_or l i z)) (get_or l i z ∷ []) []
-  those-next p l i z h = ap (those p) (take-suc l i z h) ∙ those-last p (take i l) (get_or l i z)
+  those_next p l i z h = ap (those p) (take-suc l i z h) ∙ those_last p (take i l) (get_or l i z)
 
-  those-both : (p q : A → Bool) (l : List A) → those p (those q l) ≡ those (λ x. q x && p x) l
+  those_both : (p q : A → Bool) (l : List A) → those p (those q l) ≡ those (λ x. q x && p x) l
   unfolding those
-  those-both p q [] = refl
-  those-both p q (x ∷ l) = go (q x) (those-both p q l)
+  those_both p q [] = refl
+  those_both p q (x ∷ l) = go (q x) (those_both p q l)
     where
       go :
           (b : Bool) →
@@ -67,52 +67,52 @@ module _ {A : Type 0} where
       go false e = e
 
 -- a choice that is one of m lashes and accepted
-unfoldable pub isListed : Sheet → List Lash → ℕ → ℕ → Bool
-isListed t ls m c = ltb c (2 ^ m) && acceptedWith (chosen c ls) t
+unfoldable pub is_listed : Sheet → List Lash → ℕ → ℕ → Bool
+is_listed t ls m c = ltb c (2 ^ m) && accepted_with (chosen c ls) t
 
 module _ (t : Sheet) (ls : List Lash) (m : ℕ) where
   abbrev pub up_to : ℕ → List ℕ
-  up_to i = those (isListed t ls m) (take i (choices 8))
+  up_to i = those (is_listed t ls m) (take i (choices 8))
 
   eight : length (choices 8) ≡ 256
   eight = (all_once 8).many
 
-  pub one_more : (i : ℕ) → i < 256 → up_to (suc i) ≡ up_to i ++ cond (isListed t ls m (get_or (choices 8) i 0)) (get_or (choices 8) i 0 ∷ []) []
-  one_more i h = those-next (isListed t ls m) (choices 8) i 0 (omega (arith, eight))
+  pub one_more : (i : ℕ) → i < 256 → up_to (suc i) ≡ up_to i ++ cond (is_listed t ls m (get_or (choices 8) i 0)) (get_or (choices 8) i 0 ∷ []) []
+  one_more i h = those_next (is_listed t ls m) (choices 8) i 0 (omega (arith, eight))
 
   -- put into a buffer one behind another
-  pub none-listed : (l : List ℕ) → Wrote l 2 (up_to 0) l 2
+  pub none_listed : (l : List ℕ) → Wrote l 2 (up_to 0) l 2
   unfolding those
-  none-listed l = none l 2
+  none_listed l = none l 2
 
-  pub one-listed :
+  pub one_listed :
       {l x y : List ℕ} {p q : ℕ} (i : ℕ) →
       i < 256 →
       Wrote l 2 (up_to i) x p →
       {c all : ℕ} {b : Bool} →
       c ≡ get_or (choices 8) i 0 →
       all ≡ 2 ^ m →
-      b ≡ ltb c all && acceptedWith (chosen c ls) t →
+      b ≡ ltb c all && accepted_with (chosen c ls) t →
       Wrote x p (cond b (c ∷ []) []) y q →
       Wrote l 2 (up_to (i + 1)) y q
-  unfolding isListed
-  one-listed {x = x} {y} {p} {q} i h w {c} {all} {b} ec ea eb v =
-      let same : b ≡ isListed t ls m c = eb ∙ ap (λ (n : ℕ). ltb c n && acceptedWith (chosen c ls) t) ea in
-      let put : Wrote x p (cond (isListed t ls m c) (c ∷ []) []) y q = subst (λ (b : Bool). Wrote x p (cond b (c ∷ []) []) y q) same v in
+  unfolding is_listed
+  one_listed {x = x} {y} {p} {q} i h w {c} {all} {b} ec ea eb v =
+      let same : b ≡ is_listed t ls m c = eb ∙ ap (λ (n : ℕ). ltb c n && accepted_with (chosen c ls) t) ea in
+      let put : Wrote x p (cond (is_listed t ls m c) (c ∷ []) []) y q = subst (λ (b : Bool). Wrote x p (cond b (c ∷ []) []) y q) same v in
       rw (add-one i, one_more i h)
-      (then w (subst (λ (k : ℕ). Wrote x p (cond (isListed t ls m k) (k ∷ []) []) y q) ec put))
+      (then w (subst (λ (k : ℕ). Wrote x p (cond (is_listed t ls m k) (k ∷ []) []) y q) ec put))
 
-  pub all-passed : (i : ℕ) → 256 ≤ i → m ≤ 8 → up_to i ≡ acceptedChoices t ls m
-  unfolding isListed acceptedChoices
-  all-passed i h few =
-      ap (those (isListed t ls m)) (take_all i (choices 8) (omega (arith, eight)))
-      ∙ sym (those-both (λ c. acceptedWith (chosen c ls) t) (λ c. ltb c (2 ^ m)) (choices 8))
-      ∙ ap (those (λ c. acceptedWith (chosen c ls) t)) (sym (among-eight m few))
+  pub all_passed : (i : ℕ) → 256 ≤ i → m ≤ 8 → up_to i ≡ accepted_choices t ls m
+  unfolding is_listed accepted_choices
+  all_passed i h few =
+      ap (those (is_listed t ls m)) (take_all i (choices 8) (omega (arith, eight)))
+      ∙ sym (those_both (λ c. accepted_with (chosen c ls) t) (λ c. ltb c (2 ^ m)) (choices 8))
+      ∙ ap (those (λ c. accepted_with (chosen c ls) t)) (sym (among_eight m few))
 
 -- lashes in arrays, read back
-module _ {g : Chosen} {lengths stiffs κ : List ℕ} (ls : List Lash) (e : heldIn g lengths stiffs κ ≡ held_of ls) where
-  pub held_back : lashesIn g ≡ ls
-  held_back = ap lashesHeld e ∙ take_at ls _ (length ls) refl
+module _ {g : Chosen} {lengths stiffs κ : List ℕ} (ls : List Lash) (e : held_in g lengths stiffs κ ≡ held_of ls) where
+  pub held_back : lashes_in g ≡ ls
+  held_back = ap lashes_held e ∙ take_at ls _ (length ls) refl
 
-  pub held-by-name : heldIn g lengths stiffs κ ≡ held_of (lashesIn g)
-  held-by-name = e ∙ ap held_of (sym held_back)
+  pub held_by_name : held_in g lengths stiffs κ ≡ held_of (lashes_in g)
+  held_by_name = e ∙ ap held_of (sym held_back)

@@ -3,10 +3,10 @@
 ghost use Rattle.std.specs.Prelude.{◌≡◌, cond, ◌&&◌, [], ◌∷◌, ◌+◌, ◌<◌, ◌≤◌, ◌^◌, ltb, length, take};
 ghost use Rattle.std.proofs.lemmas.List.Edits.{sets};
 ghost use Rattle.arith.specs.Bytes.{bytes2};
-ghost use Rattle.answer_write.specs.inner.Encoding.{Wrote};
+ghost use Rattle.answer_write.specs.Inner.Encoding.{Wrote};
 ghost use Rattle.choices.specs.Choices.{chosen};
-ghost use Rattle.arrangements_judge.specs.inner.Judged.{StackGiven, acceptedWith};
-ghost use Rattle.arrangements_list.specs.inner.Listing.{GearGiven, acceptedChoices};
+ghost use Rattle.arrangements_judge.specs.Inner.Judged.{StackGiven, accepted_with};
+ghost use Rattle.arrangements_list.specs.Inner.Listing.{GearGiven, accepted_choices};
 
 use arrangements_judge::accepts;
 use choices::choice_at;
@@ -42,7 +42,7 @@ fn judge(
 ) -> bool
     requires stack_given { StackGiven t pull k.now h.now heights.now loads.now weights.now }
     requires gear_given { GearGiven t m (take m lashes) lengths.now stiffnesses.now }
-    ensures { result ≡ ltb choice all && acceptedWith (chosen choice (take m lashes)) t }
+    ensures { result ≡ ltb choice all && accepted_with (chosen choice (take m lashes)) t }
 {
     if all <= choice as usize {
         return false;
@@ -95,7 +95,7 @@ pub fn put_choices(
 ) -> usize
     requires stack_given { StackGiven t pull k.now h.now heights.now loads.now weights.now }
     requires gear_given { GearGiven t m (take m lashes) lengths.now stiffnesses.now × (258 ≤ length list.old) }
-    ensures { Wrote list.old 2 (acceptedChoices t (take m lashes) m) list.new result × (result ≤ 258) }
+    ensures { Wrote list.old 2 (accepted_choices t (take m lashes) m) list.new result × (result ≤ 258) }
 {
     let all = choices_of(m);
     let mut next = 2;

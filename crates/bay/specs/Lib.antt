@@ -1,3 +1,3 @@
 pub mod Reports
 pub mod Theorems
-pub mod inner
+pub mod Inner

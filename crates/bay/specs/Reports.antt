@@ -4,16 +4,16 @@ use mathlib.Core.List.{List, [], ◌∷◌, ◌++◌, flat_map}
 use Rattle.arith.specs.Bytes.{bytes4}
 use Rattle.arith.specs.Lists.{below}
 use Rattle.sheet.specs.declared.Sheet.{Sheet}
-use Rattle.sheet.specs.Layout.{sheetOf}
-use Rattle.statics.specs.Loads.{ruleOf}
+use Rattle.sheet.specs.Layout.{sheet_of}
+use Rattle.statics.specs.Loads.{rule_of}
 use Rattle.answer.specs.Checked.{AnswerTo}
-use Rattle.bay_wind.specs.Sums.{sum_of, greatestOf}
-use Rattle.bay_wind.specs.Exposure.{neighboursOf, sheetInBay}
+use Rattle.bay_wind.specs.Sums.{sum_of, greatest_of}
+use Rattle.bay_wind.specs.Exposure.{neighbours_of, sheet_in_bay}
 use Rattle.bay_rows.specs.declared.BayReading.{BayReading}
 use Rattle.bay_rows.specs.declared.BayReading.TheVariants as R
-use Rattle.bay_rows.specs.Bay.{rowCount, row_of, is_empty, outlines}
-use Rattle.bay_rows.specs.Refusals.{bayRefusal}
-use Rattle.bay_answer.specs.Rows.{rowBytes, acceptedIn, massOf, rackingIn}
+use Rattle.bay_rows.specs.Bay.{row_count, row_of, is_empty, outlines}
+use Rattle.bay_rows.specs.Refusals.{bay_refusal}
+use Rattle.bay_answer.specs.Rows.{row_bytes, accepted_in, mass_of, racking_in}
 use Rattle.bay.specs.declared.BayOutcome.{BayOutcome}
 use Rattle.bay.specs.declared.BayOutcome.TheVariants.{Taken, Refused}
 
@@ -31,22 +31,22 @@ row (Taken n) = 0
 row (Refused c p k) = k
 
 -- the sheet of row k with the wind codes that the rows beside it give it
-abbrev pub rowSheet : List ℕ → ℕ → Sheet
-rowSheet b k = sheetInBay (neighboursOf (outlines b) k) (sheetOf (row_of b k))
+abbrev pub row_sheet : List ℕ → ℕ → Sheet
+row_sheet b k = sheet_in_bay (neighbours_of (outlines b) k) (sheet_of (row_of b k))
 
 -- the report, from the rows' answers: the number of accepted loaded rows in a byte, the total mass in kg and the greatest reported racking
 -- in size (0 if none), 4 bytes each, then each row's 2-byte answer length and answer
-unfoldable pub reportBytes : List ℕ → (ℕ → List ℕ) → List ℕ
-reportBytes b answer =
-    (sum_of (λ k. acceptedIn (answer k)) (rowCount b) ∷ [])
-    ++ bytes4 (sum_of (λ k. massOf (rowSheet b k)) (rowCount b))
-    ++ bytes4 (greatestOf (λ k. rackingIn (rowSheet b k) (answer k)) (rowCount b))
-    ++ flat_map (λ k. rowBytes (answer k)) (below (rowCount b))
+unfoldable pub report_bytes : List ℕ → (ℕ → List ℕ) → List ℕ
+report_bytes b answer =
+    (sum_of (λ k. accepted_in (answer k)) (row_count b) ∷ [])
+    ++ bytes4 (sum_of (λ k. mass_of (row_sheet b k)) (row_count b))
+    ++ bytes4 (greatest_of (λ k. racking_in (row_sheet b k) (answer k)) (row_count b))
+    ++ flat_map (λ k. row_bytes (answer k)) (below (row_count b))
 
 -- length 0 for an empty row; else the margin is that of the same stack with those wind codes
 pub record RowAnswered (margin : ℕ) (b : List ℕ) (k : ℕ) (bytes : List ℕ) : Type 0 where
   pub empty : is_empty (row_of b k) ≡ true → bytes ≡ []
-  pub loaded : is_empty (row_of b k) ≡ false → AnswerTo margin (ruleOf (rowSheet b k)) (rowSheet b k) bytes
+  pub loaded : is_empty (row_of b k) ≡ false → AnswerTo margin (rule_of (row_sheet b k)) (row_sheet b k) bytes
 
 -- a refused bay: its three numbers, and the buffer as it was
 pub record BayTurnedBack (number second row : ℕ) (before after : List ℕ) (r : BayOutcome) : Type 0 where
@@ -56,9 +56,9 @@ pub record BayTurnedBack (number second row : ℕ) (before after : List ℕ) (r 
 -- a taken bay: 0 and the report's length; the buffer holds the report's bytes, then what stood there
 pub record ReportWritten (margin : ℕ) (b before after : List ℕ) (r : BayOutcome) : Type 0 where
   pub answer : ℕ → List ℕ
-  pub rows : (k : ℕ) → k < rowCount b → RowAnswered margin b k (answer k)
-  pub taken : r ≡ Taken (length (reportBytes b answer))
-  pub written : after ≡ reportBytes b answer ++ drop (length (reportBytes b answer)) before
+  pub rows : (k : ℕ) → k < row_count b → RowAnswered margin b k (answer k)
+  pub taken : r ≡ Taken (length (report_bytes b answer))
+  pub written : after ≡ report_bytes b answer ++ drop (length (report_bytes b answer)) before
 
 -- by cases on a refusal
 abbrev pub ReportedAs : BayReading → ℕ → List ℕ → List ℕ → List ℕ → BayOutcome → Type 0
@@ -67,4 +67,4 @@ ReportedAs R.Taken margin b before after r = ReportWritten margin b before after
 
 -- the report of the bay b with a buffer that held `before`
 pub record BayReported (margin : ℕ) (b before after : List ℕ) (r : BayOutcome) : Type 0 where
-  pub holds : ReportedAs (bayRefusal b (length before)) margin b before after r
+  pub holds : ReportedAs (bay_refusal b (length before)) margin b before after r

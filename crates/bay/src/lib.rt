@@ -5,9 +5,9 @@ ghost use Rattle.std.specs.Prelude.{◌≡◌, [], ◌∷◌, ◌++◌, ◌<◌,
 ghost use Rattle.std.proofs.lemmas.List.Edits.{sets};
 ghost use Rattle.arith.specs.Bytes.{bytes4};
 ghost use Rattle.answer.specs.Checked.{kept};
-ghost use Rattle.bay_rows.specs.Refusals.{rowsRefusal};
+ghost use Rattle.bay_rows.specs.Refusals.{rows_refusal};
 ghost use Rattle.bay.specs.Reports.{BayReported};
-ghost use Rattle.bay.specs.inner.Named.{bayBytes, bayReturned, bayWritten};
+ghost use Rattle.bay.specs.Inner.Named.{bay_bytes, bay_returned, bay_written};
 
 use bay_answer::Totals;
 use bay_rows::BayReading;
@@ -35,9 +35,9 @@ fn put_totals(report: &mut [u8], totals: Totals)
 
 // The report of a bay that has no refusal: its length.
 fn put_report(bay: &[u8], report: &mut [u8]) -> usize
-    requires { (rowsRefusal bay.now ≡ BayReading.Taken) × (20073 ≤ length report.old) }
-    ensures { (result ≡ length (bayBytes bay.now))
-        × (report.new ≡ bayBytes bay.now ++ drop (length (bayBytes bay.now)) report.old) }
+    requires { (rows_refusal bay.now ≡ BayReading.Taken) × (20073 ≤ length report.old) }
+    ensures { (result ≡ length (bay_bytes bay.now))
+        × (report.new ≡ bay_bytes bay.now ++ drop (length (bay_bytes bay.now)) report.old) }
 {
     let n = sheet_fields::byte_at(bay, 0) as usize;
     let totals = bay_put_rows::put_rows(bay, n, &mut report[9..]);
@@ -48,8 +48,8 @@ fn put_report(bay: &[u8], report: &mut [u8]) -> usize
 // The report of a bay. A refusal leaves the buffer as it was.
 pub fn report(bay: &[u8], report: &mut [u8]) -> BayOutcome
     ensures reported { BayReported kept bay.now report.old report.new result }
-    ensures named { (result ≡ bayReturned bay.now (length report.old))
-        × (report.new ≡ bayWritten bay.now report.old) }
+    ensures named { (result ≡ bay_returned bay.now (length report.old))
+        × (report.new ≡ bay_written bay.now report.old) }
 {
     let reading = bay_rows::test_bay(bay);
     match reading {

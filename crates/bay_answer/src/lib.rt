@@ -2,10 +2,10 @@
 
 ghost use Rattle.std.specs.Prelude.{◌≡◌, cond, ◌+◌, ◌*◌, ◌≤◌, ◌^◌, eqb, nat_abs, length};
 ghost use Rattle.arith.specs.Bytes.{signed4};
-ghost use Rattle.sheet.specs.Layout.{tiersIn};
-ghost use Rattle.sheet.specs.Fits.{tierAt};
+ghost use Rattle.sheet.specs.Layout.{tiers_in};
+ghost use Rattle.sheet.specs.Fits.{tier_at};
 ghost use Rattle.bay_wind.specs.Sums.{sum_of, larger};
-ghost use Rattle.bay_answer.specs.inner.Totalled.{greatestAt, greatestWith, totalsWith, Bounded};
+ghost use Rattle.bay_answer.specs.Inner.Totalled.{greatest_at, greatest_with, totals_with, Bounded};
 
 use arith::bytes;
 
@@ -42,7 +42,7 @@ pub fn larger_of(a: u32, b: u32) -> u32
 // The greatest size among n rackings of each end, whose counts stand at `door` and at `closed`.
 fn greatest_at(answer: &[u8], door: usize, closed: usize, n: usize) -> u32
     requires { (n ≤ 10) × (door + 1 + 4 * n ≤ length answer.now) × (closed + 1 + 4 * n ≤ length answer.now) }
-    ensures { (result ≡ larger (greatestAt answer.now door n) (greatestAt answer.now closed n)) × (result ≤ 2 ^ 31) }
+    ensures { (result ≡ larger (greatest_at answer.now door n) (greatest_at answer.now closed n)) × (result ≤ 2 ^ 31) }
 {
     let mut greatest: u32 = 0;
     let mut i = 0;
@@ -58,7 +58,7 @@ fn greatest_at(answer: &[u8], door: usize, closed: usize, n: usize) -> u32
 // The greatest racking in size of an answer for n tiers and so many lashes at the door end, behind which the closed end stands.
 fn racking_in(answer: &[u8], n: usize, lashes: usize) -> u32
     requires { (n ≤ 10) × (lashes ≤ 8) × (10 + 16 * n + 12 * lashes ≤ length answer.now) }
-    ensures { (result ≡ greatestWith answer.now n lashes) × (result ≤ 2 ^ 31) }
+    ensures { (result ≡ greatest_with answer.now n lashes) × (result ≤ 2 ^ 31) }
 {
     let closed = 9 + 12 * n + 12 * lashes;
     greatest_at(answer, 1, closed, n)
@@ -67,7 +67,7 @@ fn racking_in(answer: &[u8], n: usize, lashes: usize) -> u32
 // The mass of the first n tiers of a stack sheet together. It is read from the bytes, so that no sheet is copied for it.
 pub fn mass_of(row: &[u8], n: usize) -> u64
     requires { (n ≤ 10) × (9 + 12 * n ≤ length row.now) }
-    ensures { (result ≡ sum_of (λ j. (tierAt (tiersIn row.now n) j).mass) n) × (result ≤ 655350) }
+    ensures { (result ≡ sum_of (λ j. (tier_at (tiers_in row.now n) j).mass) n) × (result ≤ 655350) }
 {
     let mut mass: u64 = 0;
     let mut k = 0;
@@ -93,7 +93,7 @@ fn accepted_by(verdict: u8) -> u64
 pub fn totals_of(answer: &[u8], n: usize, lashes: usize, mass: u64) -> Totals
     requires { (n ≤ 10) × (lashes ≤ 8) × (10 + 16 * n + 12 * lashes ≤ length answer.now) × (length answer.now ≤ 834)
         × (mass ≤ 655350) }
-    ensures { (result ≡ totalsWith answer.now n lashes mass) × Bounded 1 result }
+    ensures { (result ≡ totals_with answer.now n lashes mass) × Bounded 1 result }
 {
     Totals {
         length: 2 + answer.len(),

@@ -1,13 +1,13 @@
 // Up to which height the rows beside a row of a bay cover its boxes (document 02, P6), and whether a box shows above that.
 
 ghost use Rattle.std.specs.Prelude.{◌≡◌};
-ghost use Rattle.bay_cover.specs.inner.Covers.{coverAbove, coverBeside, smaller, coverOf, shownAbove};
+ghost use Rattle.bay_cover.specs.Inner.Covers.{cover_above, cover_beside, smaller, cover_of, shown_above};
 
 use bay_wind::{Nearest, Neighbours, Outline};
 
 // Up to which height boxes of this size are covered by a loaded row behind so many empty ones; 0 where they are exposed fully.
 fn cover_above(size: u8, between: usize, row: Outline) -> u32
-    ensures { result ≡ coverAbove size between row }
+    ensures { result ≡ cover_above size between row }
 {
     if 3 <= between {
         return 0;
@@ -20,7 +20,7 @@ fn cover_above(size: u8, between: usize, row: Outline) -> u32
 
 // On one side.
 fn cover_beside(size: u8, nearest: Nearest) -> u32
-    ensures { result ≡ coverBeside size nearest }
+    ensures { result ≡ cover_beside size nearest }
 {
     match nearest {
         Nearest::Nothing => 0,
@@ -39,7 +39,7 @@ fn smaller_of(a: u32, b: u32) -> u32
 
 // On both sides.
 pub fn cover_of(size: u8, near: Neighbours) -> u32
-    ensures { result ≡ coverOf size near }
+    ensures { result ≡ cover_of size near }
 {
     let port = near.port;
     let starboard = near.starboard;
@@ -48,7 +48,7 @@ pub fn cover_of(size: u8, near: Neighbours) -> u32
 
 // Whether a box is exposed whose top stands at `top`.
 pub fn shown_above(cover: u32, height: u16, top: u32) -> bool
-    ensures { result ≡ shownAbove cover height top }
+    ensures { result ≡ shown_above cover height top }
 {
     (height as u64) + 3 * (cover as u64) < 3 * (top as u64)
 }

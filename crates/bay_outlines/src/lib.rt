@@ -3,12 +3,12 @@
 ghost use Rattle.std.specs.Prelude.{◌≡◌, map, ◌+◌, ◌*◌, ◌≤◌, length};
 ghost use Rattle.arith.specs.Lists.{below, padded};
 ghost use Rattle.sheet.specs.declared.Reading.TheVariants.{Taken};
-ghost use Rattle.sheet.specs.Layout.{tiersIn};
-ghost use Rattle.bay_wind.specs.Exposure.{heightOf, emptyRow};
-ghost use Rattle.bay_wind.specs.inner.Paired.{paired};
+ghost use Rattle.sheet.specs.Layout.{tiers_in};
+ghost use Rattle.bay_wind.specs.Exposure.{height_of, empty_row};
+ghost use Rattle.bay_wind.specs.Inner.Paired.{paired};
 ghost use Rattle.bay_rows.specs.declared.BayReading.TheVariants as R;
-ghost use Rattle.bay_rows.specs.Bay.{rowCount, row_of, outlineOf};
-ghost use Rattle.bay_rows.specs.Refusals.{rowReading, rowsRefusal};
+ghost use Rattle.bay_rows.specs.Bay.{row_count, row_of, outline_of};
+ghost use Rattle.bay_rows.specs.Refusals.{row_reading, rows_refusal};
 
 use bay_wind::Outline;
 
@@ -22,7 +22,7 @@ pub struct Measures {
 // The height of the first n tiers of a stack sheet together.
 fn height_of(row: &[u8], n: usize) -> u32
     requires { (n ≤ 10) × (9 + 12 * n ≤ length row.now) }
-    ensures { result ≡ heightOf (tiersIn row.now n) n }
+    ensures { result ≡ height_of (tiers_in row.now n) n }
 {
     let mut height: u32 = 0;
     let mut k = 0;
@@ -35,15 +35,15 @@ fn height_of(row: &[u8], n: usize) -> u32
 }
 
 fn empty_row() -> Outline
-    ensures { result ≡ emptyRow }
+    ensures { result ≡ empty_row }
 {
     Outline { height: 0, size: 0 }
 }
 
 // A row that has no refusal, as the rows beside it see it.
 fn outline_of(row: &[u8]) -> Outline
-    requires { rowReading row.now ≡ Taken }
-    ensures { result ≡ outlineOf row.now }
+    requires { row_reading row.now ≡ Taken }
+    ensures { result ≡ outline_of row.now }
 {
     if row.len() == 0 {
         return empty_row();
@@ -57,8 +57,8 @@ fn outline_of(row: &[u8]) -> Outline
 
 // The outlines of the n rows of a bay that has no refusal.
 pub fn outlines(bay: &[u8], n: usize) -> Measures
-    requires { (n ≤ 24) × (n ≡ rowCount bay.now) × (rowsRefusal bay.now ≡ R.Taken) }
-    ensures { (paired result.heights result.sizes ≡ padded 24 emptyRow (map (λ k. outlineOf (row_of bay.now k)) (below n)))
+    requires { (n ≤ 24) × (n ≡ row_count bay.now) × (rows_refusal bay.now ≡ R.Taken) }
+    ensures { (paired result.heights result.sizes ≡ padded 24 empty_row (map (λ k. outline_of (row_of bay.now k)) (below n)))
         × (length result.heights ≡ 24) × (length result.sizes ≡ 24) }
 {
     let mut heights = [0u32; 24];

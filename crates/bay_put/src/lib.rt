@@ -4,15 +4,15 @@ ghost use Rattle.std.specs.Prelude.{◌≡◌, ◌++◌, ◌≤◌, length, drop
 ghost use Rattle.std.proofs.lemmas.List.Edits.{sets};
 ghost use Rattle.arith.specs.Bytes.{bytes2};
 ghost use Rattle.sheet.specs.declared.Reading.TheVariants.{Taken};
-ghost use Rattle.sheet.specs.Layout.{sheetOf};
+ghost use Rattle.sheet.specs.Layout.{sheet_of};
 ghost use Rattle.sheet.specs.Fits.{Fits};
-ghost use Rattle.sheet.specs.Refusals.{first, sheetRows};
-ghost use Rattle.sheet.specs.inner.Changed.{withTiers};
-ghost use Rattle.bay_wind.specs.Exposure.{sheetInBay};
-ghost use Rattle.bay_rows.specs.Refusals.{rowReading};
-ghost use Rattle.bay_answer.specs.Rows.{rowBytes};
-ghost use Rattle.bay_answer.specs.inner.Totalled.{rowTotals, Bounded};
-ghost use Rattle.bay_put.specs.inner.Answered.{answer_in, RowAnswered, RowPut};
+ghost use Rattle.sheet.specs.Refusals.{first, sheet_rows};
+ghost use Rattle.sheet.specs.Inner.Changed.{with_tiers};
+ghost use Rattle.bay_wind.specs.Exposure.{sheet_in_bay};
+ghost use Rattle.bay_rows.specs.Refusals.{row_reading};
+ghost use Rattle.bay_answer.specs.Rows.{row_bytes};
+ghost use Rattle.bay_answer.specs.Inner.Totalled.{row_totals, Bounded};
+ghost use Rattle.bay_put.specs.Inner.Answered.{answer_in, RowAnswered, RowPut};
 
 use answer::Outcome;
 use bay_answer::Totals;
@@ -22,8 +22,8 @@ use sheet::Tier;
 // The answer to a row that has no refusal, with these tiers in place of its own, from the buffer's start: its length. There is room, so it
 // is never refused.
 fn answer_row(row: &[u8], tiers: [Tier; 10], answer: &mut [u8]) -> usize
-    requires { (first (sheetRows row.now) ≡ Taken) × Fits (withTiers tiers (sheetOf row.now)) × (834 ≤ length answer.old) }
-    ensures { RowAnswered (withTiers tiers (sheetOf row.now)) answer.old answer.new result }
+    requires { (first (sheet_rows row.now) ≡ Taken) × Fits (with_tiers tiers (sheet_of row.now)) × (834 ≤ length answer.old) }
+    ensures { RowAnswered (with_tiers tiers (sheet_of row.now)) answer.old answer.new result }
 {
     let rule = load_rules::rule_of(sheet_fields::head_of(row));
     let outcome = stack_check::answer_with(row, tiers, rule, answer);
@@ -44,7 +44,7 @@ fn put_length(report: &mut [u8], n: usize)
 
 // The answer to a row that has no refusal, behind its length, from the buffer's start; and what the report takes from it.
 fn put_answer(row: &[u8], near: Neighbours, report: &mut [u8]) -> Totals
-    requires { (first (sheetRows row.now) ≡ Taken) × (836 ≤ length report.old) }
+    requires { (first (sheet_rows row.now) ≡ Taken) × (836 ≤ length report.old) }
     ensures { RowPut near row.now report.old report.new result }
 {
     let ntiers = sheet_fields::byte_at(row, 8) as usize;
@@ -59,10 +59,10 @@ fn put_answer(row: &[u8], near: Neighbours, report: &mut [u8]) -> Totals
 
 // A row's answer behind its length, from the buffer's start: length 0 for an empty row.
 pub fn put_row(row: &[u8], near: Neighbours, report: &mut [u8]) -> Totals
-    requires { (rowReading row.now ≡ Taken) × (836 ≤ length report.old) }
-    ensures { (result ≡ rowTotals (sheetInBay near (sheetOf row.now)) (answer_in near row.now)) × Bounded 1 result
-        × (report.new ≡ rowBytes (answer_in near row.now)
-        ++ drop (length (rowBytes (answer_in near row.now))) report.old) }
+    requires { (row_reading row.now ≡ Taken) × (836 ≤ length report.old) }
+    ensures { (result ≡ row_totals (sheet_in_bay near (sheet_of row.now)) (answer_in near row.now)) × Bounded 1 result
+        × (report.new ≡ row_bytes (answer_in near row.now)
+        ++ drop (length (row_bytes (answer_in near row.now))) report.old) }
 {
     if row.len() == 0 {
         put_length(report, 0);

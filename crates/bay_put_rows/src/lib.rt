@@ -2,10 +2,10 @@
 
 ghost use Rattle.std.specs.Prelude.{◌≡◌, ◌++◌, ◌<◌, ◌≤◌, ◌^◌, length, drop};
 ghost use Rattle.bay_rows.specs.declared.BayReading.TheVariants as R;
-ghost use Rattle.bay_rows.specs.Bay.{rowCount};
-ghost use Rattle.bay_rows.specs.Refusals.{rowsRefusal};
-ghost use Rattle.bay_answer.specs.inner.Totalled.{Bounded};
-ghost use Rattle.bay_put_rows.specs.inner.Together.{rowsBytes, totalsOf, addedUp};
+ghost use Rattle.bay_rows.specs.Bay.{row_count};
+ghost use Rattle.bay_rows.specs.Refusals.{rows_refusal};
+ghost use Rattle.bay_answer.specs.Inner.Totalled.{Bounded};
+ghost use Rattle.bay_put_rows.specs.Inner.Together.{rows_bytes, totals_of, added_up};
 
 use bay_answer::Totals;
 
@@ -25,7 +25,7 @@ fn none() -> Totals
 fn added_up(a: Totals, b: Totals) -> Totals
     requires { (a.length < 2 ^ 32) × (b.length < 2 ^ 32) × (a.accepted < 2 ^ 32) × (b.accepted < 2 ^ 32) × (a.mass < 2 ^ 32)
         × (b.mass < 2 ^ 32) }
-    ensures { result ≡ addedUp a b }
+    ensures { result ≡ added_up a b }
 {
     Totals {
         length: a.length + b.length,
@@ -37,9 +37,9 @@ fn added_up(a: Totals, b: Totals) -> Totals
 
 // The answers of the n rows of a bay that has no refusal, one behind another, and what is said of the rows together.
 pub fn put_rows(bay: &[u8], n: usize, report: &mut [u8]) -> Totals
-    requires { (rowsRefusal bay.now ≡ R.Taken) × (n ≡ rowCount bay.now) × (20064 ≤ length report.old) }
-    ensures { (result ≡ totalsOf bay.now n) × Bounded n result
-        × (report.new ≡ rowsBytes bay.now n ++ drop (length (rowsBytes bay.now n)) report.old) }
+    requires { (rows_refusal bay.now ≡ R.Taken) × (n ≡ row_count bay.now) × (20064 ≤ length report.old) }
+    ensures { (result ≡ totals_of bay.now n) × Bounded n result
+        × (report.new ≡ rows_bytes bay.now n ++ drop (length (rows_bytes bay.now n)) report.old) }
 {
     let rows = bay_outlines::outlines(bay, n);
     let heights = rows.heights;

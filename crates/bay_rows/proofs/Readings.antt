@@ -13,38 +13,38 @@ use Rattle.arith.specs.Lists.{from, below}
 use Rattle.sheet.specs.declared.Reading.{Reading}
 use Rattle.sheet.specs.declared.Reading.TheVariants as R
 use Rattle.sheet.specs.Layout.{within}
-use Rattle.sheet.specs.Refusals.{row13, first, sheetRows}
-use Rattle.sheet.proofs.Bools.{or-false, and-true}
-use Rattle.sheet.proofs.Rows.{no_rows, row-holds, row-passed}
+use Rattle.sheet.specs.Refusals.{row13, first, sheet_rows}
+use Rattle.sheet.proofs.Bools.{or_false, and_true}
+use Rattle.sheet.proofs.Rows.{no_rows, row_holds, row_passed}
 use Rattle.bay_rows.specs.declared.BayReading.{BayReading}
 use Rattle.bay_rows.specs.declared.BayReading.TheVariants.{Taken, Refused}
-use Rattle.bay_rows.specs.Bay.{rowCount, rowPlace, row_of}
-use Rattle.bay_rows.specs.Refusals.{about, ◌else◌, row16, rowReading, first_of, rowsRefusal, longestReport, bayRefusal}
+use Rattle.bay_rows.specs.Bay.{row_count, row_place, row_of}
+use Rattle.bay_rows.specs.Refusals.{about, ◌else◌, row16, row_reading, first_of, rows_refusal, longest_report, bay_refusal}
 
 -- a row of its own
 module _ (s : List ℕ) where
-  pub empty-reading : length s ≡ 0 → rowReading s ≡ R.Taken
-  empty-reading e = rw (eq-eqb (length s) 0 e)
+  pub empty_reading : length s ≡ 0 → row_reading s ≡ R.Taken
+  empty_reading e = rw (eq-eqb (length s) 0 e)
 
-  pub loaded-reading : (length s ≡ 0 → ⊥) → rowReading s ≡ first (sheetRows s)
-  loaded-reading h = rw (ne_eqb (length s) 0 h)
+  pub loaded_reading : (length s ≡ 0 → ⊥) → row_reading s ≡ first (sheet_rows s)
+  loaded_reading h = rw (ne_eqb (length s) 0 h)
 
 -- the rows k, k + 1, .. n - 1, at a count that falls
 module _ (b : List ℕ) (k n : ℕ) where
   abbrev rest : ℕ → BayReading
   rest i = first_of b (from i (n - i))
 
-  split : k < n → rest k ≡ about (suc k) (rowReading (row_of b k)) else rest (k + 1)
+  split : k < n → rest k ≡ about (suc k) (row_reading (row_of b k)) else rest (k + 1)
   unfolding first_of from
   split h =
       let e : n - k ≡ suc (n - (k + 1)) = omega arith in
       rw (e, add-one k)
 
-  pub next-taken : k < n → rowReading (row_of b k) ≡ R.Taken → rest k ≡ rest (k + 1)
-  next-taken h e = split h ∙ ap (λ r. about (suc k) r else rest (k + 1)) e
+  pub next_taken : k < n → row_reading (row_of b k) ≡ R.Taken → rest k ≡ rest (k + 1)
+  next_taken h e = split h ∙ ap (λ r. about (suc k) r else rest (k + 1)) e
 
-  pub next-refused : {c p : ℕ} → k < n → rowReading (row_of b k) ≡ R.Refused c p → rest k ≡ Refused c p (k + 1)
-  next-refused {c} {p} h e = split h ∙ ap (λ r. about (suc k) r else rest (k + 1)) e ∙ ap (Refused c p) (sym (add-one k))
+  pub next_refused : {c p : ℕ} → k < n → row_reading (row_of b k) ≡ R.Refused c p → rest k ≡ Refused c p (k + 1)
+  next_refused {c} {p} h e = split h ∙ ap (λ r. about (suc k) r else rest (k + 1)) e ∙ ap (Refused c p) (sym (add-one k))
 
   pub none_left : n ≤ k → rest k ≡ Taken
   unfolding first_of from
@@ -52,53 +52,53 @@ module _ (b : List ℕ) (k n : ℕ) where
       let e : n - k ≡ 0 = omega arith in
       rw e
 
-pub few-rows : (n : ℕ) → not (within 1 24 n) ≡ false → (1 ≤ n) × (n ≤ 24)
-few-rows n h =
-    let (some, few) = and-true (leb 1 n) (leb n 24) (not-false _ h) in
+pub few_rows : (n : ℕ) → not (within 1 24 n) ≡ false → (1 ≤ n) × (n ≤ 24)
+few_rows n h =
+    let (some, few) = and_true (leb 1 n) (leb n 24) (not-false _ h) in
     (leb-true 1 n some, leb-true n 24 few)
 
 -- 16, then the rows
 module _ (b : List ℕ) where
-  pub bad-count : {n : ℕ} → n ≡ rowCount b → not (within 1 24 n) ≡ true → true ≡ (row16 b).holds
-  bad-count {n} e h =
-      let f : not (within 1 24 (rowCount b)) ≡ true = rw e at h in
+  pub bad_count : {n : ℕ} → n ≡ row_count b → not (within 1 24 n) ≡ true → true ≡ (row16 b).holds
+  bad_count {n} e h =
+      let f : not (within 1 24 (row_count b)) ≡ true = rw e at h in
       rw f
 
-  pub good-count :
+  pub good_count :
       {n place : ℕ} →
-      n ≡ rowCount b →
+      n ≡ row_count b →
       not (within 1 24 n) ≡ false →
-      place ≡ rowPlace b n →
+      place ≡ row_place b n →
       not (eqb place (length b)) ≡ (row16 b).holds
-  good-count {n} {place} e h p =
-      let f : not (within 1 24 (rowCount b)) ≡ false = rw e at h in
-      let q : place ≡ rowPlace b (rowCount b) = p ∙ ap (rowPlace b) e in
+  good_count {n} {place} e h p =
+      let f : not (within 1 24 (row_count b)) ≡ false = rw e at h in
+      let q : place ≡ row_place b (row_count b) = p ∙ ap (row_place b) e in
       rw (f, q)
 
   module _ (laid : (row16 b).holds ≡ false) where
-    parts : (not (within 1 24 (rowCount b)) ≡ false) × (not (eqb (rowPlace b (rowCount b)) (length b)) ≡ false)
-    parts = or-false (not (within 1 24 (rowCount b))) (not (eqb (rowPlace b (rowCount b)) (length b))) laid
+    parts : (not (within 1 24 (row_count b)) ≡ false) × (not (eqb (row_place b (row_count b)) (length b)) ≡ false)
+    parts = or_false (not (within 1 24 (row_count b))) (not (eqb (row_place b (row_count b)) (length b))) laid
 
-    pub count-good : (1 ≤ rowCount b) × (rowCount b ≤ 24)
-    count-good = few-rows (rowCount b) parts.0
+    pub count_good : (1 ≤ row_count b) × (row_count b ≤ 24)
+    count_good = few_rows (row_count b) parts.0
 
-    pub ends_there : rowPlace b (rowCount b) ≡ length b
+    pub ends_there : row_place b (row_count b) ≡ length b
     ends_there = eqb-true _ _ (not-false _ parts.1)
 
-  pub laid-badly : (row16 b).holds ≡ true → rowsRefusal b ≡ Refused 16 0 0
-  unfolding rowsRefusal
-  laid-badly e = rw (row-holds (row16 b) [] e)
+  pub laid_badly : (row16 b).holds ≡ true → rows_refusal b ≡ Refused 16 0 0
+  unfolding rows_refusal
+  laid_badly e = rw (row_holds (row16 b) [] e)
 
-  pub laid-well : (row16 b).holds ≡ false → rowsRefusal b ≡ first_of b (below (rowCount b))
-  unfolding rowsRefusal
-  laid-well e = rw (row-passed (row16 b) [] e, no_rows)
+  pub laid_well : (row16 b).holds ≡ false → rows_refusal b ≡ first_of b (below (row_count b))
+  unfolding rows_refusal
+  laid_well e = rw (row_passed (row16 b) [] e, no_rows)
 
 -- a bay that has no refusal
 pub record Sound (b : List ℕ) : Type 0 where
-  pub some : 1 ≤ rowCount b
-  pub few : rowCount b ≤ 24
-  pub ends : rowPlace b (rowCount b) ≡ length b
-  pub rows : (k : ℕ) → k < rowCount b → rowReading (row_of b k) ≡ R.Taken
+  pub some : 1 ≤ row_count b
+  pub few : row_count b ≤ 24
+  pub ends : row_place b (row_count b) ≡ length b
+  pub rows : (k : ℕ) → k < row_count b → row_reading (row_of b k) ≡ R.Taken
 
 never : {A : Type 0} {c p k : ℕ} → Refused c p k ≡ Taken → A
 never e = let z : ◌≡◌ {A = ℕ} 0 1 = cc in absurd (omega arith)
@@ -107,57 +107,57 @@ first_taken : (k : ℕ) (r : Reading) (q : BayReading) → about k r else q ≡ 
 first_taken k R.Taken q e = (refl, e)
 first_taken k (R.Refused c p) q e = never e
 
-each-taken : (b : List ℕ) (i m : ℕ) → first_of b (from i m) ≡ Taken → (j : ℕ) → j < m → rowReading (row_of b (i + j)) ≡ R.Taken
+each_taken : (b : List ℕ) (i m : ℕ) → first_of b (from i m) ≡ Taken → (j : ℕ) → j < m → row_reading (row_of b (i + j)) ≡ R.Taken
 unfolding first_of from
-each-taken b i zero e j h = absurd (omega (arith, h))
-each-taken b i (suc m) e zero h = rw (add-zero i) (first_taken (suc i) (rowReading (row_of b i)) _ e).0
-each-taken b i (suc m) e (suc j) h =
+each_taken b i zero e j h = absurd (omega (arith, h))
+each_taken b i (suc m) e zero h = rw (add-zero i) (first_taken (suc i) (row_reading (row_of b i)) _ e).0
+each_taken b i (suc m) e (suc j) h =
     rw (add-suc i j, ← suc-add i j)
-    (each-taken b (suc i) m (first_taken (suc i) (rowReading (row_of b i)) _ e).1 j (omega (arith, h)))
+    (each_taken b (suc i) m (first_taken (suc i) (row_reading (row_of b i)) _ e).1 j (omega (arith, h)))
 
-module _ (b : List ℕ) (e : rowsRefusal b ≡ Taken) where
-  by_parts : ((row16 b).holds ≡ false) × (first_of b (below (rowCount b)) ≡ Taken)
+module _ (b : List ℕ) (e : rows_refusal b ≡ Taken) where
+  by_parts : ((row16 b).holds ≡ false) × (first_of b (below (row_count b)) ≡ Taken)
   by_parts = go (row16 b).holds refl
     where
-      go : (h : Bool) → (row16 b).holds ≡ h → ((row16 b).holds ≡ false) × (first_of b (below (rowCount b)) ≡ Taken)
-      go true q = never (sym (laid-badly b q) ∙ e)
-      go false q = (q, sym (laid-well b q) ∙ e)
+      go : (h : Bool) → (row16 b).holds ≡ h → ((row16 b).holds ≡ false) × (first_of b (below (row_count b)) ≡ Taken)
+      go true q = never (sym (laid_badly b q) ∙ e)
+      go false q = (q, sym (laid_well b q) ∙ e)
 
   pub sound : Sound b
   sound =
       let (laid, rows) = by_parts in
       record {
-        some = (count-good b laid).0;
-        few = (count-good b laid).1;
+        some = (count_good b laid).0;
+        few = (count_good b laid).1;
         ends = ends_there b laid;
-        rows = λ k h. rw (zero-add k) at (each-taken b 0 (rowCount b) rows k h);
+        rows = λ k h. rw (zero-add k) at (each_taken b 0 (row_count b) rows k h);
       }
 
 -- 13 comes last
 module _ (b : List ℕ) (room : ℕ) where
   abbrev short : Reading
-  short = first (row13 longestReport room ∷ [])
+  short = first (row13 longest_report room ∷ [])
 
-  pub rows-refused : {c p k : ℕ} → rowsRefusal b ≡ Refused c p k → bayRefusal b room ≡ Refused c p k
-  unfolding bayRefusal
-  rows-refused e = ap (λ r. r else about 0 short) e
+  pub rows_refused : {c p k : ℕ} → rows_refusal b ≡ Refused c p k → bay_refusal b room ≡ Refused c p k
+  unfolding bay_refusal
+  rows_refused e = ap (λ r. r else about 0 short) e
 
-  pub rows-taken-of : bayRefusal b room ≡ Taken → rowsRefusal b ≡ Taken
-  unfolding bayRefusal
-  rows-taken-of e = go (rowsRefusal b) e
+  pub rows_taken_of : bay_refusal b room ≡ Taken → rows_refusal b ≡ Taken
+  unfolding bay_refusal
+  rows_taken_of e = go (rows_refusal b) e
     where
       go : (r : BayReading) → r else about 0 short ≡ Taken → r ≡ Taken
       go Taken q = refl
       go (Refused c p k) q = never q
 
-  module _ (taken : rowsRefusal b ≡ Taken) where
-    pub room-short : room < 20073 → bayRefusal b room ≡ Refused 13 20073 0
-    unfolding bayRefusal
-    room-short h =
-        ap (λ r. r else about 0 short) taken ∙ ap (about 0) (row-holds (row13 longestReport room) [] (lt-ltb room 20073 h))
+  module _ (taken : rows_refusal b ≡ Taken) where
+    pub room_short : room < 20073 → bay_refusal b room ≡ Refused 13 20073 0
+    unfolding bay_refusal
+    room_short h =
+        ap (λ r. r else about 0 short) taken ∙ ap (about 0) (row_holds (row13 longest_report room) [] (lt-ltb room 20073 h))
 
-    pub all-taken : 20073 ≤ room → bayRefusal b room ≡ Taken
-    unfolding bayRefusal
-    all-taken h =
+    pub all_taken : 20073 ≤ room → bay_refusal b room ≡ Taken
+    unfolding bay_refusal
+    all_taken h =
         ap (λ r. r else about 0 short) taken
-        ∙ ap (about 0) (row-passed (row13 longestReport room) [] (le-ltb room 20073 h) ∙ no_rows)
+        ∙ ap (about 0) (row_passed (row13 longest_report room) [] (le-ltb room 20073 h) ∙ no_rows)

@@ -3,31 +3,31 @@
 use Rattle.std.specs.Prelude.{ℕ, zero, suc, ◌+◌, Bool, cond, List, map, take, drop, length}
 use Rattle.arith.specs.Bytes.{byte_at, le2}
 use Rattle.arith.specs.Lists.{below}
-use Rattle.sheet.specs.Layout.{◌is◌, sheetOf}
+use Rattle.sheet.specs.Layout.{◌is◌, sheet_of}
 use Rattle.bay_wind.specs.declared.Outline.{Outline}
-use Rattle.bay_wind.specs.Exposure.{emptyRow, stack_of}
+use Rattle.bay_wind.specs.Exposure.{empty_row, stack_of}
 
-abbrev pub rowCount : List ℕ → ℕ
-rowCount b = byte_at b 0
+abbrev pub row_count : List ℕ → ℕ
+row_count b = byte_at b 0
 
 -- where the length of row k stands: behind the row before it
-unfoldable pub rowPlace : List ℕ → ℕ → ℕ
-rowPlace b zero = 1
-rowPlace b (suc k) = rowPlace b k + 2 + le2 b (rowPlace b k)
+unfoldable pub row_place : List ℕ → ℕ → ℕ
+row_place b zero = 1
+row_place b (suc k) = row_place b k + 2 + le2 b (row_place b k)
 
 -- the bytes behind the length at `at`
 abbrev pub row_at : List ℕ → ℕ → List ℕ
 row_at b at = take (le2 b at) (drop (at + 2) b)
 
 unfoldable pub row_of : List ℕ → ℕ → List ℕ
-row_of b k = row_at b (rowPlace b k)
+row_of b k = row_at b (row_place b k)
 
 abbrev pub is_empty : List ℕ → Bool
 is_empty row = length row is 0
 
 -- the rows as those beside them see them
-unfoldable pub outlineOf : List ℕ → Outline
-outlineOf row = cond (is_empty row) emptyRow (stack_of (sheetOf row))
+unfoldable pub outline_of : List ℕ → Outline
+outline_of row = cond (is_empty row) empty_row (stack_of (sheet_of row))
 
 abbrev pub outlines : List ℕ → List Outline
-outlines b = map (λ k. outlineOf (row_of b k)) (below (rowCount b))
+outlines b = map (λ k. outline_of (row_of b k)) (below (row_count b))

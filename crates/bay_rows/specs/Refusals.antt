@@ -5,10 +5,10 @@ use Rattle.arith.specs.Lists.{below}
 use Rattle.sheet.specs.declared.Reading.{Reading}
 use Rattle.sheet.specs.declared.Reading.TheVariants as R
 use Rattle.sheet.specs.Layout.{◌is◌, within}
-use Rattle.sheet.specs.Refusals.{Row, row, row13, first, sheetRows, longestAnswer}
+use Rattle.sheet.specs.Refusals.{Row, row, row13, first, sheet_rows, longest_answer}
 use Rattle.bay_rows.specs.declared.BayReading.{BayReading}
 use Rattle.bay_rows.specs.declared.BayReading.TheVariants.{Taken, Refused}
-use Rattle.bay_rows.specs.Bay.{rowCount, rowPlace, row_of, is_empty}
+use Rattle.bay_rows.specs.Bay.{row_count, row_place, row_of, is_empty}
 
 -- what is read of row k, counted from 1; k is 0 where it is of the bay itself
 abbrev pub about : ℕ → Reading → BayReading
@@ -22,25 +22,25 @@ Refused number second k else r = Refused number second k
 
 -- 16, 0: a bad count, or lengths that do not end with the bay's bytes
 abbrev pub row16 : List ℕ → Row
-row16 b = row 16 0 (not (within 1 24 (rowCount b)) || not (rowPlace b (rowCount b) is length b))
+row16 b = row 16 0 (not (within 1 24 (row_count b)) || not (row_place b (row_count b) is length b))
 
 -- what turns one row back: an empty one has no refusal
-abbrev pub rowReading : List ℕ → Reading
-rowReading s = cond (is_empty s) R.Taken (first (sheetRows s))
+abbrev pub row_reading : List ℕ → Reading
+row_reading s = cond (is_empty s) R.Taken (first (sheet_rows s))
 
 -- the first of these rows with a refusal of its own
 unfoldable pub first_of : List ℕ → List ℕ → BayReading
 first_of b [] = Taken
-first_of b (k ∷ ks) = about (suc k) (rowReading (row_of b k)) else first_of b ks
+first_of b (k ∷ ks) = about (suc k) (row_reading (row_of b k)) else first_of b ks
 
 -- 16 comes before any row, then the rows in order
-unfoldable pub rowsRefusal : List ℕ → BayReading
-rowsRefusal b = about 0 (first (row16 b ∷ [])) else first_of b (below (rowCount b))
+unfoldable pub rows_refusal : List ℕ → BayReading
+rows_refusal b = about 0 (first (row16 b ∷ [])) else first_of b (below (row_count b))
 
 -- the room that a report is given: 9 bytes and, of each of 24 rows, its length and the longest answer, which is 20,073 in all
-abbrev pub longestReport : ℕ
-longestReport = 9 + 24 * (2 + longestAnswer)
+abbrev pub longest_report : ℕ
+longest_report = 9 + 24 * (2 + longest_answer)
 
 -- 13 comes last
-unfoldable pub bayRefusal : List ℕ → ℕ → BayReading
-bayRefusal b room = rowsRefusal b else about 0 (first (row13 longestReport room ∷ []))
+unfoldable pub bay_refusal : List ℕ → ℕ → BayReading
+bay_refusal b room = rows_refusal b else about 0 (first (row13 longest_report room ∷ []))

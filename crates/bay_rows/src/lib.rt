@@ -3,8 +3,8 @@
 ghost use Rattle.std.specs.Prelude.{◌≡◌, ◌+◌, ◌<◌, ◌≤◌, length};
 ghost use Rattle.arith.specs.Bytes.{le2};
 ghost use Rattle.arith.specs.Lists.{below};
-ghost use Rattle.bay_rows.specs.Bay.{rowPlace, row_at};
-ghost use Rattle.bay_rows.specs.Refusals.{row16, rowReading, first_of, rowsRefusal};
+ghost use Rattle.bay_rows.specs.Bay.{row_place, row_at};
+ghost use Rattle.bay_rows.specs.Refusals.{row16, row_reading, first_of, rows_refusal};
 
 use sheet::Reading;
 
@@ -44,7 +44,7 @@ pub fn row_at(bay: &[u8], at: usize) -> &[u8]
 // The place behind the last of n rows.
 fn end_place(bay: &[u8], n: usize) -> usize
     requires { n ≤ 24 }
-    ensures { result ≡ rowPlace bay.now n }
+    ensures { result ≡ row_place bay.now n }
 {
     let mut at = 1;
     let mut k = 0;
@@ -68,7 +68,7 @@ fn badly_laid_out(bay: &[u8]) -> bool
 
 // The tests of one row.
 fn test_row(row: &[u8]) -> Reading
-    ensures { result ≡ rowReading row.now }
+    ensures { result ≡ row_reading row.now }
 {
     if row.len() == 0 {
         return Reading::Taken;
@@ -78,7 +78,7 @@ fn test_row(row: &[u8]) -> Reading
 
 // The tests of n rows, one after another.
 fn test_rows(bay: &[u8], n: usize) -> BayReading
-    requires { (n ≤ 24) × (rowPlace bay.now n ≤ length bay.now) }
+    requires { (n ≤ 24) × (row_place bay.now n ≤ length bay.now) }
     ensures { result ≡ first_of bay.now (below n) }
 {
     let mut at = 1;
@@ -95,7 +95,7 @@ fn test_rows(bay: &[u8], n: usize) -> BayReading
 
 // What turns the bay back before a report buffer is looked at.
 pub fn test_bay(bay: &[u8]) -> BayReading
-    ensures { result ≡ rowsRefusal bay.now }
+    ensures { result ≡ rows_refusal bay.now }
 {
     if badly_laid_out(bay) {
         return BayReading::Refused(16, 0, 0);

@@ -2,22 +2,22 @@
 
 ghost use Rattle.std.specs.Prelude.{◌≡◌};
 ghost use Rattle.sheet.specs.declared.Reading.TheVariants.{Taken};
-ghost use Rattle.sheet.specs.Layout.{windCode, tierCount, sheetOf};
-ghost use Rattle.sheet.specs.Refusals.{first, sheetRows};
-ghost use Rattle.bay_wind.specs.Exposure.{withWind, sheetInBay};
+ghost use Rattle.sheet.specs.Layout.{wind_code, tier_count, sheet_of};
+ghost use Rattle.sheet.specs.Refusals.{first, sheet_rows};
+ghost use Rattle.bay_wind.specs.Exposure.{with_wind, sheet_in_bay};
 
 use bay_wind::Neighbours;
 use sheet::Tier;
 
 fn wind_code(exposed: bool, turned: bool) -> u8
-    ensures { result ≡ windCode exposed turned }
+    ensures { result ≡ wind_code exposed turned }
 {
     (exposed as u8) + 2 * (turned as u8)
 }
 
 // The tier with another wind part: a turned box stays turned.
 fn with_wind(t: Tier, exposed: bool) -> Tier
-    ensures { result ≡ withWind exposed t }
+    ensures { result ≡ with_wind exposed t }
 {
     let mut copy = t;
     copy.wind = wind_code(exposed, sheet::turned(t));
@@ -26,8 +26,8 @@ fn with_wind(t: Tier, exposed: bool) -> Tier
 
 // The n tiers of a row, bottom first, with their wind parts worked out afresh. All are of one size, so the cover is the same for each.
 pub fn tiers_in_bay(row: &[u8], n: usize, near: Neighbours) -> [Tier; 10]
-    requires { (first (sheetRows row.now) ≡ Taken) × (n ≡ tierCount row.now) }
-    ensures { result ≡ (sheetInBay near (sheetOf row.now)).tiers }
+    requires { (first (sheet_rows row.now) ≡ Taken) × (n ≡ tier_count row.now) }
+    ensures { result ≡ (sheet_in_bay near (sheet_of row.now)).tiers }
 {
     let cover = bay_cover::cover_of(sheet_fields::field1(row, 9), near);
     let mut tiers = [sheet_fields::blank_tier(); 10];

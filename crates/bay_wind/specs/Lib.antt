@@ -1,3 +1,3 @@
 pub mod Sums
 pub mod Exposure
-pub mod inner
+pub mod Inner

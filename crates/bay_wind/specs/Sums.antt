@@ -10,6 +10,6 @@ sum_of f (suc n) = sum_of f n + f n
 unfoldable pub larger : ℕ → ℕ → ℕ
 larger a b = cond (ltb a b) b a
 
-unfoldable pub greatestOf : (ℕ → ℕ) → ℕ → ℕ
-greatestOf f zero = 0
-greatestOf f (suc n) = larger (greatestOf f n) (f n)
+unfoldable pub greatest_of : (ℕ → ℕ) → ℕ → ℕ
+greatest_of f zero = 0
+greatest_of f (suc n) = larger (greatest_of f n) (f n)

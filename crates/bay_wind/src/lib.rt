@@ -1,8 +1,8 @@
 // The rows beside a row of a bay (document 02, P6): the nearest loaded one on either side, and how many empty ones lie between.
 
 ghost use Rattle.std.specs.Prelude.{◌≡◌, reverse, suc, ◌<◌, ◌≤◌, length, take, drop};
-ghost use Rattle.bay_wind.specs.Exposure.{nearestOf, neighboursOf};
-ghost use Rattle.bay_wind.specs.inner.Paired.{paired};
+ghost use Rattle.bay_wind.specs.Exposure.{nearest_of, neighbours_of};
+ghost use Rattle.bay_wind.specs.Inner.Paired.{paired};
 
 // A row as the rows beside it see it: the height of its boxes together, in mm, and their size in feet, 0 in an empty row.
 #[derive(Drop)]
@@ -27,7 +27,7 @@ pub struct Neighbours {
 // The nearest loaded row to port of row k, counted from 0. The rows are lent by their heights and sizes, so that none is copied.
 fn nearest_to_port(heights: &[u32], sizes: &[u8], k: usize) -> Nearest
     requires { (k ≤ length heights.now) × (length sizes.now ≡ length heights.now) }
-    ensures { result ≡ nearestOf (reverse (take k (paired heights.now sizes.now))) }
+    ensures { result ≡ nearest_of (reverse (take k (paired heights.now sizes.now))) }
 {
     let mut j = k;
     while 0 < j {
@@ -44,7 +44,7 @@ fn nearest_to_port(heights: &[u32], sizes: &[u8], k: usize) -> Nearest
 // The same to starboard, of n rows.
 fn nearest_to_starboard(heights: &[u32], sizes: &[u8], n: usize, k: usize) -> Nearest
     requires { (k < n) × (n ≤ length heights.now) × (length sizes.now ≡ length heights.now) }
-    ensures { result ≡ nearestOf (drop (suc k) (take n (paired heights.now sizes.now))) }
+    ensures { result ≡ nearest_of (drop (suc k) (take n (paired heights.now sizes.now))) }
 {
     let first = k + 1;
     let mut j = first;
@@ -62,7 +62,7 @@ fn nearest_to_starboard(heights: &[u32], sizes: &[u8], n: usize, k: usize) -> Ne
 // On both sides.
 pub fn neighbours_of(heights: &[u32], sizes: &[u8], n: usize, k: usize) -> Neighbours
     requires { (k < n) × (n ≤ length heights.now) × (length sizes.now ≡ length heights.now) }
-    ensures { result ≡ neighboursOf (take n (paired heights.now sizes.now)) k }
+    ensures { result ≡ neighbours_of (take n (paired heights.now sizes.now)) k }
 {
     Neighbours {
         port: nearest_to_port(heights, sizes, k),

@@ -6,23 +6,23 @@ use native.Mathlib.Omega.{arith}
 use borrow.Author.Tests.{eq-eqb, ne_eqb}
 use Rattle.cases.specs.declared.fields.Held.{Held}
 use Rattle.cases.specs.declared.fields.Held.TheVariants.{Inside, Outside}
-use Rattle.cases.specs.inner.Fields.{sizeWithin, heldFrom}
+use Rattle.cases.specs.Inner.Fields.{size_within, held_from}
 
 module _ (input buffer : List ℕ) (n to at place : ℕ) where
   abbrev pub rest : Held
-  rest = heldFrom input buffer n ((to - at) / 9) at place
+  rest = held_from input buffer n ((to - at) / 9) at place
 
   -- one field more
-  module _ {size : ℕ} (more : 9 ≤ to - at) (is : size ≡ sizeWithin input at buffer place) where
+  module _ {size : ℕ} (more : 9 ≤ to - at) (is : size ≡ size_within input at buffer place) where
     left : (to - at) / 9 ≡ suc ((to - (at + 9)) / 9)
     left = omega arith
 
-    pub held-not : size ≡ 0 → rest ≡ Outside place
-    unfolding heldFrom
-    held-not z = rw (left, ← is, eq-eqb _ _ z) refl
+    pub held_not : size ≡ 0 → rest ≡ Outside place
+    unfolding held_from
+    held_not z = rw (left, ← is, eq-eqb _ _ z) refl
 
-    pub held_more : (size ≡ 0 → ⊥) → rest ≡ heldFrom input buffer n ((to - (at + 9)) / 9) (at + 9) (place + size)
-    unfolding heldFrom
+    pub held_more : (size ≡ 0 → ⊥) → rest ≡ held_from input buffer n ((to - (at + 9)) / 9) (at + 9) (place + size)
+    unfolding held_from
     held_more z = rw (left, ← is, ne_eqb _ _ z) refl
 
   -- the last
@@ -31,9 +31,9 @@ module _ (input buffer : List ℕ) (n to at place : ℕ) where
     none = omega arith
 
     pub held_all : place ≡ n → rest ≡ Inside
-    unfolding heldFrom
+    unfolding held_from
     held_all e = rw (none, eq-eqb _ _ e) refl
 
-    pub held-other : (place ≡ n → ⊥) → rest ≡ Outside place
-    unfolding heldFrom
-    held-other e = rw (none, ne_eqb _ _ e) refl
+    pub held_other : (place ≡ n → ⊥) → rest ≡ Outside place
+    unfolding held_from
+    held_other e = rw (none, ne_eqb _ _ e) refl

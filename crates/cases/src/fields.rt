@@ -1,6 +1,6 @@
 // An answer held to the fields of its case.
 ghost use Rattle.std.specs.Prelude.{◌+◌, ◌-◌, ◌/◌, ◌≤◌, ◌≡◌, length};
-ghost use Rattle.cases.specs.inner.Fields.{sizeIf, sizeWithin, heldFrom};
+ghost use Rattle.cases.specs.Inner.Fields.{size_if, size_within, held_from};
 
 use arith::bytes;
 
@@ -14,7 +14,7 @@ pub enum Held {
 // Holds the answer, the first n bytes of the buffer, to the fields that stand in the input from `from` up to `to`.
 pub fn hold(input: &[u8], from: usize, to: usize, buffer: &[u8], n: usize) -> Held
     requires { (from ≤ to) × (to ≤ length input.now) }
-    ensures { result ≡ heldFrom input.now buffer.now n ((to - from) / 9) from 0 }
+    ensures { result ≡ held_from input.now buffer.now n ((to - from) / 9) from 0 }
 {
     let mut at = from;
     let mut place = 0;
@@ -35,7 +35,7 @@ pub fn hold(input: &[u8], from: usize, to: usize, buffer: &[u8], n: usize) -> He
 // The size of the number at `place`, if it is there and within the bounds of the field at `at`; else 0.
 fn within(input: &[u8], at: usize, buffer: &[u8], place: usize) -> usize
     requires { (at + 9 ≤ length input.now) × (place ≤ length buffer.now) }
-    ensures { (result ≡ sizeWithin input.now at buffer.now place) × (place + result ≤ length buffer.now) }
+    ensures { (result ≡ size_within input.now at buffer.now place) × (place + result ≤ length buffer.now) }
 {
     let size = bytes::read1(input, at) as usize;
     let least = bytes::read4(input, at + 1);
@@ -53,7 +53,7 @@ fn within(input: &[u8], at: usize, buffer: &[u8], place: usize) -> usize
 }
 
 fn size_if(size: usize, x: u64, least: u64, most: u64) -> usize
-    ensures { (result ≡ sizeIf size x least most) × (result ≤ size) }
+    ensures { (result ≡ size_if size x least most) × (result ≤ size) }
 {
     if (least <= x) & (x <= most) { size } else { 0 }
 }

@@ -1,6 +1,6 @@
 // Where the parts of a case stand in the input.
 ghost use Rattle.std.specs.Prelude.{◌≤◌, ◌≡◌, length};
-ghost use Rattle.cases.specs.inner.Places.{ItemAt, itemThere};
+ghost use Rattle.cases.specs.Inner.Places.{ItemAt, item_there};
 
 use arith::bytes;
 
@@ -23,7 +23,7 @@ pub enum Item {
 // The case whose head stands at `at`, if all of it is there and its answer buffer at most 1,024 bytes.
 pub fn case_at(input: &[u8], at: usize) -> Item
     requires { at ≤ length input.now }
-    ensures { (result ≡ itemThere input.now at) × ItemAt result at (length input.now) }
+    ensures { (result ≡ item_there input.now at) × ItemAt result at (length input.now) }
 {
     if input.len() - at < 7 {
         return Item::Bad;

@@ -1,7 +1,7 @@
 // The answer buffer: filled before a check, so that a byte that it should not have written shows.
 ghost use Rattle.std.specs.Prelude.{map, ◌≡◌, drop};
 ghost use Rattle.arith.specs.Lists.{below};
-ghost use Rattle.cases.specs.inner.Marks.{mark_of, allMarked};
+ghost use Rattle.cases.specs.Inner.Marks.{mark_of, all_marked};
 
 // 1,024 bytes, each with the mark of its place.
 pub fn filled() -> [u8; 1024]
@@ -18,7 +18,7 @@ pub fn filled() -> [u8; 1024]
 
 // Whether every byte from the index `from` on has the mark of its place.
 pub fn untouched(buffer: &[u8], from: usize) -> bool
-    ensures { result ≡ allMarked from (drop from buffer.now) }
+    ensures { result ≡ all_marked from (drop from buffer.now) }
 {
     let mut i = from;
     while i < buffer.len() {

@@ -6,8 +6,8 @@ use native.Mathlib.Omega.{arith}
 use native.Mathlib.Decide.{ℕ_discrete}
 use lib.ListN.{get_or, length, set, replicate}
 use lib.Seq.{get_or-set_same, get_or-set_other}
-use Rattle.springs.specs.inner.Promise.{Solvable}
-use Rattle.cases_springs.specs.inner.Within.{Within}
+use Rattle.springs.specs.Inner.Promise.{Solvable}
+use Rattle.cases_springs.specs.Inner.Within.{Within}
 
 pub none : (least most : ℕ) (l : List ℕ) → Within 0 least most l
 none least most l = record { each = λ i h. absurd (omega arith) }

@@ -6,7 +6,7 @@
 // For each a line: `eliminated` and `solved`, each with `inside` or `outside`, or `not solvable`.
 
 ghost use Rattle.std.specs.Prelude.{true, ◌≡◌, ◌+◌, ◌*◌, ◌≤◌, ◌<◌, length};
-ghost use Rattle.cases_springs.specs.inner.Within.{Within};
+ghost use Rattle.cases_springs.specs.Inner.Within.{Within};
 
 use arith::bytes;
 use libc::{STDIN_FILENO, STDOUT_FILENO};

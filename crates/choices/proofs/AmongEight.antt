@@ -15,10 +15,10 @@ pub of_four : OfFour
 unfolding choices flat_map from sized
 of_four = refl
 
-abbrev of-eight : ℕ → List ℕ
-of-eight m = those (λ c. ltb c (2 ^ m)) (choices 8)
+abbrev of_eight : ℕ → List ℕ
+of_eight m = those (λ c. ltb c (2 ^ m)) (choices 8)
 
-tested : map choices (below 9) ≡ map of-eight (below 9)
+tested : map choices (below 9) ≡ map of_eight (below 9)
 unfolding choices flat_map from sized those
 tested = refl
 
@@ -26,5 +26,5 @@ tested = refl
 listed : (f : ℕ → List ℕ) (m : ℕ) → m ≤ 8 → get_or (map f (below 9)) m [] ≡ f m
 listed f m h = entry f [] 0 9 m (omega (arith, h)) ∙ ap f (zero-add m)
 
-pub among-eight : AmongEight
-among-eight m h = sym (listed choices m h) ∙ ap (λ (l : List (List ℕ)). get_or l m []) tested ∙ listed of-eight m h
+pub among_eight : AmongEight
+among_eight m h = sym (listed choices m h) ∙ ap (λ (l : List (List ℕ)). get_or l m []) tested ∙ listed of_eight m h

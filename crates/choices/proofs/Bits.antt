@@ -18,45 +18,45 @@ with_first c = 1 + 2 * c
 abbrev pub without : ℕ → ℕ
 without c = 2 * c
 
-half-with : (c : ℕ) → with_first c / 2 ≡ c
-half-with c = omega arith
+half_with : (c : ℕ) → with_first c / 2 ≡ c
+half_with c = omega arith
 
-half-without : (c : ℕ) → without c / 2 ≡ c
-half-without c = omega arith
+half_without : (c : ℕ) → without c / 2 ≡ c
+half_without c = omega arith
 
-pub first-used : (c : ℕ) → uses (with_first c) 0 ≡ true
+pub first_used : (c : ℕ) → uses (with_first c) 0 ≡ true
 unfolding uses
-first-used c = eq-eqb (with_first c % 2) 1 (omega arith)
+first_used c = eq-eqb (with_first c % 2) 1 (omega arith)
 
-pub first-not : (c : ℕ) → uses (without c) 0 ≡ false
+pub first_not : (c : ℕ) → uses (without c) 0 ≡ false
 unfolding uses
-first-not c = ne_eqb (without c % 2) 1 (λ e. omega (arith, e))
+first_not c = ne_eqb (without c % 2) 1 (λ e. omega (arith, e))
 
-pub later-with : (c k : ℕ) → uses (with_first c) (suc k) ≡ uses c k
+pub later_with : (c k : ℕ) → uses (with_first c) (suc k) ≡ uses c k
 unfolding uses
-later-with c k = ap (λ x. uses x k) (half-with c)
+later_with c k = ap (λ x. uses x k) (half_with c)
 
-pub later-without : (c k : ℕ) → uses (without c) (suc k) ≡ uses c k
+pub later_without : (c k : ℕ) → uses (without c) (suc k) ≡ uses c k
 unfolding uses
-later-without c k = ap (λ x. uses x k) (half-without c)
+later_without c k = ap (λ x. uses x k) (half_without c)
 
-pub used-with : (m c : ℕ) → used (suc m) (with_first c) ≡ suc (used m c)
+pub used_with : (m c : ℕ) → used (suc m) (with_first c) ≡ suc (used m c)
 unfolding used
-used-with m c = rw (first-used c, half-with c) refl
+used_with m c = rw (first_used c, half_with c) refl
 
-pub used-without : (m c : ℕ) → used (suc m) (without c) ≡ used m c
+pub used_without : (m c : ℕ) → used (suc m) (without c) ≡ used m c
 unfolding used
-used-without m c = rw (first-not c, half-without c) refl
+used_without m c = rw (first_not c, half_without c) refl
 
-pub none-used : (m : ℕ) → used m 0 ≡ 0
+pub none_used : (m : ℕ) → used m 0 ≡ 0
 unfolding used uses
-none-used zero = refl
-none-used (suc m) = none-used m
+none_used zero = refl
+none_used (suc m) = none_used m
 
-pub few-used : (m c : ℕ) → used m c ≤ m
+pub few_used : (m c : ℕ) → used m c ≤ m
 unfolding used
-few-used zero c = omega arith
-few-used (suc m) c = go (uses c 0) (few-used m (c / 2))
+few_used zero c = omega arith
+few_used (suc m) c = go (uses c 0) (few_used m (c / 2))
   where
     go : (b : Bool) → used m (c / 2) ≤ m → cond b (suc (used m (c / 2))) (used m (c / 2)) ≤ suc m
     go true h = omega (arith, h)
@@ -77,10 +77,10 @@ bits c zero = ap (λ x. eqb (x % 2) 1) (sym (div-one c))
 bits c (suc k) =
     bits (c / 2) k ∙ ap (λ x. eqb (x % 2) 1) (div-div-eq-div-mul c 2 (2 ^ k) ∙ ap (λ x. c / x) (sym (pow-succ' 2 k)))
 
-pub as-many-chosen : AsManyChosen
+pub as_many_chosen : AsManyChosen
 unfolding chosen used
-as-many-chosen A c [] = refl
-as-many-chosen A c (l ∷ ls) = go (uses c 0) (as-many-chosen A (c / 2) ls)
+as_many_chosen A c [] = refl
+as_many_chosen A c (l ∷ ls) = go (uses c 0) (as_many_chosen A (c / 2) ls)
   where
     go :
         (b : Bool) →

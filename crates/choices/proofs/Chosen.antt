@@ -9,11 +9,11 @@ use lib.ListN.{length}
 use Rattle.arith.specs.Lists.{from}
 use Rattle.choices.specs.Choices.{uses, chosen, those}
 use Rattle.choices.specs.Theorems.{ChosenByBits}
-use Rattle.choices.proofs.Bits.{as-many-chosen, few-used}
+use Rattle.choices.proofs.Bits.{as_many_chosen, few_used}
 use Rattle.choices.proofs.Ranked.{Each, Ranked}
 
-pub few-chosen : {A : Type 0} (c : ℕ) (ls : List A) → length (chosen c ls) ≤ length ls
-few-chosen {A} c ls = omega (arith, as-many-chosen A c ls, few-used (length ls) c)
+pub few_chosen : {A : Type 0} (c : ℕ) (ls : List A) → length (chosen c ls) ≤ length ls
+few_chosen {A} c ls = omega (arith, as_many_chosen A c ls, few_used (length ls) c)
 
 pub each_chosen : {A : Type 0} (P : A → Type 0) (c : ℕ) (ls : List A) → Each P ls → Each P (chosen c ls)
 unfolding chosen
@@ -24,19 +24,19 @@ each_chosen {A} P c (l ∷ ls) h = go (uses c 0) (each_chosen P (c / 2) ls h.1)
     go true k = (h.0, k)
     go false k = k
 
-pub ranked-chosen : {A : Type 0} (R : A → A → Type 0) (c : ℕ) (ls : List A) → Ranked R ls → Ranked R (chosen c ls)
+pub ranked_chosen : {A : Type 0} (R : A → A → Type 0) (c : ℕ) (ls : List A) → Ranked R ls → Ranked R (chosen c ls)
 unfolding chosen
-ranked-chosen R c [] h = tt
-ranked-chosen R c (l ∷ ls) h = go (uses c 0) (ranked-chosen R (c / 2) ls h.1)
+ranked_chosen R c [] h = tt
+ranked_chosen R c (l ∷ ls) h = go (uses c 0) (ranked_chosen R (c / 2) ls h.1)
   where
     go : (b : Bool) → Ranked R (chosen (c / 2) ls) → Ranked R (cond b (l ∷ chosen (c / 2) ls) (chosen (c / 2) ls))
     go true k = (each_chosen (R l) (c / 2) ls h.0, k)
     go false k = k
 
-pub chosen-map : {A B : Type 0} (f : A → B) (c : ℕ) (ls : List A) → chosen c (map f ls) ≡ map f (chosen c ls)
+pub chosen_map : {A B : Type 0} (f : A → B) (c : ℕ) (ls : List A) → chosen c (map f ls) ≡ map f (chosen c ls)
 unfolding chosen
-chosen-map f c [] = refl
-chosen-map {A} {B} f c (l ∷ ls) = go (uses c 0) (chosen-map f (c / 2) ls)
+chosen_map f c [] = refl
+chosen_map {A} {B} f c (l ∷ ls) = go (uses c 0) (chosen_map f (c / 2) ls)
   where
     go :
         (b : Bool) →
@@ -47,17 +47,17 @@ chosen-map {A} {B} f c (l ∷ ls) = go (uses c 0) (chosen-map f (c / 2) ls)
     go false e = e
 
 -- lashes by their numbers, from i on: c goes on where it stands in a choice d
-by-bits-from :
+by_bits_from :
     (d c i m : ℕ) →
     ((k : ℕ) → uses d (i + k) ≡ uses c k) →
     chosen c (from i m) ≡ those (uses d) (from i m)
 unfolding chosen those from uses
-by-bits-from d c i zero h = refl
-by-bits-from d c i (suc m) h =
+by_bits_from d c i zero h = refl
+by_bits_from d c i (suc m) h =
     let first : uses d i ≡ uses c 0 = ap (uses d) (sym (add-zero i)) ∙ h 0 in
     let next : (k : ℕ) → uses d (suc i + k) ≡ uses (c / 2) k =
     λ k. ap (uses d) (suc-add i k ∙ sym (add-suc i k)) ∙ h (suc k) in
-    rw (first, by-bits-from d (c / 2) (suc i) m next) refl
+    rw (first, by_bits_from d (c / 2) (suc i) m next) refl
 
-pub chosen-by-bits : ChosenByBits
-chosen-by-bits c m = by-bits-from c c 0 m (λ k. ap (uses c) (zero-add k))
+pub chosen_by_bits : ChosenByBits
+chosen_by_bits c m = by_bits_from c c 0 m (λ k. ap (uses c) (zero-add k))

@@ -10,8 +10,8 @@ use lib.ListN.{length, length-append, length-map}
 use Rattle.arith.specs.Lists.{from}
 use Rattle.choices.specs.Choices.{uses, used, sized, choices, Before, fewer, as_many}
 use Rattle.choices.specs.Theorems.{Stands, AllOnce}
-use Rattle.choices.proofs.Bits.{with_first, without, few-used, odd_is, even_is}
-use Rattle.choices.proofs.InOrder.{AtLeast, all-below, all-in-order}
+use Rattle.choices.proofs.Bits.{with_first, without, few_used, odd_is, even_is}
+use Rattle.choices.proofs.InOrder.{AtLeast, all_below, all_in_order}
 use Rattle.choices.proofs.Ranked.{each_at}
 
 -- a number stands in a list
@@ -33,13 +33,13 @@ in_map f c [] h = absurd h
 in_map f c (x ∷ xs) (inl e) = inl (ap f e)
 in_map f c (x ∷ xs) (inr h) = inr (in_map f c xs h)
 
-in-flat : (f : ℕ → List ℕ) (c i left k : ℕ) → k < left → In c (f (i + k)) → In c (flat_map f (from i left))
+in_flat : (f : ℕ → List ℕ) (c i left k : ℕ) → k < left → In c (f (i + k)) → In c (flat_map f (from i left))
 unfolding flat_map from
-in-flat f c i zero k q h = absurd (omega (arith, q))
-in-flat f c i (suc left) zero q h = in_left c (f i) (flat_map f (from (suc i) left)) (rw (add-zero i) at h)
-in-flat f c i (suc left) (suc k) q h =
+in_flat f c i zero k q h = absurd (omega (arith, q))
+in_flat f c i (suc left) zero q h = in_left c (f i) (flat_map f (from (suc i) left)) (rw (add-zero i) at h)
+in_flat f c i (suc left) (suc k) q h =
     in_right c (f i) (flat_map f (from (suc i) left))
-    (in-flat f c (suc i) left k (omega (arith, q)) (rw (suc-add i k, ← add-suc i k) h))
+    (in_flat f c (suc i) left k (omega (arith, q)) (rw (suc-add i k, ← add-suc i k) h))
 
 pub stands : (c : ℕ) (xs : List ℕ) → In c xs → Stands c xs
 stands c [] h = absurd h
@@ -54,11 +54,11 @@ module _ (m c : ℕ) where
   unfolding sized
   with_it k h = in_left (with_first c) (map with_first (sized m k)) (map without (sized m (suc k))) (in_map with_first c (sized m k) h)
 
-  without-it : (k : ℕ) → In c (sized m k) → In (without c) (sized (suc m) k)
+  without_it : (k : ℕ) → In c (sized m k) → In (without c) (sized (suc m) k)
   unfolding sized
-  without-it zero (inl e) = inl (omega (arith, e))
-  without-it zero (inr h) = absurd h
-  without-it (suc k) h =
+  without_it zero (inl e) = inl (omega (arith, e))
+  without_it zero (inr h) = absurd h
+  without_it (suc k) h =
       in_right (without c) (map with_first (sized m k)) (map without (sized m (suc k))) (in_map without c (sized m (suc k)) h)
 
 by_size : (m c : ℕ) → c < 2 ^ m → In c (sized m (used m c))
@@ -75,7 +75,7 @@ by_size (suc m) c h = go (uses c 0) refl (by_size m (c / 2) half)
         In (c / 2) (sized m (used m (c / 2))) →
         In c (sized (suc m) (cond b (suc (used m (c / 2))) (used m (c / 2))))
     go true e i = subst (λ x. In x (sized (suc m) (suc (used m (c / 2))))) (odd_is c e) (with_it m (c / 2) (used m (c / 2)) i)
-    go false e i = subst (λ x. In x (sized (suc m) (used m (c / 2)))) (even_is c e) (without-it m (c / 2) (used m (c / 2)) i)
+    go false e i = subst (λ x. In x (sized (suc m) (used m (c / 2)))) (even_is c e) (without_it m (c / 2) (used m (c / 2)) i)
 
 -- how many there are: those of sizes i, i + 1, .. of which there are `left`
 many : ℕ → ℕ → ℕ → ℕ
@@ -92,40 +92,40 @@ unfolding many flat_map from sized
 one_more m i zero = refl
 one_more m i (suc left) = simp (length-append, length-map) (omega (arith, one_more m (suc i) left))
 
-empty-first : (m left : ℕ) → many m 0 (suc left) ≡ suc (many m 1 left)
+empty_first : (m left : ℕ) → many m 0 (suc left) ≡ suc (many m 1 left)
 unfolding many flat_map from sized
-empty-first m left = refl
+empty_first m left = refl
 
-all-many : (m left : ℕ) → m ≤ left → many m 0 (suc left) ≡ 2 ^ m
-all-many zero left h = empty-first 0 left ∙ ap suc (none_left 0 left)
-all-many (suc m) zero h = absurd (omega (arith, h))
-all-many (suc m) (suc l) h =
+all_many : (m left : ℕ) → m ≤ left → many m 0 (suc left) ≡ 2 ^ m
+all_many zero left h = empty_first 0 left ∙ ap suc (none_left 0 left)
+all_many (suc m) zero h = absurd (omega (arith, h))
+all_many (suc m) (suc l) h =
     omega (
       arith,
-      empty-first (suc m) (suc l),
+      empty_first (suc m) (suc l),
       one_more m 0 (suc l),
-      empty-first m (suc l),
-      all-many m l (omega (arith, h)),
-      all-many m (suc l) (omega (arith, h)),
+      empty_first m (suc l),
+      all_many m l (omega (arith, h)),
+      all_many m (suc l) (omega (arith, h)),
       pow-succ' 2 m,
     )
 
 -- none before itself
 pub not_itself : (m a b : ℕ) → Before m a b → a ≡ b → ⊥
 not_itself m a b (fewer h) e = omega (arith, h, ap (used m) e)
-not_itself m a b (as_many _ u) e = true≢false (sym u.used-by ∙ ap (λ x. uses x u.lash) e ∙ u.not-by)
+not_itself m a b (as_many _ u) e = true≢false (sym u.used_by ∙ ap (λ x. uses x u.lash) e ∙ u.not_by)
 
 pub all_in : (m c : ℕ) → c < 2 ^ m → In c (choices m)
 unfolding choices
 all_in m c h =
-    in-flat (sized m) c 0 (suc m) (used m c) (omega (arith, few-used m c)) (rw (zero-add (used m c)) (by_size m c h))
+    in_flat (sized m) c 0 (suc m) (used m c) (omega (arith, few_used m c)) (rw (zero-add (used m c)) (by_size m c h))
 
 pub all_once : AllOnce
 unfolding choices many
 all_once m =
     record {
       each = λ c h. stands c (choices m) (all_in m c h);
-      only = λ i h. (each_at (AtLeast m 0) 0 (choices m) (all-below m) i h).below;
-      once = λ i j h l. not_itself m _ _ (all-in-order m i j h l);
-      many = all-many m m (omega arith);
+      only = λ i h. (each_at (AtLeast m 0) 0 (choices m) (all_below m) i h).below;
+      once = λ i j h l. not_itself m _ _ (all_in_order m i j h l);
+      many = all_many m m (omega arith);
     }

@@ -6,33 +6,33 @@ use mathlib.Core.Logic.{◌⊎◌, inl, inr}
 use mathlib.Core.Path.{◌≡◌, refl, sym, ap, ◌∙◌}
 use Rattle.choices.specs.Choices.{choices, Before, those}
 use Rattle.choices.specs.Theorems.{ThoseListed}
-use Rattle.choices.proofs.InOrder.{AtLeast, all-below, all-ranked}
+use Rattle.choices.proofs.InOrder.{AtLeast, all_below, all_ranked}
 use Rattle.choices.proofs.Once.{In, stands, all_in, not_itself}
-use Rattle.choices.proofs.Ranked.{Each, Ranked, each_at, ranked-at}
+use Rattle.choices.proofs.Ranked.{Each, Ranked, each_at, ranked_at}
 
 module _ (test : ℕ → Bool) where
-  pub each-those : (P : ℕ → Type 0) (xs : List ℕ) → Each P xs → Each P (those test xs)
+  pub each_those : (P : ℕ → Type 0) (xs : List ℕ) → Each P xs → Each P (those test xs)
   unfolding those
-  each-those P [] h = tt
-  each-those P (x ∷ xs) h = go (test x) (each-those P xs h.1)
+  each_those P [] h = tt
+  each_those P (x ∷ xs) h = go (test x) (each_those P xs h.1)
     where
       go : (b : Bool) → Each P (those test xs) → Each P (cond b (x ∷ those test xs) (those test xs))
       go true k = (h.0, k)
       go false k = k
 
-  pub ranked-those : (R : ℕ → ℕ → Type 0) (xs : List ℕ) → Ranked R xs → Ranked R (those test xs)
+  pub ranked_those : (R : ℕ → ℕ → Type 0) (xs : List ℕ) → Ranked R xs → Ranked R (those test xs)
   unfolding those
-  ranked-those R [] h = tt
-  ranked-those R (x ∷ xs) h = go (test x) (ranked-those R xs h.1)
+  ranked_those R [] h = tt
+  ranked_those R (x ∷ xs) h = go (test x) (ranked_those R xs h.1)
     where
       go : (b : Bool) → Ranked R (those test xs) → Ranked R (cond b (x ∷ those test xs) (those test xs))
-      go true k = (each-those (R x) xs h.0, k)
+      go true k = (each_those (R x) xs h.0, k)
       go false k = k
 
-  pub each-passes : (xs : List ℕ) → Each (λ x. test x ≡ true) (those test xs)
+  pub each_passes : (xs : List ℕ) → Each (λ x. test x ≡ true) (those test xs)
   unfolding those
-  each-passes [] = tt
-  each-passes (x ∷ xs) = go (test x) refl (each-passes xs)
+  each_passes [] = tt
+  each_passes (x ∷ xs) = go (test x) refl (each_passes xs)
     where
       go :
           (b : Bool) →
@@ -42,10 +42,10 @@ module _ (test : ℕ → Bool) where
       go true e k = (e, k)
       go false e k = k
 
-  in-those : (c : ℕ) → test c ≡ true → (xs : List ℕ) → In c xs → In c (those test xs)
+  in_those : (c : ℕ) → test c ≡ true → (xs : List ℕ) → In c xs → In c (those test xs)
   unfolding those
-  in-those c e [] h = absurd h
-  in-those c e (x ∷ xs) h = go (test x) refl h (in-those c e xs)
+  in_those c e [] h = absurd h
+  in_those c e (x ∷ xs) h = go (test x) refl h (in_those c e xs)
     where
       go :
           (b : Bool) →
@@ -59,21 +59,21 @@ module _ (test : ℕ → Bool) where
       go false q (inr i) k = k i
 
   module _ (m : ℕ) where
-    pub those-ordered : Ranked (Before m) (those test (choices m))
-    those-ordered = ranked-those (Before m) (choices m) (all-ranked m)
+    pub those_ordered : Ranked (Before m) (those test (choices m))
+    those_ordered = ranked_those (Before m) (choices m) (all_ranked m)
 
-    pub those-below : Each (AtLeast m 0) (those test (choices m))
-    those-below = each-those (AtLeast m 0) (choices m) (all-below m)
+    pub those_below : Each (AtLeast m 0) (those test (choices m))
+    those_below = each_those (AtLeast m 0) (choices m) (all_below m)
 
-pub those-listed : ThoseListed
-those-listed m test =
+pub those_listed : ThoseListed
+those_listed m test =
     record {
-      each = λ c h e. stands c (those test (choices m)) (in-those test c e (choices m) (all_in m c h));
+      each = λ c h e. stands c (those test (choices m)) (in_those test c e (choices m) (all_in m c h));
       only =
           λ i h. (
-            (each_at (AtLeast m 0) 0 (those test (choices m)) (those-below test m) i h).below,
-            each_at (λ x. test x ≡ true) 0 (those test (choices m)) (each-passes test (choices m)) i h,
+            (each_at (AtLeast m 0) 0 (those test (choices m)) (those_below test m) i h).below,
+            each_at (λ x. test x ≡ true) 0 (those test (choices m)) (each_passes test (choices m)) i h,
           );
-      once = λ i j h l. not_itself m _ _ (ranked-at (Before m) 0 (those test (choices m)) (those-ordered test m) i j h l);
-      ordered = ranked-at (Before m) 0 (those test (choices m)) (those-ordered test m);
+      once = λ i j h l. not_itself m _ _ (ranked_at (Before m) 0 (those test (choices m)) (those_ordered test m) i j h l);
+      ordered = ranked_at (Before m) 0 (those test (choices m)) (those_ordered test m);
     }

@@ -35,8 +35,8 @@ pub record UsesFirst (m a b : ℕ) : Type 0 where
   pub lash : ℕ
   pub listed : lash < m
   pub alike : (k : ℕ) → k < lash → uses a k ≡ uses b k
-  pub used-by : uses a lash ≡ true
-  pub not-by : uses b lash ≡ false
+  pub used_by : uses a lash ≡ true
+  pub not_by : uses b lash ≡ false
 
 -- the order: fewer lashes come first; among equals, at the first lash where two choices differ, the one that uses it comes first
 pub data Before (m a b : ℕ) : Type 0 where

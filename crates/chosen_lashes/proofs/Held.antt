@@ -9,21 +9,21 @@ use lib.ListN.{length, get_or, take, replicate, length-append, length-replicate,
 use lib.Seq.{get_or-append-add}
 use Rattle.arith.specs.Lists.{padded}
 use Rattle.sheet.specs.declared.Lash.{Lash}
-use Rattle.sheet.specs.Layout.{blankLash}
-use Rattle.sheet.specs.Lashings.{levelOf}
-use Rattle.sheet.specs.inner.Limits.{LashLimits}
-use Rattle.statics.specs.Lashes.{lashLength}
-use Rattle.statics.specs.inner.WholeNumbers.{Filled, stiffnessOf, levelStiffness}
-use Rattle.statics.specs.inner.Computed.{stiffnessesOf}
-use Rattle.statics.proofs.Arrays.{blank-entry}
-use Rattle.figures_lashes.specs.inner.Lashes.{LashesMeasured, LevelStiffnesses}
-use Rattle.chosen_lashes.specs.inner.Gathered.{Held}
-use Rattle.chosen_lashes.proofs.Picked.{length-map, levels-long, level-entry}
+use Rattle.sheet.specs.Layout.{blank_lash}
+use Rattle.sheet.specs.Lashings.{level_of}
+use Rattle.sheet.specs.Inner.Limits.{LashLimits}
+use Rattle.statics.specs.Lashes.{lash_length}
+use Rattle.statics.specs.Inner.WholeNumbers.{Filled, stiffness_of, level_stiffness}
+use Rattle.statics.specs.Inner.Computed.{stiffnesses_of}
+use Rattle.statics.proofs.Arrays.{blank_entry}
+use Rattle.figures_lashes.specs.Inner.Lashes.{LashesMeasured, LevelStiffnesses}
+use Rattle.chosen_lashes.specs.Inner.Gathered.{Held}
+use Rattle.chosen_lashes.proofs.Picked.{length_map, levels_long, level_entry}
 
-abbrev pub lashesHeld : Held → List Lash
-lashesHeld h = take h.count h.lashes
+abbrev pub lashes_held : Held → List Lash
+lashes_held h = take h.count h.lashes
 
-entry_of : (f : Lash → ℕ) (ls : List Lash) (j : ℕ) → j < length ls → get_or (map f ls) j 0 ≡ f (get_or ls j blankLash)
+entry_of : (f : Lash → ℕ) (ls : List Lash) (j : ℕ) → j < length ls → get_or (map f ls) j 0 ≡ f (get_or ls j blank_lash)
 entry_of f [] j h = absurd (omega arith)
 entry_of f (l ∷ ls) zero h = refl
 entry_of f (l ∷ ls) (suc j) h = entry_of f ls j (omega arith)
@@ -35,37 +35,37 @@ module _ (f : Lash → ℕ) (ls : List Lash) (few : length ls ≤ 8) where
   behind : (j : ℕ) → length ls ≤ j → get_or (padded 8 0 (map f ls)) j 0 ≡ 0
   behind j h =
       subst (λ (z : ℕ). get_or (map f ls ++ blanks) z 0 ≡ 0) {x = length (map f ls) + (j - length ls)} {y = j}
-      (rw (length-map f ls) (omega arith))
-      (get_or-append-add (map f ls) blanks (j - length ls) 0 ∙ blank-entry 0 (8 - length (map f ls)) (j - length ls))
+      (rw (length_map f ls) (omega arith))
+      (get_or-append-add (map f ls) blanks (j - length ls) 0 ∙ blank_entry 0 (8 - length (map f ls)) (j - length ls))
 
-  pub padded-filled : Filled 8 0 (length ls) (λ j. f (get_or ls j blankLash)) (padded 8 0 (map f ls))
-  padded-filled =
+  pub padded_filled : Filled 8 0 (length ls) (λ j. f (get_or ls j blank_lash)) (padded 8 0 (map f ls))
+  padded_filled =
       record {
-        long = simp (length-append, length-replicate, length-map f ls) (omega arith);
-        each = λ j h. get_or-append (map f ls) blanks 0 j (omega (arith, h, length-map f ls)) ∙ entry_of f ls j h;
+        long = simp (length-append, length-replicate, length_map f ls) (omega arith);
+        each = λ j h. get_or-append (map f ls) blanks 0 j (omega (arith, h, length_map f ls)) ∙ entry_of f ls j h;
         rest = behind;
       }
 
 -- no lash of ten tiers lies above level 10
-levels-off :
+levels_off :
     (ls : List Lash) →
-    ((k : ℕ) → k < length ls → LashLimits 10 (get_or ls k blankLash)) →
+    ((k : ℕ) → k < length ls → LashLimits 10 (get_or ls k blank_lash)) →
     (i : ℕ) →
     10 ≤ i →
-    levelStiffness ls (suc i) ≡ 0
-unfolding levelStiffness
-levels-off [] each i h = refl
-levels-off (l ∷ ls) each i h =
-    rw (ne_eqb (suc i) (levelOf l) (λ e. omega (arith, (each 0 (omega arith)).inside)))
-    (omega (arith, levels-off ls (λ k q. each (suc k) (omega arith)) i h))
+    level_stiffness ls (suc i) ≡ 0
+unfolding level_stiffness
+levels_off [] each i h = refl
+levels_off (l ∷ ls) each i h =
+    rw (ne_eqb (suc i) (level_of l) (λ e. omega (arith, (each 0 (omega arith)).inside)))
+    (omega (arith, levels_off ls (λ k q. each (suc k) (omega arith)) i h))
 
-module _ (ls : List Lash) (few : length ls ≤ 8) (each : (k : ℕ) → k < length ls → LashLimits 10 (get_or ls k blankLash)) where
-  pub held-measured : LashesMeasured (length ls) ls (padded 8 0 (map lashLength ls)) (padded 8 0 (map stiffnessOf ls))
-  held-measured = record { long = padded-filled lashLength ls few; stiff = padded-filled stiffnessOf ls few }
+module _ (ls : List Lash) (few : length ls ≤ 8) (each : (k : ℕ) → k < length ls → LashLimits 10 (get_or ls k blank_lash)) where
+  pub held_measured : LashesMeasured (length ls) ls (padded 8 0 (map lash_length ls)) (padded 8 0 (map stiffness_of ls))
+  held_measured = record { long = padded_filled lash_length ls few; stiff = padded_filled stiffness_of ls few }
 
-  pub held-levels : LevelStiffnesses ls (stiffnessesOf ls)
-  held-levels i =
+  pub held_levels : LevelStiffnesses ls (stiffnesses_of ls)
+  held_levels i =
       elim (dec_lt i 10) [
-        | yes h ↦ level-entry ls i h
-        | no h ↦ get_or-eq_default (stiffnessesOf ls) 0 (omega (arith, levels-long ls)) ∙ sym (levels-off ls each i (omega arith))
+        | yes h ↦ level_entry ls i h
+        | no h ↦ get_or-eq_default (stiffnesses_of ls) 0 (omega (arith, levels_long ls)) ∙ sym (levels_off ls each i (omega arith))
       ]

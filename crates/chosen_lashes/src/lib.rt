@@ -1,10 +1,10 @@
 // The lashes of one choice of the gear (document 02, P13), with lengths and stiffnesses that were found once for all choices.
 
 ghost use Rattle.std.specs.Prelude.{◌≡◌, ℕ, ◌<◌, ◌≤◌, take, get_or, length, replicate};
-ghost use Rattle.sheet.specs.Layout.{blankLash};
-ghost use Rattle.sheet.specs.inner.Limits.{LashLimits};
-ghost use Rattle.figures_lashes.specs.inner.Lashes.{LashesMeasured};
-ghost use Rattle.chosen_lashes.specs.inner.Gathered.{heldIn, gathered};
+ghost use Rattle.sheet.specs.Layout.{blank_lash};
+ghost use Rattle.sheet.specs.Inner.Limits.{LashLimits};
+ghost use Rattle.figures_lashes.specs.Inner.Lashes.{LashesMeasured};
+ghost use Rattle.chosen_lashes.specs.Inner.Gathered.{held_in, gathered};
 
 use lash_forces::hook_level;
 use sheet::Lash;
@@ -29,11 +29,11 @@ pub fn gather(
     stiff: &mut [u64],
     levels: &mut [u64],
 ) -> Chosen
-    requires m_bound { (m ≤ 8) × ((j : ℕ) → j < m → LashLimits 10 (get_or (take m lashes) j blankLash)) }
+    requires m_bound { (m ≤ 8) × ((j : ℕ) → j < m → LashLimits 10 (get_or (take m lashes) j blank_lash)) }
     requires lashes_measured { LashesMeasured m (take m lashes) lengths.now stiffnesses.now }
     requires lengths_len { (length lengths.now ≡ 8) × (length stiffnesses.now ≡ 8) }
     requires long_value { (long.old ≡ replicate 8 0) × (stiff.old ≡ replicate 8 0) × (levels.old ≡ replicate 10 0) }
-    ensures { heldIn result long.new stiff.new levels.new ≡ gathered choice (take m lashes) }
+    ensures { held_in result long.new stiff.new levels.new ≡ gathered choice (take m lashes) }
 {
     let mut held = [blank_lash(); 8];
     let mut count = 0;

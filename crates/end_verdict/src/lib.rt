@@ -1,10 +1,10 @@
 // Whether an end of a stack has no finding (document 01, "The answer sheet"), where the findings themselves are not asked for.
 
 ghost use Rattle.std.specs.Prelude.{◌≡◌, ◌+◌, ◌≤◌, ◌-◌, pos, nat_abs, length, get_or};
-ghost use Rattle.answer.specs.Limits.{rackingLimit};
-ghost use Rattle.answer_put.specs.inner.Puts.{lashLimit};
-ghost use Rattle.statics.specs.inner.InArrays.{figuresIn, Lengths};
-ghost use Rattle.end_verdict.specs.inner.NoneOver.{noneOver, noneFound};
+ghost use Rattle.answer.specs.Limits.{racking_limit};
+ghost use Rattle.answer_put.specs.Inner.Puts.{lash_limit};
+ghost use Rattle.statics.specs.Inner.InArrays.{figures_in, Lengths};
+ghost use Rattle.end_verdict.specs.Inner.NoneOver.{none_over, none_found};
 
 use answer_put::racking_over;
 use limits::{Limits, PullLimit, safe_load};
@@ -13,7 +13,7 @@ use sheet::Lash;
 // Whether none of n rackings exceeds its limit. No branch on a size: it would often be predicted wrongly.
 fn rackings_kept(xs: &[i32], n: usize) -> bool
     requires { (n ≤ 10) × (n ≤ length xs.now) }
-    ensures { result ≡ noneOver (λ i. nat_abs (get_or xs.now (i - 1) (pos 0))) (λ i. rackingLimit) 1 n }
+    ensures { result ≡ none_over (λ i. nat_abs (get_or xs.now (i - 1) (pos 0))) (λ i. racking_limit) 1 n }
 {
     let mut kept = true;
     let mut k = 0;
@@ -27,7 +27,7 @@ fn rackings_kept(xs: &[i32], n: usize) -> bool
 // Whether none of n sizes exceeds one limit, at the indexes from `first` on.
 fn all_kept(first: usize, xs: &[u32], limit: u32, n: usize) -> bool
     requires { (first ≤ 1) × (n ≤ 10) × (first + n ≤ length xs.now) }
-    ensures { result ≡ noneOver (λ i. get_or xs.now i 0) (λ i. limit) first n }
+    ensures { result ≡ none_over (λ i. get_or xs.now i 0) (λ i. limit) first n }
 {
     let mut kept = true;
     let mut k = 0;
@@ -41,7 +41,7 @@ fn all_kept(first: usize, xs: &[u32], limit: u32, n: usize) -> bool
 // Whether none of m tensions exceeds the safe load of its lash.
 fn pulls_kept(lashes: [Lash; 8], xs: &[u32], m: usize) -> bool
     requires { (m ≤ 8) × (m ≤ length xs.now) }
-    ensures { result ≡ noneOver (λ j. get_or xs.now j 0) (lashLimit lashes) 0 m }
+    ensures { result ≡ none_over (λ j. get_or xs.now j 0) (lash_limit lashes) 0 m }
 {
     let mut kept = true;
     let mut j = 0;
@@ -67,7 +67,7 @@ pub fn no_finding(
 ) -> bool
     requires n_bound { (n ≤ 10) × (m ≤ 8) }
     requires lengths { Lengths racking.now levels.now forces.now }
-    ensures { result ≡ noneFound n pull lashes m (figuresIn racking.now levels.now forces.now) }
+    ensures { result ≡ none_found n pull lashes m (figures_in racking.now levels.now forces.now) }
 {
     let start = 0;
     let tension = 11;

@@ -1,15 +1,15 @@
 // Every reported force of a stack: rackings, posts and lashes of both ends.
 
 ghost use Rattle.std.specs.Prelude.{ℕ, ◌^◌, ◌≤◌, List, [], ◌≡◌, pos, get_or, length, replicate, take};
-ghost use Rattle.sheet.specs.Ends.{door, closed, tiersOf, lashesOf};
+ghost use Rattle.sheet.specs.Ends.{door, closed, tiers_of, lashes_of};
 ghost use Rattle.sheet.specs.Fits.{Fits};
 ghost use Rattle.sheet.specs.declared.Tier.{Tier};
 ghost use Rattle.statics.specs.Reported.{Fitting};
-ghost use Rattle.statics.specs.inner.Computed.{figuresAt, figuresBy};
-ghost use Rattle.statics.specs.inner.InArrays.{figuresIn, Lengths};
-ghost use Rattle.figures_tiers.specs.inner.Loads.{TiersMeasured};
-ghost use Rattle.figures_lashes.specs.inner.Lashes.{LashesMeasured, LevelStiffnesses};
-ghost use Rattle.figures.specs.inner.Ends.{Workable, endFigures};
+ghost use Rattle.statics.specs.Inner.Computed.{figures_at, figures_by};
+ghost use Rattle.statics.specs.Inner.InArrays.{figures_in, Lengths};
+ghost use Rattle.figures_tiers.specs.Inner.Loads.{TiersMeasured};
+ghost use Rattle.figures_lashes.specs.Inner.Lashes.{LashesMeasured, LevelStiffnesses};
+ghost use Rattle.figures.specs.Inner.Ends.{Workable, end_figures};
 
 use figures_lashes::{lash_figures, lash_stiffnesses};
 use figures_levels::level_figures;
@@ -42,9 +42,9 @@ pub fn figures_at(
     requires lengths_len { (length lengths.now ≡ 8) × (length stiffnesses.now ≡ 8) }
     requires racking_value { (racking.old ≡ replicate 10 (pos 0)) × (levels.old ≡ replicate 21 0) × (forces.old ≡ replicate 24 0) }
     ensures { ((ts : List Tier) → TiersMeasured n ts heights.now weights.now
-        → Fitting (figuresAt n k.now ts (take m lashes) d.now)
-        → figuresIn racking.new levels.new forces.new
-        ≡ figuresAt n k.now ts (take m lashes) d.now)
+        → Fitting (figures_at n k.now ts (take m lashes) d.now)
+        → figures_in racking.new levels.new forces.new
+        ≡ figures_at n k.now ts (take m lashes) d.now)
         × Lengths racking.new levels.new forces.new }
 {
     let mut lee = [0u64; 22];
@@ -84,22 +84,22 @@ fn figures_both(
     closedLevels: &mut [u32],
     closedForces: &mut [u32],
 )
-    requires workable { Workable s.ntiers k.now heights.now s.ndoor (lashesOf door s) loads.now weights.now }
-    requires workable_2 { Workable s.ntiers h.now heights.now s.nclosed (lashesOf closed s) loads.now weights.now }
-    requires lashes_measured { LashesMeasured s.ndoor (lashesOf door s) doorLengths.now doorStiffs.now
-        × LashesMeasured s.nclosed (lashesOf closed s) closedLengths.now closedStiffs.now
-        × TiersMeasured s.ntiers (tiersOf s) heights.now weights.now }
-    requires level_stiffnesses { LevelStiffnesses (lashesOf door s) kappa.now × LevelStiffnesses (lashesOf closed s) eta.now }
+    requires workable { Workable s.ntiers k.now heights.now s.ndoor (lashes_of door s) loads.now weights.now }
+    requires workable_2 { Workable s.ntiers h.now heights.now s.nclosed (lashes_of closed s) loads.now weights.now }
+    requires lashes_measured { LashesMeasured s.ndoor (lashes_of door s) doorLengths.now doorStiffs.now
+        × LashesMeasured s.nclosed (lashes_of closed s) closedLengths.now closedStiffs.now
+        × TiersMeasured s.ntiers (tiers_of s) heights.now weights.now }
+    requires level_stiffnesses { LevelStiffnesses (lashes_of door s) kappa.now × LevelStiffnesses (lashes_of closed s) eta.now }
     requires k_len { (length k.now ≡ 10) × (length h.now ≡ 10) × (length kappa.now ≡ 10) × (length eta.now ≡ 10)
         × (length loads.now ≡ 10) × (length weights.now ≡ 22) × (length heights.now ≡ 10) }
     requires door_racking_value { (doorRacking.old ≡ replicate 10 (pos 0)) × (doorLevels.old ≡ replicate 21 0) × (doorForces.old ≡ replicate 24 0) }
     requires closed_racking_value { (closedRacking.old ≡ replicate 10 (pos 0)) × (closedLevels.old ≡ replicate 21 0) × (closedForces.old ≡ replicate 24 0) }
-    requires fitting { Fitting (endFigures door s k.now loads.now) × Fitting (endFigures closed s h.now loads.now) }
-    ensures door_forces_after { (figuresIn doorRacking.new doorLevels.new doorForces.new
-        ≡ endFigures door s k.now loads.now)
+    requires fitting { Fitting (end_figures door s k.now loads.now) × Fitting (end_figures closed s h.now loads.now) }
+    ensures door_forces_after { (figures_in doorRacking.new doorLevels.new doorForces.new
+        ≡ end_figures door s k.now loads.now)
         × Lengths doorRacking.new doorLevels.new doorForces.new }
-    ensures closed_forces_after { (figuresIn closedRacking.new closedLevels.new closedForces.new
-        ≡ endFigures closed s h.now loads.now)
+    ensures closed_forces_after { (figures_in closedRacking.new closedLevels.new closedForces.new
+        ≡ end_figures closed s h.now loads.now)
         × Lengths closedRacking.new closedLevels.new closedForces.new }
 {
     let n = s.ntiers;
@@ -154,19 +154,19 @@ fn figures_loaded(
     closedLevels: &mut [u32],
     closedForces: &mut [u32],
 )
-    requires workable { Workable s.ntiers k.now heights.now s.ndoor (lashesOf door s) loads.now weights.now }
-    requires workable_2 { Workable s.ntiers h.now heights.now s.nclosed (lashesOf closed s) loads.now weights.now }
-    requires tiers_measured { TiersMeasured s.ntiers (tiersOf s) heights.now weights.now }
+    requires workable { Workable s.ntiers k.now heights.now s.ndoor (lashes_of door s) loads.now weights.now }
+    requires workable_2 { Workable s.ntiers h.now heights.now s.nclosed (lashes_of closed s) loads.now weights.now }
+    requires tiers_measured { TiersMeasured s.ntiers (tiers_of s) heights.now weights.now }
     requires k_len { (length k.now ≡ 10) × (length h.now ≡ 10) × (length heights.now ≡ 10) × (length loads.now ≡ 10)
         × (length weights.now ≡ 22) }
     requires door_racking_value { (doorRacking.old ≡ replicate 10 (pos 0)) × (doorLevels.old ≡ replicate 21 0) × (doorForces.old ≡ replicate 24 0) }
     requires closed_racking_value { (closedRacking.old ≡ replicate 10 (pos 0)) × (closedLevels.old ≡ replicate 21 0) × (closedForces.old ≡ replicate 24 0) }
-    requires fitting { Fitting (endFigures door s k.now loads.now) × Fitting (endFigures closed s h.now loads.now) }
-    ensures door_forces_after { (figuresIn doorRacking.new doorLevels.new doorForces.new
-        ≡ endFigures door s k.now loads.now)
+    requires fitting { Fitting (end_figures door s k.now loads.now) × Fitting (end_figures closed s h.now loads.now) }
+    ensures door_forces_after { (figures_in doorRacking.new doorLevels.new doorForces.new
+        ≡ end_figures door s k.now loads.now)
         × Lengths doorRacking.new doorLevels.new doorForces.new }
-    ensures closed_forces_after { (figuresIn closedRacking.new closedLevels.new closedForces.new
-        ≡ endFigures closed s h.now loads.now)
+    ensures closed_forces_after { (figures_in closedRacking.new closedLevels.new closedForces.new
+        ≡ end_figures closed s h.now loads.now)
         × Lengths closedRacking.new closedLevels.new closedForces.new }
 {
     let door = s.door;
@@ -215,11 +215,11 @@ pub fn figures_by(
     requires fits { Fits s × (rule.share ≤ 20) × (rule.factor ≤ 1000) }
     requires door_racking_value { (doorRacking.old ≡ replicate 10 (pos 0)) × (doorLevels.old ≡ replicate 21 0) × (doorForces.old ≡ replicate 24 0) }
     requires closed_racking_value { (closedRacking.old ≡ replicate 10 (pos 0)) × (closedLevels.old ≡ replicate 21 0) × (closedForces.old ≡ replicate 24 0) }
-    ensures door_forces_after { (figuresIn doorRacking.new doorLevels.new doorForces.new
-        ≡ (figuresBy rule s).door)
+    ensures door_forces_after { (figures_in doorRacking.new doorLevels.new doorForces.new
+        ≡ (figures_by rule s).door)
         × Lengths doorRacking.new doorLevels.new doorForces.new }
-    ensures closed_forces_after { (figuresIn closedRacking.new closedLevels.new closedForces.new
-        ≡ (figuresBy rule s).closed)
+    ensures closed_forces_after { (figures_in closedRacking.new closedLevels.new closedForces.new
+        ≡ (figures_by rule s).closed)
         × Lengths closedRacking.new closedLevels.new closedForces.new }
 {
     let n = s.ntiers;

@@ -8,42 +8,42 @@ use native.Mathlib.Omega.{arith}
 use lib.Dec.{eqb}
 use lib.ListN.{length, get_or, set, drop, replicate, length-set, length-replicate, drop_of_length-le}
 use lib.Seq.{get_or-set_same, get_or-set_other}
-use Rattle.sheet.specs.Layout.{blankLash}
+use Rattle.sheet.specs.Layout.{blank_lash}
 use Rattle.sheet.specs.declared.Lash.{Lash}
-use Rattle.sheet.specs.Lashings.{lashingOf, levelOf}
+use Rattle.sheet.specs.Lashings.{lashing_of, level_of}
 use Rattle.sheet.specs.declared.Lashing.{Lashing}
-use Rattle.statics.specs.inner.WholeNumbers.{stiffnessOf, levelStiffness, upward, upwards}
-use Rattle.statics.proofs.Arrays.{blank-entry}
+use Rattle.statics.specs.Inner.WholeNumbers.{stiffness_of, level_stiffness, upward, upwards}
+use Rattle.statics.proofs.Arrays.{blank_entry}
 
 unfoldable pub tally : (Lash → Bool) → (Lash → ℕ) → List Lash → ℕ
 tally test v [] = 0
 tally test v (l ∷ ls) = cond (test l) (v l) 0 + tally test v ls
 
-pub tally-stiffness : (i : ℕ) (ls : List Lash) → levelStiffness ls i ≡ tally (λ l. eqb i (levelOf l)) stiffnessOf ls
-unfolding levelStiffness tally
-tally-stiffness i [] = refl
-tally-stiffness i (l ∷ ls) = ap (λ (n : ℕ). cond (eqb i (levelOf l)) (stiffnessOf l) 0 + n) (tally-stiffness i ls)
+pub tally_stiffness : (i : ℕ) (ls : List Lash) → level_stiffness ls i ≡ tally (λ l. eqb i (level_of l)) stiffness_of ls
+unfolding level_stiffness tally
+tally_stiffness i [] = refl
+tally_stiffness i (l ∷ ls) = ap (λ (n : ℕ). cond (eqb i (level_of l)) (stiffness_of l) 0 + n) (tally_stiffness i ls)
 
-pub tally-upwards :
+pub tally_upwards :
     (post : Lashing → ℕ → ℕ) (counts : Lash → Bool) (d : List ℕ) (ls : List Lash) →
-    upwards post counts d ls ≡ tally counts (λ l. post (lashingOf l) (upward d l)) ls
+    upwards post counts d ls ≡ tally counts (λ l. post (lashing_of l) (upward d l)) ls
 unfolding upwards tally
-tally-upwards post counts d [] = refl
-tally-upwards post counts d (l ∷ ls) =
-    ap (λ (n : ℕ). cond (counts l) (post (lashingOf l) (upward d l)) 0 + n) (tally-upwards post counts d ls)
+tally_upwards post counts d [] = refl
+tally_upwards post counts d (l ∷ ls) =
+    ap (λ (n : ℕ). cond (counts l) (post (lashing_of l) (upward d l)) 0 + n) (tally_upwards post counts d ls)
 
-cond-le : {B : ℕ} (t : Bool) (x : ℕ) → x ≤ B → cond t x 0 ≤ B
-cond-le true x h = h
-cond-le false x h = omega arith
+cond_le : {B : ℕ} (t : Bool) (x : ℕ) → x ≤ B → cond t x 0 ≤ B
+cond_le true x h = h
+cond_le false x h = omega arith
 
-pub tally-le :
+pub tally_le :
     (B : ℕ) (test : Lash → Bool) (v : Lash → ℕ) (ls : List Lash) →
-    ((j : ℕ) → j < length ls → v (get_or ls j blankLash) ≤ B) →
+    ((j : ℕ) → j < length ls → v (get_or ls j blank_lash) ≤ B) →
     tally test v ls ≤ length ls * B
 unfolding tally
-tally-le B test v [] h = omega arith
-tally-le B test v (l ∷ ls) h =
-    omega (arith, cond-le (test l) (v l) (h 0 (omega arith)), tally-le B test v ls (λ j q. h (suc j) (omega arith)))
+tally_le B test v [] h = omega arith
+tally_le B test v (l ∷ ls) h =
+    omega (arith, cond_le (test l) (v l) (h 0 (omega arith)), tally_le B test v ls (λ j q. h (suc j) (omega arith)))
 
 -- what the first j lashes add to each entry, with what the others have still to add, is the whole
 pub record Tallied (test : ℕ → Lash → Bool) (v : Lash → ℕ) (ls : List Lash) (size j : ℕ) (r : List ℕ) : Type 0 where
@@ -55,14 +55,14 @@ pub record Only (test : ℕ → Lash → Bool) (at : ℕ) (l : Lash) : Type 0 wh
   pub here : test at l ≡ true
   pub others : (i : ℕ) → (i ≡ at → ⊥) → test i l ≡ false
 
-pub tallied-none : {test : ℕ → Lash → Bool} {v : Lash → ℕ} {ls : List Lash} (size : ℕ) → Tallied test v ls size 0 (replicate size 0)
-tallied-none size =
-    record { long = length-replicate size 0; sums = λ i. omega (arith, blank-entry {A = ℕ} 0 size i) }
+pub tallied_none : {test : ℕ → Lash → Bool} {v : Lash → ℕ} {ls : List Lash} (size : ℕ) → Tallied test v ls size 0 (replicate size 0)
+tallied_none size =
+    record { long = length-replicate size 0; sums = λ i. omega (arith, blank_entry {A = ℕ} 0 size i) }
 
 module _ {test : ℕ → Lash → Bool} {v : Lash → ℕ} {ls : List Lash} {size j : ℕ} {r : List ℕ} (t : Tallied test v ls size j r) where
-  pub tallied-all : length ls ≤ j → (i : ℕ) → get_or r i 0 ≡ tally (test i) v ls
+  pub tallied_all : length ls ≤ j → (i : ℕ) → get_or r i 0 ≡ tally (test i) v ls
   unfolding tally
-  tallied-all h i =
+  tallied_all h i =
       let e : tally (test i) v (drop j ls) ≡ 0 = rw (drop_of_length-le ls {i = j} h) refl in
       omega (arith, t.sums i)
 
@@ -75,11 +75,11 @@ module _ {test : ℕ → Lash → Bool} {v : Lash → ℕ} {ls : List Lash} {siz
     at_own = left at ∙ ap (λ b. cond b (v l) 0 + tally (test at) v (drop (suc j) ls)) o.here
 
     -- the entry stays below the whole sum
-    pub tallied-le : get_or r at 0 + v l ≤ tally (test at) v ls
-    tallied-le = omega (arith, at_own, t.sums at)
+    pub tallied_le : get_or r at 0 + v l ≤ tally (test at) v ls
+    tallied_le = omega (arith, at_own, t.sums at)
 
-    pub tallied-more : at < size → Tallied test v ls size (suc j) (set r at (get_or r at 0 + v l))
-    tallied-more room = record { long = length-set r at (get_or r at 0 + v l) ∙ t.long; sums = sums }
+    pub tallied_more : at < size → Tallied test v ls size (suc j) (set r at (get_or r at 0 + v l))
+    tallied_more room = record { long = length-set r at (get_or r at 0 + v l) ∙ t.long; sums = sums }
       where
         sums : (i : ℕ) → get_or (set r at (get_or r at 0 + v l)) i 0 + tally (test i) v (drop (suc j) ls) ≡ tally (test i) v ls
         sums i =

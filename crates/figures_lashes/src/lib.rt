@@ -1,10 +1,10 @@
 // Lashes: their lengths and stiffnesses, and their forces at the shifts of the levels. Scales: see statics/specs/inner/WholeNumbers.
 
 ghost use Rattle.std.specs.Prelude.{◌≡◌, ℕ, ◌<◌, ◌≤◌, ◌^◌, take, drop, get_or, length, replicate};
-ghost use Rattle.sheet.specs.Layout.{blankLash};
-ghost use Rattle.sheet.specs.inner.Limits.{LashLimits};
-ghost use Rattle.statics.specs.inner.WholeNumbers.{leePart, windwardPart};
-ghost use Rattle.figures_lashes.specs.inner.Lashes.{LashesMeasured, LevelStiffnesses, LashesFigured, VerticalsOn};
+ghost use Rattle.sheet.specs.Layout.{blank_lash};
+ghost use Rattle.sheet.specs.Inner.Limits.{LashLimits};
+ghost use Rattle.statics.specs.Inner.WholeNumbers.{lee_part, windward_part};
+ghost use Rattle.figures_lashes.specs.Inner.Lashes.{LashesMeasured, LevelStiffnesses, LashesFigured, VerticalsOn};
 
 use lash_forces::{athwart_part, forces_of, hook_corner, hook_level, on_posts, stiffness_of};
 use lash_length::search;
@@ -18,7 +18,7 @@ pub fn lash_stiffnesses(
     stiffnesses: &mut [u64],
     levels: &mut [u64],
 )
-    requires m_bound { (m ≤ 8) × ((j : ℕ) → j < m → LashLimits 10 (get_or (take m lashes) j blankLash)) }
+    requires m_bound { (m ≤ 8) × ((j : ℕ) → j < m → LashLimits 10 (get_or (take m lashes) j blank_lash)) }
     requires lengths_value { (lengths.old ≡ replicate 8 0) × (stiffnesses.old ≡ replicate 8 0) × (levels.old ≡ replicate 10 0) }
     ensures lashes_measured { LashesMeasured m (take m lashes) lengths.new stiffnesses.new }
     ensures level_stiffnesses { LevelStiffnesses (take m lashes) levels.new }
@@ -48,14 +48,14 @@ pub fn lash_figures(
     windward: &mut [u64],
     forces: &mut [u32],
 )
-    requires m_bound { (m ≤ 8) × ((j : ℕ) → j < m → LashLimits 10 (get_or (take m lashes) j blankLash)) }
+    requires m_bound { (m ≤ 8) × ((j : ℕ) → j < m → LashLimits 10 (get_or (take m lashes) j blank_lash)) }
     requires lashes_measured { LashesMeasured m (take m lashes) lengths.now stiffnesses.now × ((i : ℕ) → get_or d.now i 0 ≤ 2 ^ 40) }
     requires lengths_len { (length lengths.now ≡ 8) × (length stiffnesses.now ≡ 8) × (length d.now ≡ 11) }
     requires lee_value { (lee.old ≡ replicate 22 0) × (windward.old ≡ replicate 22 0) × (forces.old ≡ replicate 24 0) }
     ensures lashes_figured { LashesFigured m (take m lashes) d.now (take 8 forces.new) (take 8 (drop 8 forces.new))
         (drop 16 forces.new) × (length forces.new ≡ 24) }
-    ensures verticals_on { VerticalsOn leePart (take m lashes) d.now lee.new }
-    ensures verticals_on_2 { VerticalsOn windwardPart (take m lashes) d.now windward.new }
+    ensures verticals_on { VerticalsOn lee_part (take m lashes) d.now lee.new }
+    ensures verticals_on_2 { VerticalsOn windward_part (take m lashes) d.now windward.new }
 {
     let mut j = 0;
     while j < m {

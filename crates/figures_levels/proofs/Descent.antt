@@ -7,79 +7,79 @@ use lib.IntN.{ℤ, pos, ◌+ℤ◌, ◌-ℤ◌, ◌*ℤ◌}
 use lib.ListN.{length, get_or, set, take, drop, replicate, length-set}
 use lib.Seq.{take-set-lt, drop-set-lt}
 use lib.Signed.{shr_z}
-use Rattle.arith.specs.inner.Sizes.{Small}
-use Rattle.arith.proofs.Sizes.{small-weaken, small-add, small_pos}
-use Rattle.springs.specs.Equations.{closedSpring}
-use Rattle.statics.specs.inner.WholeNumbers.{rackingPart, rackingFigure, compressionFrom, tensionFrom}
-use Rattle.statics.specs.inner.InArrays.{mostIn, leastIn}
-use Rattle.figures_posts.specs.inner.Posts.{word}
-use Rattle.figures_levels.specs.inner.Levels.{total, momentBy, LevelInputs, compressionAt, tensionAt, LevelsFigured}
-use Rattle.statics.proofs.Sections.{first-set, second-set}
-use Rattle.statics.proofs.Arrays.{Between, between_none, fill-below, fill-above, filled, peel, peeled-off}
-use Rattle.figures_posts.proofs.LevelLaws.{tier-moment-small, racking-small}
+use Rattle.arith.specs.Inner.Sizes.{Small}
+use Rattle.arith.proofs.Sizes.{small_weaken, small_add, small_pos}
+use Rattle.springs.specs.Equations.{closed_spring}
+use Rattle.statics.specs.Inner.WholeNumbers.{racking_part, racking_figure, compression_from, tension_from}
+use Rattle.statics.specs.Inner.InArrays.{most_in, least_in}
+use Rattle.figures_posts.specs.Inner.Posts.{word}
+use Rattle.figures_levels.specs.Inner.Levels.{total, moment_by, LevelInputs, compression_at, tension_at, LevelsFigured}
+use Rattle.statics.proofs.Sections.{first_set, second_set}
+use Rattle.statics.proofs.Arrays.{Between, between_none, fill_below, fill_above, filled, peel, peeled_off}
+use Rattle.figures_posts.proofs.LevelLaws.{tier_moment_small, racking_small}
 
 -- sums over the corners from i on, of m
-pub total-peel : (v : List ℕ) (m i : ℕ) → i < m → m ≤ length v → total (drop i (take m v)) ≡ total (drop (suc i) (take m v)) + get_or v i 0
+pub total_peel : (v : List ℕ) (m i : ℕ) → i < m → m ≤ length v → total (drop i (take m v)) ≡ total (drop (suc i) (take m v)) + get_or v i 0
 unfolding total
-total-peel v m i h room = rw (peel v m i 0 h room) (omega arith)
+total_peel v m i h room = rw (peel v m i 0 h room) (omega arith)
 
-pub total-off : (v : List ℕ) (m : ℕ) → m ≤ length v → total (drop m (take m v)) ≡ 0
+pub total_off : (v : List ℕ) (m : ℕ) → m ≤ length v → total (drop m (take m v)) ≡ 0
 unfolding total
-total-off v m room = rw (peeled-off v m room) refl
+total_off v m room = rw (peeled_off v m room) refl
 
-total-top : (v : List ℕ) (n : ℕ) → suc n ≤ length v → get_or v n 0 ≡ total (drop n (take (suc n) v))
-total-top v n room = omega (arith, total-peel v (suc n) n (omega arith) room, total-off v (suc n) room)
+total_top : (v : List ℕ) (n : ℕ) → suc n ≤ length v → get_or v n 0 ≡ total (drop n (take (suc n) v))
+total_top v n room = omega (arith, total_peel v (suc n) n (omega arith) room, total_off v (suc n) room)
 
 -- moments: none at the top, and one tier more
-moment-off : (k d hs : List ℕ) (n : ℕ) → n ≤ length hs → momentBy k d (drop n (take n hs)) n ≡ pos 0
-unfolding momentBy
-moment-off k d hs n room = rw (peeled-off hs n room) refl
+moment_off : (k d hs : List ℕ) (n : ℕ) → n ≤ length hs → moment_by k d (drop n (take n hs)) n ≡ pos 0
+unfolding moment_by
+moment_off k d hs n room = rw (peeled_off hs n room) refl
 
-moment-peel :
+moment_peel :
     (k d hs : List ℕ) (n j : ℕ) →
     j < n →
     n ≤ length hs →
-    momentBy k d (drop j (take n hs)) j
-    ≡ pos (get_or hs j 0) *ℤ rackingPart (get_or k j 0) d j +ℤ momentBy k d (drop (suc j) (take n hs)) (suc j)
-unfolding momentBy
-moment-peel k d hs n j h room = rw (peel hs n j 0 h room) refl
+    moment_by k d (drop j (take n hs)) j
+    ≡ pos (get_or hs j 0) *ℤ racking_part (get_or k j 0) d j +ℤ moment_by k d (drop (suc j) (take n hs)) (suc j)
+unfolding moment_by
+moment_peel k d hs n j h room = rw (peel hs n j 0 h room) refl
 
 part_small :
     (k d : List ℕ) (j : ℕ) →
-    get_or k j 0 ≤ closedSpring →
+    get_or k j 0 ≤ closed_spring →
     ((i : ℕ) → get_or d i 0 ≤ 2 ^ 40) →
-    Small (2 ^ 45) (rackingPart (get_or k j 0) d j)
-unfolding rackingPart
-part_small k d j h s = racking-small h (s (suc j)) (s j)
+    Small (2 ^ 45) (racking_part (get_or k j 0) d j)
+unfolding racking_part
+part_small k d j h s = racking_small h (s (suc j)) (s j)
 
 -- a tier's racking × height, at most
-abbrev most-turn : ℕ
-most-turn = 2896 * 2 ^ 45
+abbrev most_turn : ℕ
+most_turn = 2896 * 2 ^ 45
 
 -- the vertical parts of a stack of n tiers on a post, at corner c or above
-abbrev from-corner : ℕ → List ℕ → ℕ → ℕ
-from-corner n v c = total (drop c (take (suc (2 * n)) v))
+abbrev from_corner : ℕ → List ℕ → ℕ → ℕ
+from_corner n v c = total (drop c (take (suc (2 * n)) v))
 
 pub record FiguredFrom
     (n : ℕ) (k hs d weights lee windward : List ℕ)
     (racking : List ℤ) (levels : List ℕ) (moment : ℤ) (lees windwards i : ℕ) : Type 0 where
   pub within : i ≤ n
-  pub racked : Between (pos 0) (λ j x. x ≡ rackingFigure (rackingPart (get_or k j 0) d j)) 10 i n racking
-  pub pressed : Between 0 (λ j x. x ≡ compressionAt n k hs d weights lee windward j) 11 i (suc n) (take 11 levels)
-  pub tensed : Between 0 (λ j x. x ≡ tensionAt n k hs d weights lee windward j) 10 i n (drop 11 levels)
-  pub levels-long : length levels ≡ 21
-  pub moment-is : moment ≡ momentBy k d (drop i (take n hs)) i
-  pub lees-are : lees ≡ from-corner n lee (2 * i)
-  pub windwards-are : windwards ≡ from-corner n windward (2 * i)
-  pub moment-small : Small ((n - i) * most-turn) moment
-  pub lees-small : lees ≤ suc (2 * (n - i)) * 2 ^ 57
-  pub windwards-small : windwards ≤ suc (2 * (n - i)) * 2 ^ 57
+  pub racked : Between (pos 0) (λ j x. x ≡ racking_figure (racking_part (get_or k j 0) d j)) 10 i n racking
+  pub pressed : Between 0 (λ j x. x ≡ compression_at n k hs d weights lee windward j) 11 i (suc n) (take 11 levels)
+  pub tensed : Between 0 (λ j x. x ≡ tension_at n k hs d weights lee windward j) 10 i n (drop 11 levels)
+  pub levels_long : length levels ≡ 21
+  pub moment_is : moment ≡ moment_by k d (drop i (take n hs)) i
+  pub lees_are : lees ≡ from_corner n lee (2 * i)
+  pub windwards_are : windwards ≡ from_corner n windward (2 * i)
+  pub moment_small : Small ((n - i) * most_turn) moment
+  pub lees_small : lees ≤ suc (2 * (n - i)) * 2 ^ 57
+  pub windwards_small : windwards ≤ suc (2 * (n - i)) * 2 ^ 57
 
 module _ {n : ℕ} {k hs d weights lee windward : List ℕ}
     (m : LevelInputs n k hs d weights lee windward) (stacked : n ≤ length hs) where
   pub at_top :
       {v : ℕ} →
-      v ≡ word (compressionFrom (get_or (mostIn weights) n 0) (pos 0) (get_or lee (2 * n) 0) (get_or windward (2 * n) 0)) →
+      v ≡ word (compression_from (get_or (most_in weights) n 0) (pos 0) (get_or lee (2 * n) 0) (get_or windward (2 * n) 0)) →
       FiguredFrom
       n
       k
@@ -96,56 +96,56 @@ module _ {n : ℕ} {k hs d weights lee windward : List ℕ}
       n
   at_top {v} e =
       let low : n < 11 = omega (arith, m.few) in
-      let no-moment = moment-off k d hs n stacked in
-      let top-lee = total-top lee (2 * n) (omega (arith, m.few, m.lee-long)) in
-      let top-windward = total-top windward (2 * n) (omega (arith, m.few, m.windward-long)) in
+      let no_moment = moment_off k d hs n stacked in
+      let top_lee = total_top lee (2 * n) (omega (arith, m.few, m.lee_long)) in
+      let top_windward = total_top windward (2 * n) (omega (arith, m.few, m.windward_long)) in
       record {
         within = omega arith;
         racked = between_none _ _ 10 n;
         pressed =
             rw (take-set-lt 11 (replicate 21 0) n v low)
-            (fill-above _ _ 11 n n _ v low (rw (no-moment, ← top-lee, ← top-windward) e) (between_none _ _ 11 n));
+            (fill_above _ _ 11 n n _ v low (rw (no_moment, ← top_lee, ← top_windward) e) (between_none _ _ 11 n));
         tensed = rw (drop-set-lt 11 (replicate 21 0) n v low) (between_none _ _ 10 n);
-        levels-long = length-set (replicate 21 0) n v;
-        moment-is = sym no-moment;
-        lees-are = top-lee;
-        windwards-are = top-windward;
-        moment-small = small_pos (omega arith);
-        lees-small = omega (arith, m.lee-small (2 * n));
-        windwards-small = omega (arith, m.windward-small (2 * n));
+        levels_long = length-set (replicate 21 0) n v;
+        moment_is = sym no_moment;
+        lees_are = top_lee;
+        windwards_are = top_windward;
+        moment_small = small_pos (omega arith);
+        lees_small = omega (arith, m.lee_small (2 * n));
+        windwards_small = omega (arith, m.windward_small (2 * n));
       }
 
   -- the parts on a post that count in the tension at level j, and in the compression, from those at the level over it
   abbrev Both : List ℕ → ℕ → ℕ → ℕ → ℕ → Type 0
   Both v above bottom top j =
-      (above + bottom ≡ from-corner n v (suc (2 * j))) × (above + bottom + top ≡ from-corner n v (2 * j))
+      (above + bottom ≡ from_corner n v (suc (2 * j))) × (above + bottom + top ≡ from_corner n v (2 * j))
 
   both :
       (v : List ℕ) {above bottom top j : ℕ} →
       j < n →
       suc (2 * n) ≤ length v →
-      above ≡ from-corner n v (2 * suc j) →
+      above ≡ from_corner n v (2 * suc j) →
       bottom ≡ get_or v (2 * j + 1) 0 →
       top ≡ get_or v (2 * j) 0 →
       Both v above bottom top j
   both v {above} {bottom} {top} {j} h room e eb et =
       let twice : 2 * suc j ≡ suc (suc (2 * j)) = omega arith in
       let next : 2 * j + 1 ≡ suc (2 * j) = omega arith in
-      let low = total-peel v (suc (2 * n)) (suc (2 * j)) (omega arith) room in
-      let high = total-peel v (suc (2 * n)) (2 * j) (omega arith) room in
-      let over : above ≡ from-corner n v (suc (suc (2 * j))) = rw twice at e in
+      let low = total_peel v (suc (2 * n)) (suc (2 * j)) (omega arith) room in
+      let high = total_peel v (suc (2 * n)) (2 * j) (omega arith) room in
+      let over : above ≡ from_corner n v (suc (suc (2 * j))) = rw twice at e in
       let under : bottom ≡ get_or v (suc (2 * j)) 0 = rw next at eb in
       (omega (arith, over, under, low), omega (arith, over, under, low, high))
 
   module _ {racking : List ℤ} {levels : List ℕ} {moment : ℤ} {lees windwards : ℕ} where
     -- to the level under tier j, with the values that the code has there: bl and bw are the parts of the bottom hooks at the level, on the
     -- lee post and on the windward one, tl and tw those of the top hooks
-    to-under :
+    to_under :
         {j : ℕ} {p : ℤ} {h : ℕ} {r : ℤ} {bl bw tl tw compression tension : ℕ} {moment' : ℤ} {lees' windwards' : ℕ} →
         FiguredFrom n k hs d weights lee windward racking levels moment lees windwards (suc j) →
-        p ≡ rackingPart (get_or k j 0) d j →
+        p ≡ racking_part (get_or k j 0) d j →
         h ≡ get_or hs j 0 →
-        r ≡ rackingFigure p →
+        r ≡ racking_figure p →
         bl ≡ get_or lee (2 * j + 1) 0 →
         bw ≡ get_or windward (2 * j + 1) 0 →
         tl ≡ get_or lee (2 * j) 0 →
@@ -153,8 +153,8 @@ module _ {n : ℕ} {k hs d weights lee windward : List ℕ}
         moment' ≡ pos h *ℤ p +ℤ moment →
         lees' ≡ lees + bl + tl →
         windwards' ≡ windwards + bw + tw →
-        compression ≡ word (compressionFrom (get_or (mostIn weights) j 0) (pos h *ℤ p +ℤ moment) (lees + bl + tl) (windwards + bw + tw)) →
-        tension ≡ word (tensionFrom (get_or (leastIn weights) j 0) (pos h *ℤ p +ℤ moment) (lees + bl) (windwards + bw)) →
+        compression ≡ word (compression_from (get_or (most_in weights) j 0) (pos h *ℤ p +ℤ moment) (lees + bl + tl) (windwards + bw + tw)) →
+        tension ≡ word (tension_from (get_or (least_in weights) j 0) (pos h *ℤ p +ℤ moment) (lees + bl) (windwards + bw)) →
         FiguredFrom
         n
         k
@@ -169,53 +169,53 @@ module _ {n : ℕ} {k hs d weights lee windward : List ℕ}
         lees'
         windwards'
         j
-    to-under {j} {p} {h} {r} {bl} {bw} {tl} {tw} {compression} {tension} s ep eh er ebl ebw etl etw em el ew ec et =
+    to_under {j} {p} {h} {r} {bl} {bw} {tl} {tw} {compression} {tension} s ep eh er ebl ebw etl etw em el ew ec et =
         record {
           within = omega (arith, s.within);
-          racked = fill-below _ _ 10 j n racking r s.within (omega (arith, m.few, s.within)) (rw ep at er) s.racked;
+          racked = fill_below _ _ 10 j n racking r s.within (omega (arith, m.few, s.within)) (rw ep at er) s.racked;
           pressed =
-              rw (first-set 11 levels low compression tension)
-              (fill-below _ _ 11 j (suc n) (take 11 levels) compression (omega (arith, s.within)) low
-              (rw (← moment-under, ← lee-under.1, ← windward-under.1) ec) s.pressed);
+              rw (first_set 11 levels low compression tension)
+              (fill_below _ _ 11 j (suc n) (take 11 levels) compression (omega (arith, s.within)) low
+              (rw (← moment_under, ← lee_under.1, ← windward_under.1) ec) s.pressed);
           tensed =
-              rw (second-set 11 levels low compression tension)
-              (fill-below _ _ 10 j n (drop 11 levels) tension s.within (omega (arith, m.few, s.within))
-              (rw (← moment-under, ← lee-under.0, ← windward-under.0) et) s.tensed);
-          levels-long = simp length-set s.levels-long;
-          moment-is = em ∙ moment-under;
-          lees-are = el ∙ lee-under.1;
-          windwards-are = ew ∙ windward-under.1;
-          moment-small = rw em small;
-          lees-small = omega (arith, s.within, s.lees-small, m.lee-small (2 * j + 1), m.lee-small (2 * j));
-          windwards-small = omega (arith, s.within, s.windwards-small, m.windward-small (2 * j + 1), m.windward-small (2 * j));
+              rw (second_set 11 levels low compression tension)
+              (fill_below _ _ 10 j n (drop 11 levels) tension s.within (omega (arith, m.few, s.within))
+              (rw (← moment_under, ← lee_under.0, ← windward_under.0) et) s.tensed);
+          levels_long = simp length-set s.levels_long;
+          moment_is = em ∙ moment_under;
+          lees_are = el ∙ lee_under.1;
+          windwards_are = ew ∙ windward_under.1;
+          moment_small = rw em small;
+          lees_small = omega (arith, s.within, s.lees_small, m.lee_small (2 * j + 1), m.lee_small (2 * j));
+          windwards_small = omega (arith, s.within, s.windwards_small, m.windward_small (2 * j + 1), m.windward_small (2 * j));
         }
       where
         low : j < 11
         low = omega (arith, m.few, s.within)
 
-        moment-under : pos h *ℤ p +ℤ moment ≡ momentBy k d (drop j (take n hs)) j
-        moment-under =
-            rw (ep, eh, s.moment-is) (sym (moment-peel k d hs n j s.within stacked))
+        moment_under : pos h *ℤ p +ℤ moment ≡ moment_by k d (drop j (take n hs)) j
+        moment_under =
+            rw (ep, eh, s.moment_is) (sym (moment_peel k d hs n j s.within stacked))
 
-        lee-under : Both lee lees bl tl j
-        lee-under = both lee s.within (omega (arith, m.few, m.lee-long)) s.lees-are ebl etl
+        lee_under : Both lee lees bl tl j
+        lee_under = both lee s.within (omega (arith, m.few, m.lee_long)) s.lees_are ebl etl
 
-        windward-under : Both windward windwards bw tw j
-        windward-under = both windward s.within (omega (arith, m.few, m.windward-long)) s.windwards-are ebw etw
+        windward_under : Both windward windwards bw tw j
+        windward_under = both windward s.within (omega (arith, m.few, m.windward_long)) s.windwards_are ebw etw
 
-        small : Small ((n - j) * most-turn) (pos h *ℤ p +ℤ moment)
+        small : Small ((n - j) * most_turn) (pos h *ℤ p +ℤ moment)
         small =
-            let own = tier-moment-small (m.heights j s.within) (part_small k d j (m.springs j s.within) m.shifts) in
-            rw (ep, eh) (small-weaken (small-add own s.moment-small) (omega (arith, s.within)))
+            let own = tier_moment_small (m.heights j s.within) (part_small k d j (m.springs j s.within) m.shifts) in
+            rw (ep, eh) (small_weaken (small_add own s.moment_small) (omega (arith, s.within)))
 
     -- the same at the code's own index
-    pub turned-once :
+    pub turned_once :
         {i : ℕ} {p : ℤ} {h : ℕ} {r : ℤ} {bl bw tl tw compression tension : ℕ} {moment' : ℤ} {lees' windwards' : ℕ} →
         0 < i →
         FiguredFrom n k hs d weights lee windward racking levels moment lees windwards i →
         p ≡ shr_z (pos (get_or k (i - 1) 0 * get_or d i 0) -ℤ pos (get_or k (i - 1) 0 * get_or d (i - 1) 0)) 1024 →
         h ≡ get_or hs (i - 1) 0 →
-        r ≡ rackingFigure p →
+        r ≡ racking_figure p →
         bl ≡ get_or lee (2 * (i - 1) + 1) 0 →
         bw ≡ get_or windward (2 * (i - 1) + 1) 0 →
         tl ≡ get_or lee (2 * (i - 1)) 0 →
@@ -224,8 +224,8 @@ module _ {n : ℕ} {k hs d weights lee windward : List ℕ}
         lees' ≡ lees + bl + tl →
         windwards' ≡ windwards + bw + tw →
         compression
-        ≡ word (compressionFrom (get_or (mostIn weights) (i - 1) 0) (pos h *ℤ p +ℤ moment) (lees + bl + tl) (windwards + bw + tw)) →
-        tension ≡ word (tensionFrom (get_or (leastIn weights) (i - 1) 0) (pos h *ℤ p +ℤ moment) (lees + bl) (windwards + bw)) →
+        ≡ word (compression_from (get_or (most_in weights) (i - 1) 0) (pos h *ℤ p +ℤ moment) (lees + bl + tl) (windwards + bw + tw)) →
+        tension ≡ word (tension_from (get_or (least_in weights) (i - 1) 0) (pos h *ℤ p +ℤ moment) (lees + bl) (windwards + bw)) →
         FiguredFrom
         n
         k
@@ -240,19 +240,19 @@ module _ {n : ℕ} {k hs d weights lee windward : List ℕ}
         lees'
         windwards'
         (i - 1)
-    unfolding rackingPart
-    turned-once {i} up s ep =
+    unfolding racking_part
+    turned_once {i} up s ep =
         let e : i ≡ suc (i - 1) = omega arith in
-        to-under
+        to_under
         (subst (λ (z : ℕ). FiguredFrom n k hs d weights lee windward racking levels moment lees windwards z) e s)
         (ep ∙ ap (λ (z : ℕ). shr_z (pos (get_or k (i - 1) 0 * get_or d z 0) -ℤ pos (get_or k (i - 1) 0 * get_or d (i - 1) 0)) 1024) e)
 
-    pub at-foot :
+    pub at_foot :
         {i : ℕ} →
         i ≤ 0 →
         FiguredFrom n k hs d weights lee windward racking levels moment lees windwards i →
         LevelsFigured n k hs d weights lee windward racking (take 11 levels) (drop 11 levels)
-    at-foot {i} h s =
+    at_foot {i} h s =
         let e : i ≡ 0 = omega arith in
         let f = subst (λ (z : ℕ). FiguredFrom n k hs d weights lee windward racking levels moment lees windwards z) e s in
-        record { racking-is = filled f.racked; compression-is = filled f.pressed; tension-is = filled f.tensed }
+        record { racking_is = filled f.racked; compression_is = filled f.pressed; tension_is = filled f.tensed }

@@ -1,7 +1,7 @@
 // Rackings of the tiers and forces on the posts, from the top level down, each by figures_posts.
 
 ghost use Rattle.std.specs.Prelude.{◌≡◌, ◌<◌, pos, length, take, drop, get_or, replicate};
-ghost use Rattle.figures_levels.specs.inner.Levels.{LevelInputs, LevelsFigured};
+ghost use Rattle.figures_levels.specs.Inner.Levels.{LevelInputs, LevelsFigured};
 
 use figures_posts::{compression_of, racking_figure, racking_part};
 use figures_under::{Above, level_under};

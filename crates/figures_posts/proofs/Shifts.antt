@@ -7,13 +7,13 @@ use borrow.Author.Tests.{ltb-true, ltb-false}
 use lib.Dec.{ltb}
 use lib.IntN.{ℤ, pos, negsuc, nat_abs, neg_ℤ, ◌+ℤ◌}
 use lib.Signed.{shr_z}
-use Rattle.arith.specs.inner.Rounding.{roundedUp, roundedUpZ}
-use Rattle.arith.specs.inner.Sizes.{Small}
-use Rattle.arith.proofs.Sizes.{natAbs-neg}
-use Rattle.springs.specs.inner.Balance.{mostForce}
-use Rattle.statics.specs.inner.WholeNumbers.{rackingPad, rackingFigure}
-use Rattle.figures_posts.specs.inner.Posts.{outwardOf}
-use Rattle.arith.proofs.SignedWords.{not-below}
+use Rattle.arith.specs.Inner.Rounding.{rounded_up, rounded_up_z}
+use Rattle.arith.specs.Inner.Sizes.{Small}
+use Rattle.arith.proofs.Sizes.{nat_abs_neg}
+use Rattle.springs.specs.Inner.Balance.{most_force}
+use Rattle.statics.specs.Inner.WholeNumbers.{racking_pad, racking_figure}
+use Rattle.figures_posts.specs.Inner.Posts.{outward_of}
+use Rattle.arith.proofs.SignedWords.{not_below_lem}
 
 -- below zero, by whether the sum is below zero too
 below_by :
@@ -29,37 +29,37 @@ below_by n false e =
     let q : suc n / 262144 ≡ 0 = omega arith in
     rw q (ap pos (omega arith))
 
-pub shifted : (m : ℤ) → shr_z (m +ℤ pos 262143) 262144 ≡ roundedUpZ m 262144
-unfolding roundedUpZ
+pub shifted : (m : ℤ) → shr_z (m +ℤ pos 262143) 262144 ≡ rounded_up_z m 262144
+unfolding rounded_up_z
 shifted (pos n) = refl
 shifted (negsuc n) = below_by n (ltb 262143 (suc n)) refl
 
 -- the size of what is rounded up
-pub rounded-small : (m : ℤ) → Small (nat_abs m / 262144 + 1) (roundedUpZ m 262144)
-unfolding roundedUpZ
-rounded-small (pos n) = record { size = omega arith }
-rounded-small (negsuc n) = record { size = rw (natAbs-neg (pos (suc n / 262144))) (omega arith) }
+pub rounded_small : (m : ℤ) → Small (nat_abs m / 262144 + 1) (rounded_up_z m 262144)
+unfolding rounded_up_z
+rounded_small (pos n) = record { size = omega arith }
+rounded_small (negsuc n) = record { size = rw (nat_abs_neg (pos (suc n / 262144))) (omega arith) }
 
 -- a racking, padded, is rounded up in size
-from_zero : (n : ℕ) (less : Bool) → ltb n 0 ≡ less → shr_z (pos n +ℤ cond less (neg_ℤ (pos rackingPad)) (pos (rackingPad + 262143))) 262144
-    ≡ pos (roundedUp (n + rackingPad) 262144)
-from_zero n true e = absurd (not-below n e)
+from_zero : (n : ℕ) (less : Bool) → ltb n 0 ≡ less → shr_z (pos n +ℤ cond less (neg_ℤ (pos racking_pad)) (pos (racking_pad + 262143))) 262144
+    ≡ pos (rounded_up (n + racking_pad) 262144)
+from_zero n true e = absurd (not_below_lem n e)
 from_zero n false e = ap pos (omega arith)
 
-pub racking-shifted : (z : ℤ) → shr_z (z +ℤ outwardOf z) 262144 ≡ rackingFigure z
-unfolding rackingFigure
-racking-shifted (pos n) = from_zero n (ltb n 0) refl
-racking-shifted (negsuc n) =
-    let q : roundedUp (suc n + rackingPad) 262144 ≡ suc ((n + rackingPad) / 262144) = omega arith in
+pub racking_shifted : (z : ℤ) → shr_z (z +ℤ outward_of z) 262144 ≡ racking_figure z
+unfolding racking_figure
+racking_shifted (pos n) = from_zero n (ltb n 0) refl
+racking_shifted (negsuc n) =
+    let q : rounded_up (suc n + racking_pad) 262144 ≡ suc ((n + racking_pad) / 262144) = omega arith in
     rw q (ap negsuc (omega arith))
 
-pub racking-figure-small : (z : ℤ) → Small (2 ^ 45) z → Small (2 ^ 30) (rackingFigure z)
-unfolding rackingFigure
-racking-figure-small (pos n) s = record { size = omega (arith, s.size) }
-racking-figure-small (negsuc n) s =
-    record { size = rw (natAbs-neg (pos (roundedUp (suc n + rackingPad) 262144))) (omega (arith, s.size)) }
+pub racking_figure_small : (z : ℤ) → Small (2 ^ 45) z → Small (2 ^ 30) (racking_figure z)
+unfolding racking_figure
+racking_figure_small (pos n) s = record { size = omega (arith, s.size) }
+racking_figure_small (negsuc n) s =
+    record { size = rw (nat_abs_neg (pos (rounded_up (suc n + racking_pad) 262144))) (omega (arith, s.size)) }
 
 -- the size of what is rounded down
-pub shifted-small : (z : ℤ) → Small (2 * mostForce) z → Small (2 ^ 45) (shr_z z 1024)
-shifted-small (pos n) s = record { size = omega (arith, s.size) }
-shifted-small (negsuc n) s = record { size = omega (arith, s.size) }
+pub shifted_small : (z : ℤ) → Small (2 * most_force) z → Small (2 ^ 45) (shr_z z 1024)
+shifted_small (pos n) s = record { size = omega (arith, s.size) }
+shifted_small (negsuc n) s = record { size = omega (arith, s.size) }

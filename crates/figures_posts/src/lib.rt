@@ -2,12 +2,12 @@
 
 ghost use Rattle.std.specs.Prelude.{◌≡◌, ◌+◌, ◌*◌, ◌/◌, ◌≤◌, ◌^◌, pos, nat_abs, neg_ℤ, ◌+ℤ◌, ◌-ℤ◌, ◌*ℤ◌};
 ghost use Rattle.std.specs.Int.Signed.{quot_z, shr_z};
-ghost use Rattle.arith.specs.inner.Rounding.{roundedUpZ};
-ghost use Rattle.arith.specs.inner.Sizes.{Small};
-ghost use Rattle.springs.specs.Equations.{closedSpring};
-ghost use Rattle.statics.specs.Posts.{postSpacing};
-ghost use Rattle.statics.specs.inner.WholeNumbers.{rackingFigure, postFigure, notBelow};
-ghost use Rattle.figures_posts.specs.inner.Posts.{outwardOf, greater_of, lesserOf, leeOf, windwardOf, word};
+ghost use Rattle.arith.specs.Inner.Rounding.{rounded_up_z};
+ghost use Rattle.arith.specs.Inner.Sizes.{Small};
+ghost use Rattle.springs.specs.Equations.{closed_spring};
+ghost use Rattle.statics.specs.Posts.{post_spacing};
+ghost use Rattle.statics.specs.Inner.WholeNumbers.{racking_figure, post_figure, not_below};
+ghost use Rattle.figures_posts.specs.Inner.Posts.{outward_of, greater_of, lesser_of, lee_of, windward_of, word};
 
 use statics::PostParts;
 
@@ -21,7 +21,7 @@ const POST_SPACING: i64 = 2259;
 
 // The racking of a tier of spring k, from the shifts of its upper and its lower level, rounded down.
 pub fn racking_part(k: u64, upper: u64, lower: u64) -> i64
-    requires { (k ≤ closedSpring) × (upper ≤ 2 ^ 40) × (lower ≤ 2 ^ 40) }
+    requires { (k ≤ closed_spring) × (upper ≤ 2 ^ 40) × (lower ≤ 2 ^ 40) }
     ensures { (result ≡ shr_z (pos (k * upper) -ℤ pos (k * lower)) 1024) × Small (2 ^ 45) result }
 {
     ((k * upper) as i64 - (k * lower) as i64) >> 10
@@ -37,14 +37,14 @@ fn negative(x: i64) -> i64
 // A force in 2^-18 N, in N upwards: a newton less one step is added, then a shift rounds down. It takes fewer steps than a division.
 fn newtons_up(m: i64) -> i64
     requires { Small (7 * 2 ^ 60) m }
-    ensures { (result ≡ roundedUpZ m (2 ^ 18)) × Small (nat_abs m / 2 ^ 18 + 1) result }
+    ensures { (result ≡ rounded_up_z m (2 ^ 18)) × Small (nat_abs m / 2 ^ 18 + 1) result }
 {
     (m + 262143) >> 18
 }
 
 // What pads a racking, and rounds it away from zero once a shift rounds it down.
 fn outward(part: i64) -> i64
-    ensures { (result ≡ outwardOf part) × Small (2 ^ 19) result }
+    ensures { (result ≡ outward_of part) × Small (2 ^ 19) result }
 {
     if part < 0 {
         return 0 - RACKING_PAD;
@@ -55,14 +55,14 @@ fn outward(part: i64) -> i64
 // The figure of a racking: its padded size, in N upwards, with the sign kept.
 pub fn racking_figure(part: i64) -> i32
     requires { Small (2 ^ 45) part }
-    ensures { result ≡ rackingFigure part }
+    ensures { result ≡ racking_figure part }
 {
     ((part + outward(part)) >> 18) as i32
 }
 
 // A signed number, cut off at 0.
 fn not_below(sum: i64) -> u64
-    ensures { result ≡ notBelow sum }
+    ensures { result ≡ not_below sum }
 {
     if sum < 0 {
         return 0;
@@ -80,7 +80,7 @@ fn greater(x: i64, y: i64) -> i64
 }
 
 fn lesser(x: i64, y: i64) -> i64
-    ensures { result ≡ lesserOf x y }
+    ensures { result ≡ lesser_of x y }
 {
     if y < x {
         return y;
@@ -92,7 +92,7 @@ fn lesser(x: i64, y: i64) -> i64
 // one of them is not below 0, so that there is nothing to cut off.
 fn pressed_figure(weight: u64, x: i64, y: i64) -> u64
     requires { (weight ≤ 2 ^ 40) × Small (5 * 2 ^ 60) x × Small (5 * 2 ^ 60) y × (greater_of x y ≡ pos (nat_abs (greater_of x y))) }
-    ensures { result ≡ postFigure (pos weight +ℤ x) (pos weight +ℤ y) }
+    ensures { result ≡ post_figure (pos weight +ℤ x) (pos weight +ℤ y) }
 {
     newtons_up(greater(x, y) + (weight as i64) + POST_PAD) as u64
 }
@@ -100,7 +100,7 @@ fn pressed_figure(weight: u64, x: i64, y: i64) -> u64
 // The tension of the post that is pressed less, cut off at 0.
 fn lifted_figure(weight: u64, x: i64, y: i64) -> u64
     requires { (weight ≤ 2 ^ 40) × Small (5 * 2 ^ 60) x × Small (5 * 2 ^ 60) y }
-    ensures { result ≡ postFigure (neg_ℤ (pos weight +ℤ x)) (neg_ℤ (pos weight +ℤ y)) }
+    ensures { result ≡ post_figure (neg_ℤ (pos weight +ℤ x)) (neg_ℤ (pos weight +ℤ y)) }
 {
     not_below(newtons_up(POST_PAD - (weight as i64) - lesser(x, y)))
 }
@@ -136,7 +136,7 @@ fn post_sums(couple: i64, parts: PostParts) -> PostSums
 // presses one of them.
 pub fn compression_of(weight: u64, couple: i64, parts: PostParts) -> u32
     requires { (weight ≤ 2 ^ 40) × Small (2 ^ 50) couple × (parts.lee ≤ 2 ^ 62) × (parts.windward ≤ 2 ^ 62) }
-    ensures { result ≡ word (postFigure (leeOf weight couple parts) (windwardOf weight couple parts)) }
+    ensures { result ≡ word (post_figure (lee_of weight couple parts) (windward_of weight couple parts)) }
 {
     let sums = post_sums(couple, parts);
     word_of(pressed_figure(weight, sums.lee, sums.windward))
@@ -145,7 +145,7 @@ pub fn compression_of(weight: u64, couple: i64, parts: PostParts) -> u32
 // Tension, from the same.
 pub fn tension_of(weight: u64, couple: i64, parts: PostParts) -> u32
     requires { (weight ≤ 2 ^ 40) × Small (2 ^ 50) couple × (parts.lee ≤ 2 ^ 62) × (parts.windward ≤ 2 ^ 62) }
-    ensures { result ≡ word (postFigure (neg_ℤ (leeOf weight couple parts)) (neg_ℤ (windwardOf weight couple parts))) }
+    ensures { result ≡ word (post_figure (neg_ℤ (lee_of weight couple parts)) (neg_ℤ (windward_of weight couple parts))) }
 {
     let sums = post_sums(couple, parts);
     word_of(lifted_figure(weight, sums.lee, sums.windward))
@@ -162,7 +162,7 @@ pub fn moment_under(above: i64, part: i64, height: u16) -> i64
 // A moment over the post spacing.
 pub fn couple_of(moment: i64) -> i64
     requires { Small (2 ^ 61) moment }
-    ensures { (result ≡ quot_z moment (pos postSpacing)) × Small (2 ^ 50) result }
+    ensures { (result ≡ quot_z moment (pos post_spacing)) × Small (2 ^ 50) result }
 {
     moment / POST_SPACING
 }

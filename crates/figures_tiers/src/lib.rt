@@ -2,11 +2,11 @@
 // statics/specs/inner/WholeNumbers.
 
 ghost use Rattle.std.specs.Prelude.{◌≡◌, ℕ, ◌+◌, ◌*◌, ◌-◌, ◌/◌, ◌<◌, ◌≤◌, ◌^◌, length, take, get_or, replicate};
-ghost use Rattle.sheet.specs.Layout.{blankTier};
-ghost use Rattle.sheet.specs.inner.Limits.{TierLimits};
-ghost use Rattle.statics.specs.inner.WholeNumbers.{transverseUnits, windUnits};
-ghost use Rattle.statics.specs.Loads.{boxLength};
-ghost use Rattle.figures_tiers.specs.inner.Loads.{Loaded, TiersMeasured};
+ghost use Rattle.sheet.specs.Layout.{blank_tier};
+ghost use Rattle.sheet.specs.Inner.Limits.{TierLimits};
+ghost use Rattle.statics.specs.Inner.WholeNumbers.{transverse_units, wind_units};
+ghost use Rattle.statics.specs.Loads.{box_length};
+ghost use Rattle.figures_tiers.specs.Inner.Loads.{Loaded, TiersMeasured};
 
 use arith::rounding::scaled;
 use sheet::Tier;
@@ -21,7 +21,7 @@ const LENGTH_40: u64 = 12192;
 const FINE_NEWTON: u64 = 268435456;
 
 fn box_length(t: Tier) -> u64
-    ensures { (result ≡ boxLength t) × (result ≤ 12192) }
+    ensures { (result ≡ box_length t) × (result ≤ 12192) }
 {
     if t.size == 20 {
         return LENGTH_20;
@@ -32,7 +32,7 @@ fn box_length(t: Tier) -> u64
 // The wind on a tier: 27 × length × height where it is exposed.
 fn wind_of(t: Tier) -> u64
     requires { TierLimits t }
-    ensures { (result ≡ windUnits t) × (result ≤ 27 * 12192 * 2896) }
+    ensures { (result ≡ wind_units t) × (result ≤ 27 * 12192 * 2896) }
 {
     if sheet::exposed(t) {
         return 27 * box_length(t) * (t.height as u64);
@@ -49,8 +49,8 @@ struct TierLoad {
 
 fn tier_load(t: Tier) -> TierLoad
     requires { TierLimits t }
-    ensures { (result.transverse ≡ transverseUnits t) × (result.transverse ≤ 30480 * 1500)
-        × (result.wind ≡ windUnits t) × (result.wind ≤ 27 * 12192 * 2896) }
+    ensures { (result.transverse ≡ transverse_units t) × (result.transverse ≤ 30480 * 1500)
+        × (result.wind ≡ wind_units t) × (result.wind ≤ 27 * 12192 * 2896) }
 {
     TierLoad {
         transverse: (t.mass as u64) * (t.aT as u64),
@@ -100,7 +100,7 @@ pub fn loads_of(
     heights: &mut [u16],
 )
     requires n_bound { (n ≤ 10) × (rule.share ≤ 20) × (rule.factor ≤ 1000) }
-    requires by_index { (i : ℕ) → i < n → TierLimits (get_or (take n tiers) i blankTier) }
+    requires by_index { (i : ℕ) → i < n → TierLimits (get_or (take n tiers) i blank_tier) }
     requires loads_value { (loads.old ≡ replicate 10 0) × (weights.old ≡ replicate 22 0) × (length heights.old ≡ 10) }
     ensures { Loaded rule n (take n tiers) loads.new
         × TiersMeasured n (take n tiers) heights.new weights.new }

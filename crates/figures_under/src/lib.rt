@@ -1,9 +1,9 @@
 // The level under a tier: the forces on its posts, and what it hands down to the levels below, by figures_posts.
 
 ghost use Rattle.std.specs.Prelude.{◌≡◌, ◌+◌, ◌*◌, ◌≤◌, ◌^◌, pos, ◌+ℤ◌, ◌*ℤ◌};
-ghost use Rattle.arith.specs.inner.Sizes.{Small};
-ghost use Rattle.statics.specs.inner.WholeNumbers.{compressionFrom, tensionFrom};
-ghost use Rattle.figures_posts.specs.inner.Posts.{word};
+ghost use Rattle.arith.specs.Inner.Sizes.{Small};
+ghost use Rattle.statics.specs.Inner.WholeNumbers.{compression_from, tension_from};
+ghost use Rattle.figures_posts.specs.Inner.Posts.{word};
 
 use figures_posts::{compression_of, couple_of, moment_under, tension_of};
 use statics::PostParts;
@@ -40,9 +40,9 @@ pub fn level_under(
     ensures moment_value { result.above.moment ≡ pos height *ℤ part +ℤ above.moment }
     ensures lee_value { result.above.parts.lee ≡ above.parts.lee + bottom.lee + top.lee }
     ensures windward_value { result.above.parts.windward ≡ above.parts.windward + bottom.windward + top.windward }
-    ensures compression_value { result.compression ≡ word (compressionFrom vmax (pos height *ℤ part +ℤ above.moment)
+    ensures compression_value { result.compression ≡ word (compression_from vmax (pos height *ℤ part +ℤ above.moment)
         (above.parts.lee + bottom.lee + top.lee) (above.parts.windward + bottom.windward + top.windward)) }
-    ensures tension_value { result.tension ≡ word (tensionFrom vmin (pos height *ℤ part +ℤ above.moment)
+    ensures tension_value { result.tension ≡ word (tension_from vmin (pos height *ℤ part +ℤ above.moment)
         (above.parts.lee + bottom.lee) (above.parts.windward + bottom.windward)) }
 {
     let moment = moment_under(above.moment, part, height);

@@ -10,8 +10,8 @@ use lib.Ieee.{Float, nan, inf, fin, binary64, eq, is_nan, nan_bits, ones, hid, t
 use lib.Ieee.Bits.{nan_bits_above}
 
 -- 2^52 + x, by its pattern
-pub whole-pattern : (x : ℕ) → x < 4503599627370496 → T (not (nan_bits binary64 (4841369599423283200 + x)))
-whole-pattern x h =
+pub whole_pattern : (x : ℕ) → x < 4503599627370496 → T (not (nan_bits binary64 (4841369599423283200 + x)))
+whole_pattern x h =
     subst (λ b. T (not b)) (sym (nan_bits_above binary64 (4841369599423283200 + x)))
     (le→nltb
     (ones binary64 * hid binary64)

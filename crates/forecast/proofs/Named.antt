@@ -9,54 +9,54 @@ use Rattle.arith.specs.Fractions.{recip}
 use Rattle.sheet.specs.declared.Reading.{Reading}
 use Rattle.sheet.specs.declared.Reading.TheVariants.{Taken, Refused}
 use Rattle.sheet.specs.declared.Sheet.{Sheet}
-use Rattle.sheet.specs.Layout.{head_of, sheetOf}
-use Rattle.sheet.specs.Refusals.{longestAnswer}
+use Rattle.sheet.specs.Layout.{head_of, sheet_of}
+use Rattle.sheet.specs.Refusals.{longest_answer}
 use Rattle.sheet.specs.Fits.{Fits}
-use Rattle.sheet.proofs.Refusal.{decoded-reading, sheet-taken-of}
-use Rattle.sheet.proofs.SheetLimits.{sheet-limits}
-use Rattle.sheet.proofs.TakenSheets.{taken-fits}
+use Rattle.sheet.proofs.Refusal.{decoded_reading, sheet_taken_of}
+use Rattle.sheet.proofs.SheetLimits.{sheet_limits}
+use Rattle.sheet.proofs.TakenSheets.{taken_fits}
 use Rattle.statics.specs.Loads.{StandsFor}
-use Rattle.statics.proofs.EndChain.{rule-stands}
+use Rattle.statics.proofs.EndChain.{rule_stands}
 use Rattle.answer.specs.Checked.{AnsweredAs, kept}
-use Rattle.answer.specs.inner.Named.{returnedAs, writtenAs}
-use Rattle.answer.proofs.Named.{answer-named}
+use Rattle.answer.specs.Inner.Named.{returned_as, written_as}
+use Rattle.answer.proofs.Named.{answer_named}
 use Rattle.forecast_factor.specs.Factor.{factor}
-use Rattle.forecast_factor.proofs.Enough.{factor-most}
-use Rattle.forecast.specs.Forecasts.{forecastRule, forecastRows, forecastRefusal, Forecast}
-use Rattle.forecast.specs.inner.Named.{forecastLoadRule, forecastBytes, forecastReturned, forecastWritten}
+use Rattle.forecast_factor.proofs.Enough.{factor_most}
+use Rattle.forecast.specs.Forecasts.{forecast_rule, forecast_rows, forecast_refusal, Forecast}
+use Rattle.forecast.specs.Inner.Named.{forecast_load_rule, forecast_bytes, forecast_returned, forecast_written}
 
 -- the rule in whole numbers stands for that of the forecast
-pub stands : {t : Sheet} → Fits t → (h b : ℕ) → StandsFor (forecastLoadRule h b t) (forecastRule h b t)
+pub stands : {t : Sheet} → Fits t → (h b : ℕ) → StandsFor (forecast_load_rule h b t) (forecast_rule h b t)
 unfolding recip
 stands f h b =
-    let own = rule-stands (sheet-limits f) in
+    let own = rule_stands (sheet_limits f) in
     record {
       share = own.share;
       factor = record { cross = ap pos (omega arith) };
-      share-most = own.share-most;
-      factor-most = factor-most h b;
+      share_most = own.share_most;
+      factor_most = factor_most h b;
     }
 
 module _ (s : List ℕ) (h b hours : ℕ) (before : List ℕ) where
-  abbrev turnedBack : Reading
-  turnedBack = forecastRefusal s b hours (length before)
+  abbrev turned_back : Reading
+  turned_back = forecast_refusal s b hours (length before)
 
   -- a sheet that is not turned back is within the limits
-  pub within : turnedBack ≡ Taken → Fits (sheetOf s)
+  pub within : turned_back ≡ Taken → Fits (sheet_of s)
   within e =
-      taken-fits s
-      (sym (decoded-reading s) ∙ sheet-taken-of s (forecastRows (head_of s).route b hours) longestAnswer (length before) e)
+      taken_fits s
+      (sym (decoded_reading s) ∙ sheet_taken_of s (forecast_rows (head_of s).route b hours) longest_answer (length before) e)
 
-  pub forecast-named : Forecast kept s h b hours before (forecastWritten s h b hours before) (forecastReturned s h b hours (length before))
-  unfolding forecastWritten forecastReturned
-  forecast-named = record { holds = go turnedBack refl }
+  pub forecast_named : Forecast kept s h b hours before (forecast_written s h b hours before) (forecast_returned s h b hours (length before))
+  unfolding forecast_written forecast_returned
+  forecast_named = record { holds = go turned_back refl }
     where
       go :
           (q : Reading) →
-          turnedBack ≡ q →
-          AnsweredAs q kept (forecastRule h b (sheetOf s)) (sheetOf s) before (writtenAs q (forecastBytes h b (sheetOf s)) before)
-          (returnedAs q (forecastBytes h b (sheetOf s)))
+          turned_back ≡ q →
+          AnsweredAs q kept (forecast_rule h b (sheet_of s)) (sheet_of s) before (written_as q (forecast_bytes h b (sheet_of s)) before)
+          (returned_as q (forecast_bytes h b (sheet_of s)))
       go (Refused n p) e = record { refused = refl; untouched = refl }
       go Taken e =
           let fits = within e in
-          record { bytes = forecastBytes h b (sheetOf s); answer = answer-named (stands fits h b) fits; taken = refl; written = refl }
+          record { bytes = forecast_bytes h b (sheet_of s); answer = answer_named (stands fits h b) fits; taken = refl; written = refl }

@@ -9,85 +9,85 @@ use lib.Dec.{lit≤}
 use lib.ListN.{length, drop}
 use Rattle.sheet.specs.declared.Reading.{Reading}
 use Rattle.sheet.specs.declared.Reading.TheVariants.{Taken}
-use Rattle.sheet.specs.Layout.{head_of, sheetOf}
-use Rattle.sheet.specs.Refusals.{row13, first, decoded, longestAnswer, refusal}
-use Rattle.sheet.specs.Routes.{routePercent}
-use Rattle.sheet.proofs.Refusal.{refusal-of}
-use Rattle.sheet.proofs.Rows.{row-passed, or_else}
+use Rattle.sheet.specs.Layout.{head_of, sheet_of}
+use Rattle.sheet.specs.Refusals.{row13, first, decoded, longest_answer, refusal}
+use Rattle.sheet.specs.Routes.{route_percent}
+use Rattle.sheet.proofs.Refusal.{refusal_of_lem}
+use Rattle.sheet.proofs.Rows.{row_passed, or_else}
 use Rattle.statics.specs.declared.LoadRule.{LoadRule}
-use Rattle.statics.specs.inner.Computed.{loadRuleOf}
+use Rattle.statics.specs.Inner.Computed.{load_rule_of}
 use Rattle.answer.specs.declared.Outcome.{Outcome}
 use Rattle.answer.specs.Checked.{Answered, AnsweredAs, kept, demanded}
 use Rattle.answer.specs.Consequences.{AnswerSays}
-use Rattle.answer.specs.inner.Named.{answerBy, checkBytes, returnedAs, writtenAs, returned, written}
+use Rattle.answer.specs.Inner.Named.{answer_by, check_bytes, returned_as, written_as, returned, written}
 use Rattle.answer.proofs.Consequences as C
-use Rattle.answer.proofs.Theorems.{answer-wider}
+use Rattle.answer.proofs.Theorems.{answer_wider}
 use Rattle.forecast_factor.specs.Factor.{factor}
-use Rattle.forecast.specs.Forecasts.{forecastRule, row20, row21, forecastRows, forecastRefusal, Forecast}
+use Rattle.forecast.specs.Forecasts.{forecast_rule, row20, row21, forecast_rows, forecast_refusal, Forecast}
 use Rattle.forecast.specs.Theorems.{DemandThreeBy, Theorems}
-use Rattle.forecast.specs.inner.Named.{forecastLoadRule, forecastBytes, forecastReturned, forecastWritten}
-use Rattle.forecast.proofs.Named.{forecast-named}
+use Rattle.forecast.specs.Inner.Named.{forecast_load_rule, forecast_bytes, forecast_returned, forecast_written}
+use Rattle.forecast.proofs.Named.{forecast_named}
 
-demand-three :
+demand_three :
     (s : List ℕ) (h b hours : ℕ) (before after : List ℕ) (r : Outcome) →
-    forecastRefusal s b hours (length before) ≡ Taken →
+    forecast_refusal s b hours (length before) ≡ Taken →
     Forecast kept s h b hours before after r →
-    DemandThreeBy (forecastRule h b (sheetOf s)) (sheetOf s) after
-demand-three s h b hours before after r e c =
-    let rule = forecastRule h b (sheetOf s) in
-    let a : Answered kept rule (sheetOf s) before after r =
-    subst (λ (q : Reading). AnsweredAs q kept rule (sheetOf s) before after r) e c.holds in
-    let wide = answer-wider (lit≤ tt) a.answer in
+    DemandThreeBy (forecast_rule h b (sheet_of s)) (sheet_of s) after
+demand_three s h b hours before after r e c =
+    let rule = forecast_rule h b (sheet_of s) in
+    let a : Answered kept rule (sheet_of s) before after r =
+    subst (λ (q : Reading). AnsweredAs q kept rule (sheet_of s) before after r) e c.holds in
+    let wide = answer_wider (lit≤ tt) a.answer in
     record {
       one = a.answer.one;
       says =
-          subst (λ (l : List ℕ). AnswerSays demanded rule (sheetOf s) l) (sym a.written)
+          subst (λ (l : List ℕ). AnswerSays demanded rule (sheet_of s) l) (sym a.written)
           (C.says wide (drop (length a.bytes) before));
     }
 
 -- route 0 has 100 percent: the sheet's own rule
 module _ (s : List ℕ) (h b hours : ℕ) (route : (head_of s).route ≡ 0) (short : hours < 72) (some : 1 ≤ b) (full : factor h b ≡ 1000) where
-  same-rule : forecastLoadRule h b (sheetOf s) ≡ loadRuleOf (sheetOf s)
-  unfolding sheetOf
-  same-rule =
-      ap (λ (f : ℕ). record { share = (loadRuleOf (sheetOf s)).share; factor = f })
-      (full ∙ sym (ap (λ (r : ℕ). 10 * routePercent r) route))
+  same_rule : forecast_load_rule h b (sheet_of s) ≡ load_rule_of (sheet_of s)
+  unfolding sheet_of
+  same_rule =
+      ap (λ (f : ℕ). record { share = (load_rule_of (sheet_of s)).share; factor = f })
+      (full ∙ sym (ap (λ (r : ℕ). 10 * route_percent r) route))
 
-  same-refusal : (room : ℕ) → forecastRefusal s b hours room ≡ refusal s room
+  same_refusal : (room : ℕ) → forecast_refusal s b hours room ≡ refusal s room
   unfolding refusal
-  same-refusal room =
-      refusal-of s (forecastRows (head_of s).route b hours) longestAnswer room
-      ∙ ap (λ (q : Reading). or_else (decoded s).reading q) (past-route ∙ past-voyage)
-      ∙ sym (refusal-of s [] longestAnswer room)
+  same_refusal room =
+      refusal_of_lem s (forecast_rows (head_of s).route b hours) longest_answer room
+      ∙ ap (λ (q : Reading). or_else (decoded s).reading q) (past_route ∙ past_voyage)
+      ∙ sym (refusal_of_lem s [] longest_answer room)
     where
-      past-route :
-          first (row20 (head_of s).route ∷ row21 b hours ∷ row13 longestAnswer room ∷ []) ≡
-          first (row21 b hours ∷ row13 longestAnswer room ∷ [])
-      past-route = row-passed _ _ (ap not (eq-eqb (head_of s).route 0 route))
+      past_route :
+          first (row20 (head_of s).route ∷ row21 b hours ∷ row13 longest_answer room ∷ []) ≡
+          first (row21 b hours ∷ row13 longest_answer room ∷ [])
+      past_route = row_passed _ _ (ap not (eq-eqb (head_of s).route 0 route))
 
-      no-breadth : b ≡ 0 → ⊥
-      no-breadth e = omega arith
+      no_breadth : b ≡ 0 → ⊥
+      no_breadth e = omega arith
 
-      past-voyage : first (row21 b hours ∷ row13 longestAnswer room ∷ []) ≡ first (row13 longestAnswer room ∷ [])
-      past-voyage = row-passed _ _ (ap₂ ◌||◌ (lt-leb 72 hours short) (ne_eqb b 0 no-breadth))
+      past_voyage : first (row21 b hours ∷ row13 longest_answer room ∷ []) ≡ first (row13 longest_answer room ∷ [])
+      past_voyage = row_passed _ _ (ap₂ ◌||◌ (lt-leb 72 hours short) (ne_eqb b 0 no_breadth))
 
-  same_bytes : forecastBytes h b (sheetOf s) ≡ checkBytes s
-  same_bytes = ap (λ (c : LoadRule). answerBy c (sheetOf s)) same-rule
+  same_bytes : forecast_bytes h b (sheet_of s) ≡ check_bytes s
+  same_bytes = ap (λ (c : LoadRule). answer_by c (sheet_of s)) same_rule
 
-  as-check :
+  as_check :
       (before : List ℕ) →
-      (forecastReturned s h b hours (length before) ≡ returned s (length before))
-      × (forecastWritten s h b hours before ≡ written s before)
-  unfolding forecastReturned forecastWritten returned written
-  as-check before = (
-    ap₂ returnedAs (same-refusal (length before)) same_bytes,
-    ap₂ (λ (q : Reading) (bytes : List ℕ). writtenAs q bytes before) (same-refusal (length before)) same_bytes,
+      (forecast_returned s h b hours (length before) ≡ returned s (length before))
+      × (forecast_written s h b hours before ≡ written s before)
+  unfolding forecast_returned forecast_written returned written
+  as_check before = (
+    ap₂ returned_as (same_refusal (length before)) same_bytes,
+    ap₂ (λ (q : Reading) (bytes : List ℕ). written_as q bytes before) (same_refusal (length before)) same_bytes,
   )
 
 pub theorems : Theorems
 theorems =
     record {
-      forecast-named = forecast-named;
-      demand-three = demand-three;
-      as-check = λ s h b hours before route short some full. as-check s h b hours route short some full before;
+      forecast_named = forecast_named;
+      demand_three = demand_three;
+      as_check = λ s h b hours before route short some full. as_check s h b hours route short some full before;
     }

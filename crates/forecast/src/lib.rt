@@ -2,11 +2,11 @@
 
 ghost use Rattle.std.specs.Prelude.{◌≡◌, length};
 ghost use Rattle.sheet.specs.declared.Reading.TheVariants.{Taken};
-ghost use Rattle.sheet.specs.Layout.{sheetOf};
-ghost use Rattle.sheet.specs.Refusals.{first, sheetRows};
+ghost use Rattle.sheet.specs.Layout.{sheet_of};
+ghost use Rattle.sheet.specs.Refusals.{first, sheet_rows};
 ghost use Rattle.answer.specs.Checked.{kept};
 ghost use Rattle.forecast.specs.Forecasts.{Forecast};
-ghost use Rattle.forecast.specs.inner.Named.{OwnAnswer, forecastReturned, forecastWritten};
+ghost use Rattle.forecast.specs.Inner.Named.{OwnAnswer, forecast_returned, forecast_written};
 
 use answer::Outcome;
 use sheet::Reading;
@@ -14,8 +14,8 @@ use statics::LoadRule;
 
 // The answer to a taken sheet, unless its route, the voyage or the breadth turns it back.
 fn answer_sheet(s: &[u8], wave: u16, breadth: u16, hours: u32, answer: &mut [u8]) -> Outcome
-    requires { first (sheetRows s.now) ≡ Taken }
-    ensures { OwnAnswer (sheetOf s.now) wave breadth hours answer.old answer.new result }
+    requires { first (sheet_rows s.now) ≡ Taken }
+    ensures { OwnAnswer (sheet_of s.now) wave breadth hours answer.old answer.new result }
 {
     let head = sheet_fields::head_of(s);
     if head.route != 0 {
@@ -36,8 +36,8 @@ fn answer_sheet(s: &[u8], wave: u16, breadth: u16, hours: u32, answer: &mut [u8]
 // The check of a stack sheet by a forecast: wave height and breadth in cm, the voyage in hours. A refusal leaves the buffer as it was.
 pub fn forecast(sheet: &[u8], wave: u16, breadth: u16, hours: u32, answer: &mut [u8]) -> Outcome
     ensures answered { Forecast kept sheet.now wave breadth hours answer.old answer.new result }
-    ensures named { (result ≡ forecastReturned sheet.now wave breadth hours (length answer.old))
-        × (answer.new ≡ forecastWritten sheet.now wave breadth hours answer.old) }
+    ensures named { (result ≡ forecast_returned sheet.now wave breadth hours (length answer.old))
+        × (answer.new ≡ forecast_written sheet.now wave breadth hours answer.old) }
 {
     let reading = sheet_decode::refusals::test_sheet(sheet);
     match reading {

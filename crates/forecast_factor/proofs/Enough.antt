@@ -7,7 +7,7 @@ use native.Mathlib.Nat.{mul-le-mul, mul-le-mul_left, mul-le-mul_right}
 use native.Mathlib.Omega.{arith}
 use lib.Dec.{leb}
 use borrow.Author.Tests.{leb-true, le-leb}
-use Rattle.forecast_factor.specs.Factor.{enough, firstEnough, leastEnough, factor}
+use Rattle.forecast_factor.specs.Factor.{enough, first_enough, least_enough, factor}
 use Rattle.forecast_factor.specs.Theorems.{Least, Kept}
 
 pub clash : {A : Type 0} {x : Bool} → x ≡ true → x ≡ false → A
@@ -23,8 +23,8 @@ module _ (h b : ℕ) where
       omega (arith, leb-true (2500 * (h * h)) _ e, mul-le-mul_right b (mul-le-mul less less)) in
       le-leb _ _ more
 
-  pub not-before : (t s : ℕ) → enough h b s ≡ false → t ≤ s → enough h b t ≡ false
-  not-before t s e l = go (enough h b t) refl
+  pub not_before : (t s : ℕ) → enough h b s ≡ false → t ≤ s → enough h b t ≡ false
+  not_before t s e l = go (enough h b t) refl
     where
       go : (x : Bool) → enough h b t ≡ x → enough h b t ≡ false
       go true f = clash (grows t s f l) e
@@ -34,23 +34,23 @@ module _ (h b : ℕ) where
   record First (t found : ℕ) : Type 0 where
     pub low : t ≤ found
     pub reached : enough h b found ≡ true
-    pub none-less : (s : ℕ) → t ≤ s → s < found → enough h b s ≡ false
+    pub none_less : (s : ℕ) → t ≤ s → s < found → enough h b s ≡ false
 
   none_before : (t s : ℕ) → t ≤ s → s < t → ⊥
   none_before t s l u = omega arith
 
   here : (t : ℕ) → enough h b t ≡ true → First t t
-  here t e = record { low = omega arith; reached = e; none-less = λ s l u. absurd (none_before t s l u) }
+  here t e = record { low = omega arith; reached = e; none_less = λ s l u. absurd (none_before t s l u) }
 
   later : (t found : ℕ) → enough h b t ≡ false → First (suc t) found → First t found
-  later t found e rest = record { low = omega (arith, rest.low); reached = rest.reached; none-less = λ s l u. at s u (dec_lt t s) }
+  later t found e rest = record { low = omega (arith, rest.low); reached = rest.reached; none_less = λ s l u. at s u (dec_lt t s) }
     where
       at : (s : ℕ) → s < found → Dec (t < s) → enough h b s ≡ false
-      at s u (yes k) = rest.none-less s (omega arith) u
-      at s u (no k) = not-before s t e (omega arith)
+      at s u (yes k) = rest.none_less s (omega arith) u
+      at s u (no k) = not_before s t e (omega arith)
 
-  first : (t more : ℕ) → enough h b (t + more) ≡ true → First t (firstEnough h b t more)
-  unfolding firstEnough
+  first : (t more : ℕ) → enough h b (t + more) ≡ true → First t (first_enough h b t more)
+  unfolding first_enough
   first t zero e =
       let same : t + 0 ≡ t = omega arith in
       here t (subst (λ (x : ℕ). enough h b x ≡ true) same e)
@@ -58,7 +58,7 @@ module _ (h b : ℕ) where
       let same : t + suc more ≡ suc t + more = omega arith in
       go (enough h b t) refl (first (suc t) more (subst (λ (x : ℕ). enough h b x ≡ true) same e))
     where
-      go : (x : Bool) → enough h b t ≡ x → First (suc t) (firstEnough h b (suc t) more) → First t (cond x t (firstEnough h b (suc t) more))
+      go : (x : Bool) → enough h b t ≡ x → First (suc t) (first_enough h b (suc t) more) → First t (cond x t (first_enough h b (suc t) more))
       go true f rest = here t f
       go false f rest = later t _ f rest
 
@@ -74,14 +74,14 @@ module _ (h b : ℕ) where
             most : 2500 * (h * h) ≤ 50 * h * (50 * h) * b
             most = omega (arith, mul-le-mul_left (50 * h * (50 * h)) positive)
 
-    pub least : Least h b (leastEnough h b)
+    pub least : Least h b (least_enough h b)
     least =
         let found = first 400 (50 * h) far in
-        record { from-400 = found.low; reached = found.reached; none-less = found.none-less }
+        record { from_400 = found.low; reached = found.reached; none_less = found.none_less }
 
     pub kept : Kept h b (factor h b)
     unfolding factor
-    kept = go (leastEnough h b) least
+    kept = go (least_enough h b) least
       where
         go : (t : ℕ) → Least h b t → Kept h b (max 600 (min 1000 t))
         go t found =
@@ -89,16 +89,16 @@ module _ (h b : ℕ) where
               low = omega arith;
               high = omega arith;
               reached = λ l. grows t _ found.reached (omega arith);
-              none-less = λ s l u. found.none-less s (omega arith) (omega arith);
+              none_less = λ s l u. found.none_less s (omega arith) (omega arith);
             }
 
   -- no two numbers are kept
-  not-two : (t s : ℕ) → Kept h b t → Kept h b s → t < s → ⊥
-  not-two t s k l u = clash (k.reached (omega (arith, l.high))) (l.none-less t k.low u)
+  not_two : (t s : ℕ) → Kept h b t → Kept h b s → t < s → ⊥
+  not_two t s k l u = clash (k.reached (omega (arith, l.high))) (l.none_less t k.low u)
 
   pub same : (t s : ℕ) → Kept h b t → Kept h b s → t ≡ s
-  same t s k l = omega (arith, not-two t s k l, not-two s t l k)
+  same t s k l = omega (arith, not_two t s k l, not_two s t l k)
 
-pub factor-most : (h b : ℕ) → factor h b ≤ 1000
+pub factor_most : (h b : ℕ) → factor h b ≤ 1000
 unfolding factor
-factor-most h b = omega arith
+factor_most h b = omega arith

@@ -11,26 +11,26 @@ use mir.Val.{Fits}
 use borrow.Author.Tests.{le-leb, lt-leb}
 use Rattle.forecast_factor.specs.Factor.{enough, factor}
 use Rattle.forecast_factor.specs.Theorems.{Kept}
-use Rattle.forecast_factor.specs.inner.Search.{Between, Halved}
-use Rattle.forecast_factor.proofs.Enough.{not-before, kept, same}
+use Rattle.forecast_factor.specs.Inner.Search.{Between, Halved}
+use Rattle.forecast_factor.proofs.Enough.{not_before, kept, same}
 
 -- what is compared fits 64 bits
-pub wave-most : {h : ℕ} → h ≤ 65535 → h * h ≤ 4294836225
-wave-most l = omega (arith, mul-le-mul l l)
+pub wave_most : {h : ℕ} → h ≤ 65535 → h * h ≤ 4294836225
+wave_most l = omega (arith, mul-le-mul l l)
 
-pub above-square : (u : ℕ) → u ≤ 1000 → Fits w64 (u * u)
-above-square u l = omega (arith, mul-le-mul l l)
+pub above_square : (u : ℕ) → u ≤ 1000 → Fits w64 (u * u)
+above_square u l = omega (arith, mul-le-mul l l)
 
-pub above-product : (u b : ℕ) → u ≤ 1000 → b ≤ 65535 → Fits w64 (u * u * b)
-above-product u b l m = omega (arith, mul-le-mul (mul-le-mul l l) m)
+pub above_product : (u b : ℕ) → u ≤ 1000 → b ≤ 65535 → Fits w64 (u * u * b)
+above_product u b l m = omega (arith, mul-le-mul (mul-le-mul l l) m)
 
 -- half of the width at twice the power
 half : (w v c : ℕ) → 2 * v ≤ w → w * 2 ^ c ≤ 400 → v * 2 ^ (c + 1) ≤ 400
 half w v c l few = rw (add-one c, pow-succ' 2 c) (omega (arith, mul-le-mul_right (2 ^ c) l))
 
 module _ {h b least most compared : ℕ} (left : least < most) (is : Between h b least most) (halved : Halved least most compared) where
-  pub below-nine : compared < 9
-  below-nine = omega (arith, clash)
+  pub below_nine : compared < 9
+  below_nine = omega (arith, clash)
     where
       one : 1 ≤ most - least
       one = omega arith
@@ -54,7 +54,7 @@ module _ {h b least most compared : ℕ} (left : least < most) (is : Between h b
         ordered = from;
         high = omega (arith, is.high);
         reached = λ l. le-leb _ _ e;
-        none-less = is.none-less;
+        none_less = is.none_less;
       },
       record { few = half (most - least) (m - least) compared few halved.few },
     )
@@ -71,7 +71,7 @@ module _ {h b least most compared : ℕ} (left : least < most) (is : Between h b
         ordered = omega arith;
         high = is.high;
         reached = is.reached;
-        none-less = λ s l u. not-before h b s m (lt-leb _ _ e) (omega arith);
+        none_less = λ s l u. not_before h b s m (lt-leb _ _ e) (omega arith);
       },
       record { few = half (most - least) (most - (m + 1)) compared few halved.few },
     )
@@ -89,13 +89,13 @@ found {h} {b} {least} {most} positive closed is = same h b least (factor h b) se
           low = is.low;
           high = omega (arith, is.high);
           reached = subst (λ (x : ℕ). x < 1000 → enough h b x ≡ true) one is.reached;
-          none-less = is.none-less;
+          none_less = is.none_less;
         }
 
 -- at the start all is left
 pub begun : (h b : ℕ) → Between h b 600 1000
 begun h b =
-    record { low = lit≤ tt; ordered = lit≤ tt; high = lit≤ tt; reached = λ l. absurd (none l); none-less = λ s l u. absurd (less s l u) }
+    record { low = lit≤ tt; ordered = lit≤ tt; high = lit≤ tt; reached = λ l. absurd (none l); none_less = λ s l u. absurd (less s l u) }
   where
     none : 1000 < 1000 → ⊥
     none l = omega arith

@@ -10,8 +10,8 @@ use Rattle.forecast_factor.specs.Factor.{enough}
 use Rattle.forecast_factor.specs.Theorems.{ByRoots}
 
 -- of two numbers, the one with the greater square is not less
-root-le : (x y : ℕ) → x * x ≤ y * y → x ≤ y
-root-le x y l = omega (arith, clash)
+root_le : (x y : ℕ) → x * x ≤ y * y → x ≤ y
+root_le x y l = omega (arith, clash)
   where
     clash : y + 1 ≤ x → ⊥
     clash m = omega (arith, mul-le-mul m m)
@@ -23,8 +23,8 @@ four x d = omega arith
 -- a = 50 × H, u = t − 400
 module _ (a u b : ℕ) where
   -- a at most u times the root: with p / q not below the root, the squares of a q and of u p show it
-  to-root : a * a ≤ u * u * b → (p q : ℕ) → b * (q * q) ≤ p * p → a * q ≤ u * p
-  to-root e p q l = root-le (a * q) (u * p) squares
+  to_root : a * a ≤ u * u * b → (p q : ℕ) → b * (q * q) ≤ p * p → a * q ≤ u * p
+  to_root e p q l = root_le (a * q) (u * p) squares
     where
       first : a * a * (q * q) ≤ u * u * b * (q * q)
       first = mul-le-mul_right (q * q) e
@@ -52,16 +52,16 @@ module _ (a u b : ℕ) where
       over d f = omega (arith, le_of_mul-le-mul_left {k = u} product positive)
         where
           -- (2 a u)² b = 4 × a² × u² b
-          not-below : b * (2 * (a * u) * (2 * (a * u))) ≤ (u * u * b + a * a) * (u * u * b + a * a)
-          not-below =
+          not_below_lem : b * (2 * (a * u) * (2 * (a * u))) ≤ (u * u * b + a * a) * (u * u * b + a * a)
+          not_below_lem =
               let product : b * (2 * (a * u) * (2 * (a * u))) ≡ 4 * (u * u * b * (a * a)) = omega arith in
               rw (product, f) (four (u * u * b) d)
 
           product : u * (2 * (a * a)) ≤ u * (u * u * b + a * a)
-          product = omega (arith, holds (u * u * b + a * a) (2 * (a * u)) (omega (arith, some)) not-below)
+          product = omega (arith, holds (u * u * b + a * a) (2 * (a * u)) (omega (arith, some)) not_below_lem)
 
-  from-root : ((p q : ℕ) → 0 < q → b * (q * q) ≤ p * p → a * q ≤ u * p) → a * a ≤ u * u * b
-  from-root holds = omega (arith, go (dec_lt 0 u))
+  from_root : ((p q : ℕ) → 0 < q → b * (q * q) ≤ p * p → a * q ≤ u * p) → a * a ≤ u * u * b
+  from_root holds = omega (arith, go (dec_lt 0 u))
     where
       go : Dec (0 < u) → u * u * b < a * a → ⊥
       go (yes l) e = mean e l holds
@@ -72,16 +72,16 @@ module _ (a u b : ℕ) where
           omega (arith, subst (λ (x : ℕ). u * u * b < x * x) zero e)
 
 module _ (h b t : ℕ) where
-  pub by-roots : enough h b t ≡ true → ByRoots h b t
+  pub by_roots : enough h b t ≡ true → ByRoots h b t
   unfolding enough
-  by-roots e =
+  by_roots e =
       let squares : 50 * h * (50 * h) ≤ (t - 400) * (t - 400) * b = omega (arith, leb-true (2500 * (h * h)) _ e) in
-      record { at_least = λ p q positive l. omega (arith, to-root (50 * h) (t - 400) b squares p q l) }
+      record { at_least = λ p q positive l. omega (arith, to_root (50 * h) (t - 400) b squares p q l) }
 
-  pub from-roots : ByRoots h b t → enough h b t ≡ true
+  pub from_roots : ByRoots h b t → enough h b t ≡ true
   unfolding enough
-  from-roots r =
-      let squares = from-root (50 * h) (t - 400) b (λ p q positive l. twentieth p q (r.at_least p q positive l)) in
+  from_roots r =
+      let squares = from_root (50 * h) (t - 400) b (λ p q positive l. twentieth p q (r.at_least p q positive l)) in
       let waves : 2500 * (h * h) ≤ (t - 400) * (t - 400) * b = omega (arith, squares) in
       le-leb _ _ waves
     where

@@ -7,14 +7,14 @@ unfoldable pub enough : ℕ → ℕ → ℕ → Bool
 enough h b t = leb (2500 * (h * h)) ((t - 400) * (t - 400) * b)
 
 -- the first that is enough of `more` numbers from t on, else the number behind them
-unfoldable pub firstEnough : ℕ → ℕ → ℕ → ℕ → ℕ
-firstEnough h b t zero = t
-firstEnough h b t (suc more) = cond (enough h b t) t (firstEnough h b (suc t) more)
+unfoldable pub first_enough : ℕ → ℕ → ℕ → ℕ → ℕ
+first_enough h b t zero = t
+first_enough h b t (suc more) = cond (enough h b t) t (first_enough h b (suc t) more)
 
 -- the least whole t that is enough: by the inequality none below 400 is, and 400 + 50 × H is for every B but zero
-abbrev pub leastEnough : ℕ → ℕ → ℕ
-leastEnough h b = firstEnough h b 400 (50 * h)
+abbrev pub least_enough : ℕ → ℕ → ℕ
+least_enough h b = first_enough h b 400 (50 * h)
 
 -- kept within 600 and 1,000
 unfoldable pub factor : ℕ → ℕ → ℕ
-factor h b = max 600 (min 1000 (leastEnough h b))
+factor h b = max 600 (min 1000 (least_enough h b))

@@ -2,7 +2,7 @@
 
 ghost use Rattle.std.specs.Prelude.{◌≡◌, ◌+◌, ◌≤◌, ◌<◌};
 ghost use Rattle.forecast_factor.specs.Factor.{factor};
-ghost use Rattle.forecast_factor.specs.inner.Search.{Between, Halved};
+ghost use Rattle.forecast_factor.specs.Inner.Search.{Between, Halved};
 
 // The search as far as it has come: the factor is one of `least` to `most`, and so many comparisons were made.
 #[derive(Drop)]

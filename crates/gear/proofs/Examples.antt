@@ -5,15 +5,15 @@ use mathlib.Core.Path.{◌≡◌, refl}
 use Rattle.arith.specs.Lists.{from}
 use Rattle.sheet.specs.declared.Reading.{Reading}
 use Rattle.sheet.specs.declared.Reading.TheVariants.{Taken, Refused}
-use Rattle.sheet.specs.Layout.{lashOf, breakingFits, lashFits}
-use Rattle.sheet.specs.Refusals.{offTiers, later, notLater, first}
-use Rattle.sheet.specs.Written.{lashBytes}
-use Rattle.gear.specs.Gear.{gearRows}
+use Rattle.sheet.specs.Layout.{lash_of, breaking_fits, lash_fits}
+use Rattle.sheet.specs.Refusals.{off_tiers, later, not_later, first}
+use Rattle.sheet.specs.Written.{lash_bytes}
+use Rattle.gear.specs.Gear.{gear_rows}
 
 -- a rod on a tier, hook and kind, of an area
 abbrev rod : ℕ → ℕ → ℕ → ℕ → List ℕ
 rod tier hook kind area =
-    lashBytes
+    lash_bytes
     (record {
       tier = tier;
       hook = hook;
@@ -63,6 +63,6 @@ cases =
     ∷ (1 ∷ S 4 0 0 ++ (7 ∷ []) gives Refused 11 1)
     ∷ []
 
-pub answered : map (λ c. first (gearRows 3 c.section)) cases ≡ map (λ c. c.answer) cases
-unfolding first lashOf breakingFits lashFits offTiers later notLater flat_map from
+pub answered : map (λ c. first (gear_rows 3 c.section)) cases ≡ map (λ c. c.answer) cases
+unfolding first lash_of breaking_fits lash_fits off_tiers later not_later flat_map from
 answered = refl

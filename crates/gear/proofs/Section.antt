@@ -5,71 +5,71 @@ use mathlib.Core.Path.{◌≡◌, refl, sym, subst, ◌∙◌}
 use borrow.Author.Tests.{lt-ltb, le-ltb}
 use lib.ListN.{length}
 use Rattle.arith.specs.Lists.{padded}
-use Rattle.arith.proofs.Arrays.{length-entries}
+use Rattle.arith.proofs.Arrays.{length_entries}
 use Rattle.sheet.specs.declared.Lash.{Lash}
 use Rattle.sheet.specs.declared.Reading.{Reading}
 use Rattle.sheet.specs.declared.Reading.TheVariants.{Taken, Refused}
-use Rattle.sheet.specs.Layout.{lashPlace, lashIn, blankLash}
+use Rattle.sheet.specs.Layout.{lash_place, lash_in, blank_lash}
 use Rattle.sheet.specs.Fits.{EndFits}
-use Rattle.sheet.specs.Refusals.{row2, first, endRows}
-use Rattle.sheet.proofs.Clear.{Clear, clear, clear-append, few-lashes, lashes-there}
-use Rattle.sheet.proofs.Rows.{no_rows, row-holds, row-passed, behind-taken}
+use Rattle.sheet.specs.Refusals.{row2, first, end_rows}
+use Rattle.sheet.proofs.Clear.{Clear, clear, clear_append, few_lashes, lashes_there}
+use Rattle.sheet.proofs.Rows.{no_rows, row_holds, row_passed, behind_taken}
 use Rattle.sheet.proofs.TakenSheets.{end_fits}
-use Rattle.gear.specs.Gear.{gearCount, gearLashes, gearRows, gearUnlessRefused, gearDecoded}
+use Rattle.gear.specs.Gear.{gear_count, gear_lashes, gear_rows, gear_unless_refused, gear_decoded}
 
-pub as-counted : (g : List ℕ) → length (gearLashes g) ≡ gearCount g
-as-counted g = length-entries (lashIn g 0) blankLash (gearCount g)
+pub as_counted : (g : List ℕ) → length (gear_lashes g) ≡ gear_count g
+as_counted g = length_entries (lash_in g 0) blank_lash (gear_count g)
 
-module _ (n : ℕ) (g : List ℕ) (e : first (gearRows n g) ≡ Taken) where
-  as-an-end : Clear (endRows n g 0)
-  as-an-end = (clear-append (endRows n g 0) (row2 g (lashPlace 0 (gearCount g)) ∷ []) (clear (gearRows n g) e)).0
+module _ (n : ℕ) (g : List ℕ) (e : first (gear_rows n g) ≡ Taken) where
+  as_an_end : Clear (end_rows n g 0)
+  as_an_end = (clear_append (end_rows n g 0) (row2 g (lash_place 0 (gear_count g)) ∷ []) (clear (gear_rows n g) e)).0
 
-  pub few : gearCount g ≤ 8
-  few = few-lashes n g 0 as-an-end
+  pub few : gear_count g ≤ 8
+  few = few_lashes n g 0 as_an_end
 
-  pub there : lashPlace 0 (gearCount g) ≤ length g
-  there = lashes-there n g 0 as-an-end
+  pub there : lash_place 0 (gear_count g) ≤ length g
+  there = lashes_there n g 0 as_an_end
 
   -- what a sheet asks of an end
-  pub section-fits : EndFits n (padded 8 blankLash (gearLashes g)) (length (gearLashes g))
-  section-fits = subst (EndFits n (padded 8 blankLash (gearLashes g))) (sym (as-counted g)) (end_fits n g 0 as-an-end)
+  pub section_fits : EndFits n (padded 8 blank_lash (gear_lashes g)) (length (gear_lashes g))
+  section_fits = subst (EndFits n (padded 8 blank_lash (gear_lashes g))) (sym (as_counted g)) (end_fits n g 0 as_an_end)
 
 -- behind the lashes: 2, or nothing
-module _ (n : ℕ) (g : List ℕ) (e : first (endRows n g 0) ≡ Taken) where
+module _ (n : ℕ) (g : List ℕ) (e : first (end_rows n g 0) ≡ Taken) where
   abbrev spare : ℕ
-  spare = lashPlace 0 (gearCount g)
+  spare = lash_place 0 (gear_count g)
 
-  at-spare : first (gearRows n g) ≡ first (row2 g spare ∷ [])
-  at-spare = behind-taken (endRows n g 0) (row2 g spare ∷ []) e
+  at_spare : first (gear_rows n g) ≡ first (row2 g spare ∷ [])
+  at_spare = behind_taken (end_rows n g 0) (row2 g spare ∷ []) e
 
-  pub spare-refused : spare < length g → first (gearRows n g) ≡ Refused 2 spare
-  spare-refused h = at-spare ∙ row-holds (row2 g spare) [] (lt-ltb spare (length g) h)
+  pub spare_refused : spare < length g → first (gear_rows n g) ≡ Refused 2 spare
+  spare_refused h = at_spare ∙ row_holds (row2 g spare) [] (lt-ltb spare (length g) h)
 
-  pub section-taken : length g ≤ spare → first (gearRows n g) ≡ Taken
-  section-taken h = at-spare ∙ row-passed (row2 g spare) [] (le-ltb spare (length g) h) ∙ no_rows
+  pub section_taken : length g ≤ spare → first (gear_rows n g) ≡ Taken
+  section_taken h = at_spare ∙ row_passed (row2 g spare) [] (le-ltb spare (length g) h) ∙ no_rows
 
 -- decoding it
-reading-of : (r : Reading) (ls : List Lash) → (gearUnlessRefused r ls).reading ≡ r
-reading-of Taken ls = refl
-reading-of (Refused number second) ls = refl
+reading_of : (r : Reading) (ls : List Lash) → (gear_unless_refused r ls).reading ≡ r
+reading_of Taken ls = refl
+reading_of (Refused number second) ls = refl
 
 module _ (n : ℕ) (g : List ℕ) where
-  pub decoded-refused :
+  pub decoded_refused :
       {number second : ℕ} →
-      first (gearRows n g) ≡ Refused number second →
-      gearDecoded n g ≡ gearUnlessRefused (Refused number second) []
-  unfolding gearDecoded
-  decoded-refused e = rw e
+      first (gear_rows n g) ≡ Refused number second →
+      gear_decoded n g ≡ gear_unless_refused (Refused number second) []
+  unfolding gear_decoded
+  decoded_refused e = rw e
 
-  pub decoded-reading : (gearDecoded n g).reading ≡ first (gearRows n g)
-  unfolding gearDecoded
-  decoded-reading = reading-of (first (gearRows n g)) (gearLashes g)
+  pub decoded_reading : (gear_decoded n g).reading ≡ first (gear_rows n g)
+  unfolding gear_decoded
+  decoded_reading = reading_of (first (gear_rows n g)) (gear_lashes g)
 
-  module _ (e : first (gearRows n g) ≡ Taken) where
-    pub decoded-lashes : (gearDecoded n g).lashes ≡ padded 8 blankLash (gearLashes g)
-    unfolding gearDecoded
-    decoded-lashes = rw e
+  module _ (e : first (gear_rows n g) ≡ Taken) where
+    pub decoded_lashes : (gear_decoded n g).lashes ≡ padded 8 blank_lash (gear_lashes g)
+    unfolding gear_decoded
+    decoded_lashes = rw e
 
-    pub decoded-count : (gearDecoded n g).count ≡ length (gearLashes g)
-    unfolding gearDecoded
-    decoded-count = rw e
+    pub decoded_count : (gear_decoded n g).count ≡ length (gear_lashes g)
+    unfolding gear_decoded
+    decoded_count = rw e

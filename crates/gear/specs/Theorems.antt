@@ -4,17 +4,17 @@ use Rattle.choices.specs.Choices.{chosen}
 use Rattle.sheet.specs.declared.Lash.{Lash}
 use Rattle.sheet.specs.declared.Sheet.{Sheet}
 use Rattle.sheet.specs.declared.Reading.TheVariants.{Taken}
-use Rattle.sheet.specs.Ends.{End, lashesOf}
+use Rattle.sheet.specs.Ends.{End, lashes_of}
 use Rattle.sheet.specs.Fits.{Fits, Padded}
-use Rattle.sheet.specs.Layout.{tierCount, sheetOf}
+use Rattle.sheet.specs.Layout.{tier_count, sheet_of}
 use Rattle.sheet.specs.Refusals.{first, decoded}
 use Rattle.sheet.specs.Written.{written}
-use Rattle.gear.specs.Gear.{gearLashes, gearRows, withLashes}
-use Rattle.gear.specs.Bytes.{InBytes, bytesWith}
+use Rattle.gear.specs.Gear.{gear_lashes, gear_rows, with_lashes}
+use Rattle.gear.specs.Bytes.{InBytes, bytes_with}
 
 -- the lashes of either end are those that are put there (proofs/Subsets)
 abbrev pub AlikeAtBothEnds : Type 0
-AlikeAtBothEnds = (t : Sheet) (ls : List Lash) (e : End) → lashesOf e (withLashes ls t) ≡ ls
+AlikeAtBothEnds = (t : Sheet) (ls : List Lash) (e : End) → lashes_of e (with_lashes ls t) ≡ ls
 
 -- no choice is refused: lashes chosen from a section in order are in order, so that a sheet within the limits stays so with them at both
 -- ends (proofs/Subsets)
@@ -22,8 +22,8 @@ abbrev pub NoChoiceRefused : Type 0
 NoChoiceRefused =
     (t : Sheet) (g : List ℕ) (c : ℕ) →
     Fits t →
-    first (gearRows t.ntiers g) ≡ Taken →
-    Fits (withLashes (chosen c (gearLashes g)) t)
+    first (gear_rows t.ntiers g) ≡ Taken →
+    Fits (with_lashes (chosen c (gear_lashes g)) t)
 
 -- and there is a sheet of bytes that holds it, which is taken (proofs/Subsets)
 abbrev pub EachChoiceWritten : Type 0
@@ -31,9 +31,9 @@ EachChoiceWritten =
     (t : Sheet) (g : List ℕ) (c : ℕ) →
     Fits t →
     Padded t →
-    first (gearRows t.ntiers g) ≡ Taken →
-    decoded (written (withLashes (chosen c (gearLashes g)) t))
-    ≡ record { reading = Taken; sheet = withLashes (chosen c (gearLashes g)) t }
+    first (gear_rows t.ntiers g) ≡ Taken →
+    decoded (written (with_lashes (chosen c (gear_lashes g)) t))
+    ≡ record { reading = Taken; sheet = with_lashes (chosen c (gear_lashes g)) t }
 
 -- so do the sheet's own bytes with those of the choice at both ends (proofs/ChoiceInBytes)
 abbrev pub ChoiceInBytes : Type 0
@@ -42,10 +42,10 @@ ChoiceInBytes =
     InBytes s →
     InBytes g →
     (decoded s).reading ≡ Taken →
-    first (gearRows (tierCount s) g) ≡ Taken →
-    decoded (bytesWith s g c) ≡ record { reading = Taken; sheet = withLashes (chosen c (gearLashes g)) (sheetOf s) }
+    first (gear_rows (tier_count s) g) ≡ Taken →
+    decoded (bytes_with s g c) ≡ record { reading = Taken; sheet = with_lashes (chosen c (gear_lashes g)) (sheet_of s) }
 
 -- which are bytes (proofs/ChoiceInBytes)
 abbrev pub WithInBytes : Type 0
 WithInBytes =
-    (s g : List ℕ) (c n : ℕ) → InBytes s → InBytes g → first (gearRows n g) ≡ Taken → InBytes (bytesWith s g c)
+    (s g : List ℕ) (c n : ℕ) → InBytes s → InBytes g → first (gear_rows n g) ≡ Taken → InBytes (bytes_with s g c)

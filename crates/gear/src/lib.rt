@@ -2,7 +2,7 @@
 
 ghost use Rattle.std.specs.Prelude.{◌≡◌, ◌<◌};
 ghost use Rattle.sheet.specs.Refusals.{first};
-ghost use Rattle.gear.specs.Gear.{gearRows, gearDecoded};
+ghost use Rattle.gear.specs.Gear.{gear_rows, gear_decoded};
 
 use sheet::{Lash, Reading};
 
@@ -16,7 +16,7 @@ pub struct Gear {
 
 // The count and its lashes, as an end of a stack of n tiers, then whether bytes follow them.
 fn test_gear(n: u64, gear: &[u8]) -> Reading
-    ensures { result ≡ first (gearRows n gear.now) }
+    ensures { result ≡ first (gear_rows n gear.now) }
 {
     if let Reading::Refused(number, second) = sheet_decode::refusals::test_end(n, gear, 0) {
         return Reading::Refused(number, second);
@@ -30,7 +30,7 @@ fn test_gear(n: u64, gear: &[u8]) -> Reading
 
 // The lashes of a section for a stack of n tiers, or none with the first fault.
 pub fn decode(gear: &[u8], n: usize) -> Gear
-    ensures { result ≡ gearDecoded n gear.now }
+    ensures { result ≡ gear_decoded n gear.now }
 {
     let reading = test_gear(n as u64, gear);
     match reading {

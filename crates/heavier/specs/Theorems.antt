@@ -4,17 +4,17 @@ use Rattle.arith.specs.Bytes.{le2}
 use Rattle.arith.specs.Fractions.{Frac}
 use Rattle.sheet.specs.declared.Reading.TheVariants.{Taken}
 use Rattle.sheet.specs.declared.Sheet.{Sheet}
-use Rattle.sheet.specs.Layout.{sheetOf}
+use Rattle.sheet.specs.Layout.{sheet_of}
 use Rattle.sheet.specs.Fits.{Fits}
 use Rattle.sheet.specs.Refusals.{refusal}
 use Rattle.sheet.specs.Ends.{End}
-use Rattle.statics.specs.Loads.{Rule, ruleOf}
+use Rattle.statics.specs.Loads.{Rule, rule_of}
 use Rattle.statics.specs.Ends.{EndSolved}
 use Rattle.statics.specs.Theorems.{Proper}
 use Rattle.answer.specs.declared.Outcome.{Outcome}
 use Rattle.answer.specs.Checked.{AnswerTo, Checked, kept}
-use Rattle.preview_moves.specs.Previews.{massPlace, withMass, moveRefusal, Previewed}
-use Rattle.forecast.specs.Forecasts.{forecastRule, forecastRefusal, Forecast}
+use Rattle.preview_moves.specs.Previews.{mass_place, with_mass, move_refusal, Previewed}
+use Rattle.forecast.specs.Forecasts.{forecast_rule, forecast_refusal, Forecast}
 use Rattle.heavier.specs.Heavier.{HeavierSheet, HeavierBytes, ExactNotLower, ReportedNotLower, NotLower}
 use Rattle.heavier.specs.NotIncluded.{NotIncluded}
 
@@ -40,9 +40,9 @@ ByRuleNumber =
     Fits u →
     HeavierSheet t u →
     (e : End) (Ds Es : List Frac) →
-    EndSolved (ruleOf t) e t Ds →
-    EndSolved (ruleOf u) e u Es →
-    ExactNotLower (ruleOf t) e t u Ds Es
+    EndSolved (rule_of t) e t Ds →
+    EndSolved (rule_of u) e u Es →
+    ExactNotLower (rule_of t) e t u Ds Es
 
 -- their answers, within any margin, whatever stands behind the bytes
 abbrev pub ReportedForces : Type 0
@@ -60,7 +60,7 @@ ReportedForces =
 
 -- heavier bytes hold a heavier sheet
 abbrev pub BytesHold : Type 0
-BytesHold = (s c : List ℕ) → HeavierBytes s c → HeavierSheet (sheetOf s) (sheetOf c)
+BytesHold = (s c : List ℕ) → HeavierBytes s c → HeavierSheet (sheet_of s) (sheet_of c)
 
 -- bytes to bytes: two runs of the check, each with a buffer of its own
 abbrev pub OfChecks : Type 0
@@ -72,7 +72,7 @@ OfChecks =
     refusal c (length before₂) ≡ Taken →
     Checked kept s before₁ after₁ r₁ →
     Checked kept c before₂ after₂ r₂ →
-    NotLower ruleOf (sheetOf s) (sheetOf c) after₁ after₂
+    NotLower rule_of (sheet_of s) (sheet_of c) after₁ after₂
 
 -- two runs by the same forecast, of voyages of any hours that are taken
 abbrev pub OfForecasts : Type 0
@@ -80,33 +80,33 @@ OfForecasts =
     (s c : List ℕ) →
     HeavierBytes s c →
     (h b hours₁ hours₂ : ℕ) (before₁ after₁ before₂ after₂ : List ℕ) (r₁ r₂ : Outcome) →
-    forecastRefusal s b hours₁ (length before₁) ≡ Taken →
-    forecastRefusal c b hours₂ (length before₂) ≡ Taken →
+    forecast_refusal s b hours₁ (length before₁) ≡ Taken →
+    forecast_refusal c b hours₂ (length before₂) ≡ Taken →
     Forecast kept s h b hours₁ before₁ after₁ r₁ →
     Forecast kept c h b hours₂ before₂ after₂ r₂ →
-    NotLower (forecastRule h b) (sheetOf s) (sheetOf c) after₁ after₂
+    NotLower (forecast_rule h b) (sheet_of s) (sheet_of c) after₁ after₂
 
 -- the check of a sheet, and the preview of a mass that is no lower
 abbrev pub OfPreview : Type 0
 OfPreview =
     (s : List ℕ) (tier mass : ℕ) →
     mass < 65536 →
-    le2 s (massPlace tier) ≤ mass →
+    le2 s (mass_place tier) ≤ mass →
     (before₁ after₁ before₂ after₂ : List ℕ) (r₁ r₂ : Outcome) →
     refusal s (length before₁) ≡ Taken →
-    moveRefusal s tier ≡ Taken →
-    refusal (withMass tier mass s) (length before₂) ≡ Taken →
+    move_refusal s tier ≡ Taken →
+    refusal (with_mass tier mass s) (length before₂) ≡ Taken →
     Checked kept s before₁ after₁ r₁ →
     Previewed kept s tier mass before₂ after₂ r₂ →
-    NotLower ruleOf (sheetOf s) (sheetOf (withMass tier mass s)) after₁ after₂
+    NotLower rule_of (sheet_of s) (sheet_of (with_mass tier mass s)) after₁ after₂
 
 pub record Theorems : Type 0 where
   pub exact : ExactForces
-  pub by-rule-number : ByRuleNumber
+  pub by_rule_number : ByRuleNumber
   pub reported : ReportedForces
-  pub bytes-hold : BytesHold
-  pub of-checks : OfChecks
-  pub of-forecasts : OfForecasts
-  pub of-preview : OfPreview
+  pub bytes_hold : BytesHold
+  pub of_checks : OfChecks
+  pub of_forecasts : OfForecasts
+  pub of_preview : OfPreview
   -- racking and corner tension
-  pub not-included : NotIncluded
+  pub not_included : NotIncluded

@@ -13,19 +13,19 @@ abbrev pub Packed : ℕ → BayOutcome → Type 0
 Packed r o = r ≡ number o + 256 * second o + 4294967296 * row o
 
 -- q is the case that the outcome o is
-pub bay-case-small : {o q : BayOutcome} → o ≡ q → Small o → Small q
-bay-case-small is f = subst Small is f
+pub bay_case_small : {o q : BayOutcome} → o ≡ q → Small o → Small q
+bay_case_small is f = subst Small is f
 
-pub bay-case-packed : {o q : BayOutcome} → o ≡ q → (r : ℕ) → Packed r q → Packed r o
-bay-case-packed is r e = subst (Packed r) (sym is) e
+pub bay_case_packed : {o q : BayOutcome} → o ≡ q → (r : ℕ) → Packed r q → Packed r o
+bay_case_packed is r e = subst (Packed r) (sym is) e
 
 middle_of : (n s k r : ℕ) → n ≤ 16 → s ≤ 20073 → r ≡ n + 256 * s + 4294967296 * k → s ≡ r / 256 % 16777216
 middle_of n s k r h l e =
     let q : r / 256 ≡ s + 16777216 * k = omega arith in
     rw q (omega arith)
 
-bay-called : {Said : BayOutcome → Type 0} (o : BayOutcome) → Said o → Small o → (r : ℕ) → Packed r o → BayCalled Said r
-bay-called o said (n, s, k) r e =
+bay_called : {Said : BayOutcome → Type 0} (o : BayOutcome) → Said o → Small o → (r : ℕ) → Packed r o → BayCalled Said r
+bay_called o said (n, s, k) r e =
     record {
       outcome = o;
       low = omega arith;
@@ -36,6 +36,6 @@ bay-called o said (n, s, k) r e =
     }
 
 -- two things said of one outcome
-pub bay-called-both :
+pub bay_called_both :
     {A B : BayOutcome → Type 0} (o : BayOutcome) → A o × B o → Small o → (r : ℕ) → Packed r o → BayCalled A r × BayCalled B r
-bay-called-both o (a, b) small r e = (bay-called o a small r e, bay-called o b small r e)
+bay_called_both o (a, b) small r e = (bay_called o a small r e, bay_called o b small r e)

@@ -6,24 +6,24 @@ use Rattle.answer.specs.declared.Outcome.{Outcome}
 use Rattle.answer.specs.Checked.{Checked}
 use Rattle.answer.proofs.Numbers.{numbers}
 use Rattle.forecast.specs.Forecasts.{Forecast}
-use Rattle.forecast.proofs.Numbers.{forecast-numbers}
+use Rattle.forecast.proofs.Numbers.{forecast_numbers}
 use Rattle.side.specs.Sides.{Sided}
-use Rattle.side.proofs.Numbers.{side-numbers}
+use Rattle.side.proofs.Numbers.{side_numbers}
 use Rattle.arrangements.specs.Arrangements.{Listed}
-use Rattle.arrangements.proofs.Numbers.{list-numbers}
+use Rattle.arrangements.proofs.Numbers.{list_numbers}
 use Rattle.packing.proofs.OneNumber.{Fitting}
 
-pub checked-fits : {margin : ℕ} {s before after : List ℕ} {o : Outcome} → Checked margin s before after o → Fitting o
-checked-fits c = (omega (arith, (numbers c).first), omega (arith, (numbers c).next))
+pub checked_fits : {margin : ℕ} {s before after : List ℕ} {o : Outcome} → Checked margin s before after o → Fitting o
+checked_fits c = (omega (arith, (numbers c).first), omega (arith, (numbers c).next))
 
-pub forecast-fits :
+pub forecast_fits :
     {margin : ℕ} {s : List ℕ} {h b hours : ℕ} {before after : List ℕ} {o : Outcome} →
     Forecast margin s h b hours before after o →
     Fitting o
-forecast-fits f = (omega (arith, (forecast-numbers f).first), omega (arith, (forecast-numbers f).next))
+forecast_fits f = (omega (arith, (forecast_numbers f).first), omega (arith, (forecast_numbers f).next))
 
-pub side-fits : {s p before after : List ℕ} {o : Outcome} → Sided s p before after o → Fitting o
-side-fits h = (omega (arith, (side-numbers h).first), omega (arith, (side-numbers h).next))
+pub side_fits : {s p before after : List ℕ} {o : Outcome} → Sided s p before after o → Fitting o
+side_fits h = (omega (arith, (side_numbers h).first), omega (arith, (side_numbers h).next))
 
-pub list-fits : {margin : ℕ} {s g before after : List ℕ} {o : Outcome} → Listed margin s g before after o → Fitting o
-list-fits h = (omega (arith, (list-numbers h).first), omega (arith, (list-numbers h).next))
+pub list_fits : {margin : ℕ} {s g before after : List ℕ} {o : Outcome} → Listed margin s g before after o → Fitting o
+list_fits h = (omega (arith, (list_numbers h).first), omega (arith, (list_numbers h).next))

@@ -1,18 +1,18 @@
 // The calls for programs in C: what each returns, in one number.
 ghost use Rattle.std.specs.Prelude.{◌≡◌, ◌+◌, ◌*◌, ◌≤◌, length};
 ghost use Rattle.answer.specs.Checked.{Checked, kept};
-ghost use Rattle.answer.specs.inner.Named.{returned, written};
+ghost use Rattle.answer.specs.Inner.Named.{returned, written};
 ghost use Rattle.preview_moves.specs.Previews.{Previewed};
-ghost use Rattle.preview_moves.specs.inner.Moved.{AsChecked};
+ghost use Rattle.preview_moves.specs.Inner.Moved.{AsChecked};
 ghost use Rattle.forecast.specs.Forecasts.{Forecast};
-ghost use Rattle.forecast.specs.inner.Named.{forecastReturned, forecastWritten};
+ghost use Rattle.forecast.specs.Inner.Named.{forecast_returned, forecast_written};
 ghost use Rattle.bay.specs.Reports as B;
 ghost use Rattle.bay.specs.Reports.{BayReported};
-ghost use Rattle.bay.specs.inner.Named.{bayReturned, bayWritten};
+ghost use Rattle.bay.specs.Inner.Named.{bay_returned, bay_written};
 ghost use Rattle.side.specs.Sides.{Sided};
 ghost use Rattle.arrangements.specs.Arrangements.{Listed};
-ghost use Rattle.arrangements.specs.inner.Named.{listReturned, listWritten};
-ghost use Rattle.roll.specs.Rounded.{conditionA};
+ghost use Rattle.arrangements.specs.Inner.Named.{list_returned, list_written};
+ghost use Rattle.roll.specs.Rounded.{condition_a};
 ghost use Rattle.packing.specs.Called.{Called};
 ghost use Rattle.lash.specs.BayCalled.{BayCalled};
 ghost use Rattle.lash.specs.RolledIn.{RolledIn};
@@ -56,8 +56,8 @@ pub extern "C" fn lash_forecast(
 ) -> u64
     ensures answered { Called (Forecast kept sheet.now wave breadth hours answer.old
         answer.new) result }
-    ensures named { Called (λ o. (o ≡ forecastReturned sheet.now wave breadth hours (length answer.old))
-        × (answer.new ≡ forecastWritten sheet.now wave breadth hours answer.old)) result }
+    ensures named { Called (λ o. (o ≡ forecast_returned sheet.now wave breadth hours (length answer.old))
+        × (answer.new ≡ forecast_written sheet.now wave breadth hours answer.old)) result }
 {
     let outcome = forecast::forecast(sheet, wave, breadth, hours, answer);
     packed_outcome(outcome)
@@ -68,8 +68,8 @@ pub extern "C" fn lash_forecast(
 #[unsafe(no_mangle)]
 pub extern "C" fn lash_bay(bay: &[u8], report: &mut [u8]) -> u64
     ensures reported { BayCalled (BayReported kept bay.now report.old report.new) result }
-    ensures named { BayCalled (λ o. (o ≡ bayReturned bay.now (length report.old))
-        × (report.new ≡ bayWritten bay.now report.old)) result }
+    ensures named { BayCalled (λ o. (o ≡ bay_returned bay.now (length report.old))
+        × (report.new ≡ bay_written bay.now report.old)) result }
 {
     let outcome = bay::report(bay, report);
     packed_bay(outcome)
@@ -102,8 +102,8 @@ pub extern "C" fn lash_side(sheet: &[u8], pitch: &[u8], answer: &mut [u8]) -> u6
 #[unsafe(no_mangle)]
 pub extern "C" fn lash_arrangements(sheet: &[u8], gear: &[u8], list: &mut [u8]) -> u64
     ensures listed { Called (Listed kept sheet.now gear.now list.old list.new) result }
-    ensures named { Called (λ o. (o ≡ listReturned sheet.now gear.now (length list.old))
-        × (list.new ≡ listWritten sheet.now gear.now list.old)) result }
+    ensures named { Called (λ o. (o ≡ list_returned sheet.now gear.now (length list.old))
+        × (list.new ≡ list_written sheet.now gear.now list.old)) result }
 {
     let outcome = arrangements::list(sheet, gear, list);
     packed_outcome(outcome)
@@ -137,7 +137,7 @@ pub extern "C" fn lash_roll(
     y: i32,
     z: i32,
 ) -> u64
-    ensures { RolledIn (conditionA (record {
+    ensures { RolledIn (condition_a (record {
       sine = sine;
       cosine = cosine;
       heave = heave;

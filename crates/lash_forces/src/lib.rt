@@ -1,12 +1,12 @@
 // One lash: its hook, its stiffness, and its forces at a shift of its hook. Scales: see statics/specs/inner/WholeNumbers.
 
 ghost use Rattle.std.specs.Prelude.{◌≡◌, ◌+◌, ◌*◌, ◌/◌, ◌<◌, ◌≤◌, ◌^◌};
-ghost use Rattle.arith.specs.inner.Rounding.{roundedUp};
-ghost use Rattle.sheet.specs.Lashings.{levelOf};
-ghost use Rattle.sheet.specs.inner.Limits.{LashLimits};
-ghost use Rattle.statics.specs.Lashes.{lashLength};
-ghost use Rattle.statics.specs.inner.WholeNumbers.{inverse, along, alongPad, figureAlong, lashPad, stiffnessOf, leePart, windwardPart};
-ghost use Rattle.lash_forces.specs.inner.OneLash.{carriedLash, verticalFrom, cornerOf};
+ghost use Rattle.arith.specs.Inner.Rounding.{rounded_up};
+ghost use Rattle.sheet.specs.Lashings.{level_of};
+ghost use Rattle.sheet.specs.Inner.Limits.{LashLimits};
+ghost use Rattle.statics.specs.Lashes.{lash_length};
+ghost use Rattle.statics.specs.Inner.WholeNumbers.{inverse, along, along_pad, figure_along, lash_pad, stiffness_of, lee_part, windward_part};
+ghost use Rattle.lash_forces.specs.Inner.OneLash.{carried_lash, vertical_from, corner_of};
 
 use arith::rounding::{ceil_div, split_product};
 use lash_stiffness::stiffness;
@@ -24,7 +24,7 @@ const ALONG_MIDDLE: u64 = 10588;
 // The level that a lash is hooked at.
 pub fn hook_level(l: Lash) -> usize
     requires { LashLimits 10 l }
-    ensures { (result ≡ levelOf l) × (1 ≤ result) × (result ≤ 10) }
+    ensures { (result ≡ level_of l) × (1 ≤ result) × (result ≤ 10) }
 {
     (l.tier - l.hook) as usize
 }
@@ -32,15 +32,15 @@ pub fn hook_level(l: Lash) -> usize
 // The corner that a lash is hooked to, counted from the deck up: 2 i - 1 is the bottom corner of tier i, 2 i its top corner.
 pub fn hook_corner(l: Lash) -> usize
     requires { LashLimits 10 l }
-    ensures { (result ≡ cornerOf l) × (result ≤ 20) }
+    ensures { (result ≡ corner_of l) × (result ≤ 20) }
 {
     (2 * l.tier - l.hook) as usize
 }
 
 // The athwart stiffness of a lash of this length.
 pub fn stiffness_of(l: Lash, long: u64) -> u64
-    requires { LashLimits 10 l × (long ≡ lashLength l) }
-    ensures { result ≡ stiffnessOf l }
+    requires { LashLimits 10 l × (long ≡ lash_length l) }
+    ensures { result ≡ stiffness_of l }
 {
     let ly = l.ly as u64;
     stiffness((l.modulus as u64) * (l.area as u64), ly * ly, long)
@@ -74,7 +74,7 @@ fn along_side(x: u64, side: u64, inv: u64) -> u64
 // A padded athwart part × a side / LY, in N upwards.
 fn figure_along(padded: u64, side: u64, inv: u64) -> u32
     requires { (side ≤ 22913) × (inv ≤ 140737488356) }
-    ensures { result ≡ roundedUp (along padded side inv + alongPad) (2 ^ 18) }
+    ensures { result ≡ rounded_up (along padded side inv + along_pad) (2 ^ 18) }
 {
     ceil_div(along_side(padded, side, inv) + ALONG_PAD, NEWTON) as u32
 }
@@ -89,10 +89,10 @@ pub struct LashForces {
 
 // The figures of a lash of this length, from its athwart part.
 pub fn forces_of(l: Lash, long: u64, part: u64) -> LashForces
-    requires { LashLimits 10 l × (long ≡ lashLength l) × (part ≤ 2 ^ 48) }
-    ensures tension_value { result.tension ≡ figureAlong (part + lashPad) (lashLength l) l.ly }
-    ensures athwart_value { result.athwart ≡ roundedUp (part + lashPad) (2 ^ 18) }
-    ensures vertical_value { result.vertical ≡ figureAlong (part + lashPad) l.lz l.ly }
+    requires { LashLimits 10 l × (long ≡ lash_length l) × (part ≤ 2 ^ 48) }
+    ensures tension_value { result.tension ≡ figure_along (part + lash_pad) (lash_length l) l.ly }
+    ensures athwart_value { result.athwart ≡ rounded_up (part + lash_pad) (2 ^ 18) }
+    ensures vertical_value { result.vertical ≡ figure_along (part + lash_pad) l.lz l.ly }
 {
     let inv = inverse_of(l.ly as u64);
     let padded = part + LASH_PAD;
@@ -107,16 +107,16 @@ pub fn forces_of(l: Lash, long: u64, part: u64) -> LashForces
 // The vertical part of a lash, from its athwart part. Its 2^46 / LY is that of forces_of, which the compiler sees.
 pub fn vertical_part(l: Lash, part: u64) -> u64
     requires { LashLimits 10 l }
-    ensures { (result ≡ verticalFrom part l) × (result ≤ 2 ^ 54) }
+    ensures { (result ≡ vertical_from part l) × (result ≤ 2 ^ 54) }
 {
     along_side(part, l.lz as u64, inverse_of(l.ly as u64)) + ALONG_MIDDLE
 }
 
 // The vertical part of a lash on its post: of a cross lash on the lee post, of a side lash on the windward post.
 pub fn on_posts(g: Lashing, part: u64) -> PostParts
-    requires { LashLimits 10 (carriedLash g) }
-    ensures lee_value { result.lee ≡ leePart g (verticalFrom part (carriedLash g)) }
-    ensures windward_value { result.windward ≡ windwardPart g (verticalFrom part (carriedLash g)) }
+    requires { LashLimits 10 (carried_lash g) }
+    ensures lee_value { result.lee ≡ lee_part g (vertical_from part (carried_lash g)) }
+    ensures windward_value { result.windward ≡ windward_part g (vertical_from part (carried_lash g)) }
 {
     match g {
         Lashing::Cross(l) => PostParts {

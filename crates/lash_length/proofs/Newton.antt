@@ -5,26 +5,26 @@ use mathlib.Core.Path.{◌≡◌, subst}
 use native.Mathlib.Nat.{mul-le-mul, mul-le-mul_left, le_of_mul-le-mul_left, lt-div-mul-add, div-mul-le_self}
 use native.Mathlib.Decide.{dec_le}
 use native.Mathlib.Omega.{arith}
-use Rattle.arith.specs.inner.Roots.{Least}
+use Rattle.arith.specs.Inner.Roots.{Least}
 use Rattle.lash_length.specs.Trials.{nearer}
 
 -- four times a product is at most the square of the sum
-four-from : (a d : ℕ) → 4 * (a * (a + d)) ≤ (a + (a + d)) * (a + (a + d))
-four-from a d = omega arith
+four_from : (a d : ℕ) → 4 * (a * (a + d)) ≤ (a + (a + d)) * (a + (a + d))
+four_from a d = omega arith
 
-four-le : (a b : ℕ) → a ≤ b → 4 * (a * b) ≤ (a + b) * (a + b)
-four-le a b l =
+four_le : (a b : ℕ) → a ≤ b → 4 * (a * b) ≤ (a + b) * (a + b)
+four_le a b l =
     let e : a + (b - a) ≡ b = omega arith in
-    subst (λ (z : ℕ). 4 * (a * z) ≤ (a + z) * (a + z)) e (four-from a (b - a))
+    subst (λ (z : ℕ). 4 * (a * z) ≤ (a + z) * (a + z)) e (four_from a (b - a))
 
 pub four : (a b : ℕ) → Dec (a ≤ b) → 4 * (a * b) ≤ (a + b) * (a + b)
-four a b (yes l) = four-le a b l
-four a b (no l) = omega (arith, four-le b a (omega arith))
+four a b (yes l) = four_le a b l
+four a b (no l) = omega (arith, four_le b a (omega arith))
 
 -- a step from any x: with q the quotient, the next number is more than half of x + q, and s is less than x (q + 1)
 module _ (s x : ℕ) (positive : 0 < x) where
-  pub step-enough : s ≤ nearer s x * nearer s x
-  step-enough = go (s / x) (nearer s x) (omega arith) (lt-div-mul-add positive)
+  pub step_enough : s ≤ nearer s x * nearer s x
+  step_enough = go (s / x) (nearer s x) (omega arith) (lt-div-mul-add positive)
     where
       go : (q y : ℕ) → x + (q + 1) ≤ 2 * y → s < q * x + x → s ≤ y * y
       go q y h l = omega (arith, four x (q + 1) (dec_le x (q + 1)), mul-le-mul h h)
@@ -37,15 +37,15 @@ module _ (s x : ℕ) (positive : 0 < x) where
       go q z h l = omega (arith, mul-le-mul_left x h)
 
 -- the product of two differences is not below zero
-cross-from : (a e c f : ℕ) → a * (c + f) + (a + e) * c ≤ a * c + (a + e) * (c + f)
-cross-from a e c f = omega arith
+cross_from : (a e c f : ℕ) → a * (c + f) + (a + e) * c ≤ a * c + (a + e) * (c + f)
+cross_from a e c f = omega arith
 
 cross : (a b c d : ℕ) → a ≤ b → c ≤ d → a * d + b * c ≤ a * c + b * d
 cross a b c d h l =
     let e : a + (b - a) ≡ b = omega arith in
     let f : c + (d - c) ≡ d = omega arith in
     subst (λ (y : ℕ). a * d + y * c ≤ a * c + y * d) e
-    (subst (λ (z : ℕ). a * z + (a + (b - a)) * c ≤ a * c + (a + (b - a)) * z) f (cross-from a (b - a) c (d - c)))
+    (subst (λ (z : ℕ). a * z + (a + (b - a)) * c ≤ a * c + (a + (b - a)) * z) f (cross_from a (b - a) c (d - c)))
 
 -- the first step, z + 1, from a g whose square is s but for a quarter: 4 g² (81 s - 80 z²) ≥ 4 (5 s - 4 g²) (5 g² - 4 s)
 module _ (s g z : ℕ) (positive : 0 < g) (low : 4 * (g * g) ≤ 5 * s) (high : 4 * s ≤ 5 * (g * g)) (step : 2 * (g * z) ≤ g * g + s) where
@@ -66,8 +66,8 @@ module _ (s k : ℕ) (enough : s ≤ k * k) (positive : 0 < k) (most : k ≤ 229
       let few : e ≤ 143 = omega (arith, small e h, most) in
       omega (arith, small e h, mul-le-mul_left (k + e + 1) above, mul-le-mul_left e few, enough)
 
-  second-step : (z w : ℕ) → k ≤ z + 1 → 80 * (z * z) ≤ 81 * s → 2 * ((z + 1) * w) ≤ (z + 1) * (z + 1) + s → k < w → ⊥
-  second-step z w l h step above = go (dec_le k z)
+  second_step : (z w : ℕ) → k ≤ z + 1 → 80 * (z * z) ≤ 81 * s → 2 * ((z + 1) * w) ≤ (z + 1) * (z + 1) + s → k < w → ⊥
+  second_step z w l h step above = go (dec_le k z)
     where
       go : Dec (k ≤ z) → ⊥
       go (yes q) =
@@ -80,9 +80,9 @@ module _ (s k : ℕ) (enough : s ≤ k * k) (positive : 0 < k) (most : k ≤ 229
 
 -- two steps from g
 module _ (s g k : ℕ) (positive : 0 < g) (low : 4 * (g * g) ≤ 5 * s) (high : 4 * s ≤ 5 * (g * g)) (root : Least s k) (some : 0 < k) where
-  pub two-steps-most : k ≤ 22913 → nearer s (nearer s g) ≤ k + 1
-  two-steps-most most =
-      go ((g + s / g) / 2) (root.least (nearer s g) (step-enough s g positive)) (first_step s g _ positive low high (half s g positive))
+  pub two_steps_most : k ≤ 22913 → nearer s (nearer s g) ≤ k + 1
+  two_steps_most most =
+      go ((g + s / g) / 2) (root.least (nearer s g) (step_enough s g positive)) (first_step s g _ positive low high (half s g positive))
     where
       go : (z : ℕ) → k ≤ z + 1 → 80 * (z * z) ≤ 81 * s → nearer s (z + 1) ≤ k + 1
-      go z l h = omega (arith, second-step s k root.enough some most z _ l h (half s (z + 1) (omega arith)))
+      go z l h = omega (arith, second_step s k root.enough some most z _ l h (half s (z + 1) (omega arith)))

@@ -7,17 +7,17 @@ use native.Mathlib.Omega.{arith}
 use lib.Dec.{leb}
 use lib.ListN.{get_or, length}
 use borrow.Author.Tests.{leb-true, leb-false}
-use Rattle.arith.specs.inner.Roots.{Least}
+use Rattle.arith.specs.Inner.Roots.{Least}
 use Rattle.sheet.specs.declared.Lash.{Lash}
-use Rattle.sheet.specs.Layout.{lashFits}
-use Rattle.sheet.specs.Refusals.{offTiers}
-use Rattle.sheet.specs.inner.Limits.{LashLimits}
-use Rattle.sheet.proofs.Limits.{lash-limits}
-use Rattle.statics.specs.Lashes.{squares, lashLength}
-use Rattle.statics.proofs.LashLength.{length-least, length_most}
+use Rattle.sheet.specs.Layout.{lash_fits}
+use Rattle.sheet.specs.Refusals.{off_tiers}
+use Rattle.sheet.specs.Inner.Limits.{LashLimits}
+use Rattle.sheet.proofs.Limits.{lash_limits}
+use Rattle.statics.specs.Lashes.{squares, lash_length}
+use Rattle.statics.proofs.LashLength.{length_least, length_most}
 use Rattle.lash_length.specs.Trials.{longest, others, guess, start, trials, found, Searched, TrialsFind}
-use Rattle.lash_length.proofs.Newton.{step-enough, two-steps-most}
-use Rattle.lash_length.proofs.Spread.{Spread, spread, guess-near}
+use Rattle.lash_length.proofs.Newton.{step_enough, two_steps_most}
+use Rattle.lash_length.proofs.Spread.{Spread, spread, guess_near}
 
 -- one trial below a length that is enough and at most 1 above the least
 settled : (s x k : ℕ) → Least s k → 0 < x → s ≤ x * x → x ≤ k + 1 → cond (leb s ((x - 1) * (x - 1))) (x - 1) x ≡ k
@@ -35,33 +35,33 @@ module _ {n : ℕ} {l : Lash} (f : LashLimits n l) where
   sides = spread l.lx l.ly l.lz f.ly f.lz
 
   -- L is above the longest side
-  long : longest l < lashLength l
+  long : longest l < lash_length l
   long = omega (arith, clash)
     where
-      clash : lashLength l ≤ longest l → ⊥
-      clash h = omega (arith, mul-le-mul h h, (length-least l).enough, sides.below)
+      clash : lash_length l ≤ longest l → ⊥
+      clash h = omega (arith, mul-le-mul h h, (length_least l).enough, sides.below)
 
-  start-enough : squares l ≤ start l * start l
+  start_enough : squares l ≤ start l * start l
   unfolding start
-  start-enough = step-enough (squares l) _ (omega arith)
+  start_enough = step_enough (squares l) _ (omega arith)
 
-  start-most : start l ≤ lashLength l + 1
+  start_most : start l ≤ lash_length l + 1
   unfolding start
-  start-most =
-      two-steps-most (squares l) (guess (longest l) (others l)) (lashLength l) (omega (arith, sides.some)) (guess-near sides).0
-      (guess-near sides).1 (length-least l) (omega (arith, long)) (length_most f)
+  start_most =
+      two_steps_most (squares l) (guess (longest l) (others l)) (lash_length l) (omega (arith, sides.some)) (guess_near sides).0
+      (guess_near sides).1 (length_least l) (omega (arith, long)) (length_most f)
 
-  pub start-long : longest l < start l
-  start-long = omega (arith, long, (length-least l).least (start l) start-enough)
+  pub start_long : longest l < start l
+  start_long = omega (arith, long, (length_least l).least (start l) start_enough)
 
   none_below : (i : ℕ) → i < length (trials l) → longest l ≤ get_or (trials l) i 0
   unfolding trials
-  none_below zero h = omega (arith, start-long)
+  none_below zero h = omega (arith, start_long)
   none_below (suc i) h = absurd (omega (arith, h))
 
-  pub finds : found (squares l) (start l) (trials l) ≡ lashLength l
+  pub finds : found (squares l) (start l) (trials l) ≡ lash_length l
   unfolding found trials
-  finds = settled (squares l) (start l) (lashLength l) (length-least l) (omega (arith, start-long)) start-enough start-most
+  finds = settled (squares l) (start l) (lash_length l) (length_least l) (omega (arith, start_long)) start_enough start_most
 
   searched : Searched l
   unfolding trials
@@ -83,14 +83,14 @@ hung l =
       breakingLoad = l.breakingLoad;
     }
 
-on-tiers : (l : Lash) → offTiers 2 (hung l) ≡ false
-unfolding offTiers
-on-tiers l = refl
+on_tiers : (l : Lash) → off_tiers 2 (hung l) ≡ false
+unfolding off_tiers
+on_tiers l = refl
 
 -- the search does not depend on the tier
-pub trials-find : TrialsFind
-unfolding start trials lashLength lashFits
-trials-find l e = record { few = on.few; none_below = on.none_below; finds = on.finds }
+pub trials_find : TrialsFind
+unfolding start trials lash_length lash_fits
+trials_find l e = record { few = on.few; none_below = on.none_below; finds = on.finds }
   where
     on : Searched (hung l)
-    on = searched (lash-limits 2 (hung l) (on-tiers l) e)
+    on = searched (lash_limits 2 (hung l) (on_tiers l) e)

@@ -2,8 +2,8 @@
 -- and Newton's steps divide and square nothing.
 use Rattle.std.specs.Prelude.{true, cond, List, [], ◌∷◌, ◌≡◌, ℕ, ◌+◌, ◌*◌, ◌-◌, ◌/◌, ◌<◌, ◌≤◌, max, leb, length, get_or}
 use Rattle.sheet.specs.declared.Lash.{Lash}
-use Rattle.sheet.specs.Layout.{lashFits}
-use Rattle.statics.specs.Lashes.{squares, lashLength}
+use Rattle.sheet.specs.Layout.{lash_fits}
+use Rattle.statics.specs.Lashes.{squares, lash_length}
 
 -- the longest of the three sides, and the sum of the other two
 abbrev pub longest : Lash → ℕ
@@ -37,8 +37,8 @@ found s x (trial ∷ more) = found s (cond (leb s (trial * trial)) trial x) more
 pub record Searched (l : Lash) : Type 0 where
   pub few : length (trials l) ≤ 16
   pub none_below : (i : ℕ) → i < length (trials l) → longest l ≤ get_or (trials l) i 0
-  pub finds : found (squares l) (start l) (trials l) ≡ lashLength l
+  pub finds : found (squares l) (start l) (trials l) ≡ lash_length l
 
 -- for all sides within document 01's ranges (proofs/Trials)
 abbrev pub TrialsFind : Type 0
-TrialsFind = (l : Lash) → lashFits l ≡ true → Searched l
+TrialsFind = (l : Lash) → lash_fits l ≡ true → Searched l

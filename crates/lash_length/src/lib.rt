@@ -1,8 +1,8 @@
 // The length of a lash, by a search that squares one length.
 
 ghost use Rattle.std.specs.Prelude.{cond, ◌≡◌, ◌+◌, ◌*◌, ◌-◌, ◌<◌, ◌≤◌, max, leb, length};
-ghost use Rattle.sheet.specs.inner.Limits.{LashLimits};
-ghost use Rattle.statics.specs.Lashes.{squares, lashLength};
+ghost use Rattle.sheet.specs.Inner.Limits.{LashLimits};
+ghost use Rattle.statics.specs.Lashes.{squares, lash_length};
 ghost use Rattle.lash_length.specs.Trials.{longest, others, nearer, guess, start, trials, found};
 
 use sheet::Lash;
@@ -92,7 +92,7 @@ fn tried(g: Sides, at: Progress) -> Progress
 pub fn search(l: Lash) -> Progress
     requires { LashLimits 10 l }
     ensures length_value { (result.length ≡ found (squares l) (start l) (trials l)) × (result.squared ≡ length (trials l)) }
-    ensures length_value_2 { result.length ≡ lashLength l }
+    ensures length_value_2 { result.length ≡ lash_length l }
 {
     let g = sides_of(l);
     let enough = start_of(g) as u64;

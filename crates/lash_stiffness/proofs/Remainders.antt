@@ -8,25 +8,25 @@ use lib.Dec.{lit<}
 pub square_le : {long : ℕ} → long ≤ 22913 → long * long ≤ 22913 * 22913
 square_le h = mul-le-mul h h
 
-pub cube-le : {long : ℕ} → long ≤ 22913 → long * long * long ≤ 22913 * 22913 * 22913
-cube-le h = mul-le-mul (square_le h) h
+pub cube_le : {long : ℕ} → long ≤ 22913 → long * long * long ≤ 22913 * 22913 * 22913
+cube_le h = mul-le-mul (square_le h) h
 
 quotient_is : (x c q : ℕ) → q * c ≤ x → x < q * c + c → q ≡ x / c
 quotient_is x c q l h = sym (div-eq_of_lt-le c l (rw (add-mul q 1 c, one-mul c) h))
 
 module _ {q long square : ℕ} (hq : q < 1099511627776) (hl : long ≤ 22913) (hs : square ≤ 22913 * 22913) where
-  pub p-le : q * long ≤ 1099511627775 * 22913
-  p-le =
+  pub p_le : q * long ≤ 1099511627775 * 22913
+  p_le =
       let a : q ≤ 1099511627775 = omega (arith, hq) in
       mul-le-mul a hl
 
-  pub taken-le : q * long / 4194304 * square ≤ 6006505472 * (22913 * 22913)
-  taken-le =
-      let a : q * long / 4194304 ≤ 6006505472 = div-le_of_le-mul 4194304 (omega (arith, p-le)) in
+  pub taken_le : q * long / 4194304 * square ≤ 6006505472 * (22913 * 22913)
+  taken_le =
+      let a : q * long / 4194304 ≤ 6006505472 = div-le_of_le-mul 4194304 (omega (arith, p_le)) in
       mul-le-mul a hs
 
-  pub more-le : q * long % 4194304 * square ≤ 4194304 * (22913 * 22913)
-  more-le =
+  pub more_le : q * long % 4194304 * square ≤ 4194304 * (22913 * 22913)
+  more_le =
       let a : q * long % 4194304 ≤ 4194304 = omega (arith, mod-lt (q * long) {m = 4194304} (lit< tt)) in
       mul-le-mul a hs
 

@@ -10,14 +10,14 @@ use lib.Dec.{ltb}
 use Rattle.io.specs.Digits.{last_digits, IsDigitCount}
 use Rattle.sheet.specs.declared.Reading.{Reading}
 use Rattle.sheet.specs.declared.Reading.TheVariants as R
-use Rattle.sheet.specs.Refusals.{first, refusalOf, refusal}
-use Rattle.sheet.specs.Layout.{sheetOf}
+use Rattle.sheet.specs.Refusals.{first, refusal_of, refusal}
+use Rattle.sheet.specs.Layout.{sheet_of}
 use Rattle.lashcheck.specs.Lines.{Decimal, Line}
 use Rattle.lashcheck.specs.Replies.{ReplyAs, Reply}
 
 -- a number below 10 is one digit
-one-digit : (n k : ℕ) → n < 10 → IsDigitCount 10 1 n k → k ≡ 1
-one-digit n k h f = go (ltb 1 k) refl
+one_digit : (n k : ℕ) → n < 10 → IsDigitCount 10 1 n k → k ≡ 1
+one_digit n k h f = go (ltb 1 k) refl
   where
     go : (b : Bool) → ltb 1 k ≡ b → k ≡ 1
     go false e = omega (arith, ltb-false 1 k e, f.0)
@@ -28,14 +28,14 @@ one-digit n k h f = go (ltb 1 k) refl
         absurd (omega arith)
 
 decimal : (n : ℕ) {text : List ℕ} → n < 10 → Decimal n text → text ≡ last_digits 10 1 n
-decimal n h d = d.spelled ∙ ap (λ k. last_digits 10 k n) (one-digit n d.count h d.fewest)
+decimal n h d = d.spelled ∙ ap (λ k. last_digits 10 k n) (one_digit n d.count h d.fewest)
 
 line : {text : List ℕ} → Line 1 0 text → text ≡ 49 ∷ 32 ∷ 48 ∷ 10 ∷ []
-line l = l.whole ∙ rw (decimal 1 (omega arith) l.left_in, decimal 0 (omega arith) l.right-in)
+line l = l.whole ∙ rw (decimal 1 (omega arith) l.left_in, decimal 0 (omega arith) l.right_in)
 
 short : refusal [] 834 ≡ R.Refused 1 0
-unfolding refusal refusalOf first
+unfolding refusal refusal_of first
 short = refl
 
-pub empty-input : {margin : ℕ} {bytes : List ℕ} → Reply margin [] bytes → bytes ≡ 49 ∷ 32 ∷ 48 ∷ 10 ∷ []
-empty-input {margin} {bytes} r = line (subst (λ (q : Reading). ReplyAs q margin (sheetOf []) bytes) short r.holds)
+pub empty_input : {margin : ℕ} {bytes : List ℕ} → Reply margin [] bytes → bytes ≡ 49 ∷ 32 ∷ 48 ∷ 10 ∷ []
+empty_input {margin} {bytes} r = line (subst (λ (q : Reading). ReplyAs q margin (sheet_of []) bytes) short r.holds)

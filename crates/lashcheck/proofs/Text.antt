@@ -11,15 +11,15 @@ use borrow.Rule.Slice.PartMut.{mid_of, put_mid}
 use lib.Dec.{ltb}
 use lib.ListN.{length, take, drop, set, length-append}
 use lib.Seq.{length-take-le, take_at, take-length, take-suc-set}
-use Rattle.arith.proofs.Parts.{part-put}
+use Rattle.arith.proofs.Parts.{part_put}
 use Rattle.io.specs.Counts.{IsPrefixLen}
 use Rattle.io.specs.Digits.{last_digits, IsDigitCount}
 use Rattle.lashcheck.specs.Lines.{Line}
-use Rattle.lashcheck.specs.inner.Texts.{Put}
+use Rattle.lashcheck.specs.Inner.Texts.{Put}
 
 -- a number of 64 bits has at most 20 digits
-pub few-digits : (n k : ℕ) → n < 2 ^ 64 → IsDigitCount 10 1 n k → k ≤ 20
-few-digits n k h f = go (ltb 20 k) refl
+pub few_digits : (n k : ℕ) → n < 2 ^ 64 → IsDigitCount 10 1 n k → k ≤ 20
+few_digits n k h f = go (ltb 20 k) refl
   where
     go : (b : Bool) → ltb 20 k ≡ b → k ≤ 20
     go false e = ltb-false 20 k e
@@ -42,16 +42,16 @@ pub put_of :
 put_of n at k text before copied small counts fewest spelled room stored =
     record {
       text = take k text;
-      in-decimal = record { count = k; fewest = fewest; spelled = spelled };
+      in_decimal = record { count = k; fewest = fewest; spelled = spelled };
       ends = ap (λ l. at + l) counts.1;
       short = omega (arith, few);
       stored =
           ap (put_mid at (length before - at) before) (rw (take-length (take k text), ← counts.1) at stored)
-          ∙ part-put before (take k text) at k counts.1 (omega (arith, few));
+          ∙ part_put before (take k text) at k counts.1 (omega (arith, few));
     }
   where
     few : k ≤ 20
-    few = few-digits n k small fewest
+    few = few_digits n k small fewest
 
 -- a count within a buffer, as io::count gives it
 pub counts_of : (n : ℕ) (xs : List ℕ) → n ≤ length xs → IsPrefixLen n xs
@@ -86,4 +86,4 @@ module _
 
     pub line_of : Line number second (take (b + 1) (set whole b 10))
     line_of =
-        record { left = left; right = right; left_in = first.in-decimal; right-in = next.in-decimal; whole = ended }
+        record { left = left; right = right; left_in = first.in_decimal; right_in = next.in_decimal; whole = ended }

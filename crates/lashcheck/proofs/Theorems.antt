@@ -1,7 +1,7 @@
 -- The theorems of specs/Theorems hold.
 use Rattle.lashcheck.specs.Theorems.{Theorems}
-use Rattle.lashcheck.proofs.EmptyInput.{empty-input}
-use Rattle.lashcheck.proofs.FirstBytes.{whole-input}
+use Rattle.lashcheck.proofs.EmptyInput.{empty_input}
+use Rattle.lashcheck.proofs.FirstBytes.{whole_input}
 
 pub theorems : Theorems
-theorems = record { first-452 = λ margin s bytes r. whole-input s r; empty-input = λ margin bytes r. empty-input r }
+theorems = record { first_452 = λ margin s bytes r. whole_input s r; empty_input = λ margin bytes r. empty_input r }

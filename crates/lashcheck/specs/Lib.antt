@@ -1,4 +1,4 @@
 pub mod Lines
 pub mod Replies
 pub mod Theorems
-pub mod inner
+pub mod Inner

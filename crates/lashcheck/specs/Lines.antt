@@ -13,5 +13,5 @@ pub record Line (number second : ℕ) (text : List ℕ) : Type 0 where
   pub left : List ℕ
   pub right : List ℕ
   pub left_in : Decimal number left
-  pub right-in : Decimal second right
+  pub right_in : Decimal second right
   pub whole : text ≡ left ++ (32 ∷ []) ++ right ++ (10 ∷ [])

@@ -1,7 +1,7 @@
 // Standard input.
 ghost use Rattle.std.specs.Prelude.{◌+◌, ◌≤◌, length};
 ghost use Rattle.io.specs.Counts.{IsPrefixLen};
-ghost use Rattle.lashcheck.specs.inner.Texts.{counted};
+ghost use Rattle.lashcheck.specs.Inner.Texts.{counted};
 
 use libc::STDIN_FILENO;
 

@@ -4,7 +4,7 @@ ghost use Rattle.io.specs.Counts.{IsPrefixLen};
 ghost use Rattle.answer.specs.Checked.{kept};
 ghost use Rattle.lashcheck.specs.Lines.{Line};
 ghost use Rattle.lashcheck.specs.Replies.{Reply};
-ghost use Rattle.lashcheck.specs.inner.Texts.{Put};
+ghost use Rattle.lashcheck.specs.Inner.Texts.{Put};
 
 use answer::Outcome;
 

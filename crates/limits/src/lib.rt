@@ -1,8 +1,8 @@
 // Document 01, "Permissible loads", in N.
 
 ghost use Rattle.std.specs.Prelude.{cond, ◌≡◌, ◌≤◌};
-ghost use Rattle.answer.specs.Limits.{safeLoad};
-ghost use Rattle.limits.specs.inner.LowerOf.{lowerOf};
+ghost use Rattle.answer.specs.Limits.{safe_load};
+ghost use Rattle.limits.specs.Inner.LowerOf.{lower_of};
 
 // The limits of CR Table 2-3.
 #[derive(Drop)]
@@ -32,7 +32,7 @@ fn other_factor(strong: bool) -> u64
 // The safe working load in whole kilonewtons: breaking load / 1.67 for higher strength steel, / 2 for all else (CR Table 3-3). To divide by
 // one factor is to multiply by the other and divide by both: a branch on the material would often be predicted wrongly.
 pub fn safe_load(material: u8, breaking: u32) -> u32
-    ensures { result ≡ safeLoad material breaking }
+    ensures { result ≡ safe_load material breaking }
 {
     ((breaking as u64) * other_factor(material == 1) / 334000 * 1000) as u32
 }
@@ -46,7 +46,7 @@ pub struct PullLimit {
 
 // Corner and lock tension are one pull: the lower of their two limits is named, the corner's if they are equal.
 pub fn lower_of(lock: u32) -> PullLimit
-    ensures { result ≡ lowerOf lock }
+    ensures { result ≡ lower_of lock }
 {
     if lock < Limits::CORNER_TENSION {
         return PullLimit {

@@ -1,7 +1,7 @@
 // What the loads of a sheet go by, in whole numbers.
 
 ghost use Rattle.std.specs.Prelude.{◌≤◌, ◌≡◌};
-ghost use Rattle.statics.specs.inner.Computed.{shareTwentieths, loadRuleBy};
+ghost use Rattle.statics.specs.Inner.Computed.{share_twentieths, load_rule_by};
 
 use sheet::Head;
 use statics::LoadRule;
@@ -13,7 +13,7 @@ const FLEET_SHARE: u64 = 10;
 
 // The share by the rule number.
 pub fn share_of(number: u8) -> u64
-    ensures { (result ≡ shareTwentieths number) × (result ≤ 20) }
+    ensures { (result ≡ share_twentieths number) × (result ≤ 20) }
 {
     if number == 2 {
         return FLEET_SHARE;
@@ -24,7 +24,7 @@ pub fn share_of(number: u8) -> u64
 // What the loads of a sheet go by, from its head: the share of its rule number, and the route factor.
 pub fn rule_of(head: Head) -> LoadRule
     requires { head.route ≤ 12 }
-    ensures { (result ≡ loadRuleBy head) × (result.share ≤ 20) × (result.factor ≤ 1000) }
+    ensures { (result ≡ load_rule_by head) × (result.share ≤ 20) × (result.factor ≤ 1000) }
 {
     LoadRule {
         share: share_of(head.rule),

@@ -7,95 +7,95 @@ use lib.ListN.{length}
 use Rattle.sheet.specs.declared.Reading.{Reading}
 use Rattle.sheet.specs.declared.Reading.TheVariants.{Taken, Refused}
 use Rattle.sheet.specs.declared.Sheet.{Sheet}
-use Rattle.sheet.specs.Layout.{tierCount, sheetOf}
-use Rattle.sheet.specs.Refusals.{first, sheetRows, refusal}
-use Rattle.sheet.proofs.Rows.{row-holds, row-passed}
-use Rattle.statics.specs.inner.Computed.{loadRuleOf}
+use Rattle.sheet.specs.Layout.{tier_count, sheet_of}
+use Rattle.sheet.specs.Refusals.{first, sheet_rows, refusal}
+use Rattle.sheet.proofs.Rows.{row_holds, row_passed}
+use Rattle.statics.specs.Inner.Computed.{load_rule_of}
 use Rattle.answer.specs.declared.Outcome.{Outcome}
 use Rattle.answer.specs.declared.Outcome.TheVariants as O
 use Rattle.answer.specs.Checked.{Checked, kept}
-use Rattle.answer.specs.inner.Named.{answerBy, checkBytes, returnedAs, writtenAs, returned, written}
-use Rattle.answer.proofs.Named.{check-named}
-use Rattle.preview_moves.specs.Previews.{withMass, moveRefusal, UnlessTurnedBack, Previewed}
-use Rattle.preview_moves.specs.inner.Moved.{AsChecked, movedRefusal, movedBytes, Answers}
+use Rattle.answer.specs.Inner.Named.{answer_by, check_bytes, returned_as, written_as, returned, written}
+use Rattle.answer.proofs.Named.{check_named}
+use Rattle.preview_moves.specs.Previews.{with_mass, move_refusal, UnlessTurnedBack, Previewed}
+use Rattle.preview_moves.specs.Inner.Moved.{AsChecked, moved_refusal, moved_bytes, Answers}
 use Rattle.preview_moves.proofs.Copies.{copy_holds}
-use Rattle.preview_moves.proofs.Order.{stack-has, lacking, sheet-first, lacks-tier, has-tier, copy-refusal}
+use Rattle.preview_moves.proofs.Order.{stack_has, lacking, sheet_first, lacks_tier, has_tier, copy_refusal}
 
 -- a sheet's bytes s
 module _ (s : List ℕ) (tier mass : ℕ) (before : List ℕ) where
   abbrev copy : List ℕ
-  copy = withMass tier mass s
+  copy = with_mass tier mass s
 
   abbrev Previews : List ℕ → Outcome → Type 0
   Previews after r = Previewed kept s tier mass before after r × AsChecked s tier mass before after r
 
   -- what the check says holds where the outcome is the check's by name
   by_name : {after : List ℕ} {r : Outcome} → AsChecked s tier mass before after r → Previews after r
-  by_name {after} {r} h = (record { holds = go (moveRefusal s tier) h }, h)
+  by_name {after} {r} h = (record { holds = go (move_refusal s tier) h }, h)
     where
       go :
           (q : Reading) →
           UnlessTurnedBack q before after r ((r ≡ returned copy (length before)) × (after ≡ written copy before)) →
           UnlessTurnedBack q before after r (Checked kept copy before after r)
       go (Refused n p) h = h
-      go Taken (e, g) = rw (e, g) (check-named copy before)
+      go Taken (e, g) = rw (e, g) (check_named copy before)
 
-  by-refusal :
+  by_refusal :
       {q : Reading} {after : List ℕ} {r : Outcome} →
-      moveRefusal s tier ≡ q →
+      move_refusal s tier ≡ q →
       UnlessTurnedBack q before after r ((r ≡ returned copy (length before)) × (after ≡ written copy before)) →
       Previews after r
-  by-refusal {q} {after} {r} e h =
+  by_refusal {q} {after} {r} e h =
       by_name
       (subst (λ q. UnlessTurnedBack q before after r ((r ≡ returned copy (length before)) × (after ≡ written copy before))) (sym e) h)
 
-  pub refused : {n p : ℕ} → first (sheetRows s) ≡ Refused n p → Previews before (O.Refused n p)
-  refused e = by-refusal (sheet-first s tier e) (record { refused = refl; untouched = refl })
+  pub refused : {n p : ℕ} → first (sheet_rows s) ≡ Refused n p → Previews before (O.Refused n p)
+  refused e = by_refusal (sheet_first s tier e) (record { refused = refl; untouched = refl })
 
-  module _ (taken : first (sheetRows s) ≡ Taken) where
+  module _ (taken : first (sheet_rows s) ≡ Taken) where
     -- the check of the copy, where the stack has the tier
-    module _ (small : mass < 65536) (some : 1 ≤ tier) (has : tier ≤ tierCount s) where
-      returned-as :
-          {q : Reading} → refusal copy (length before) ≡ q → returned copy (length before) ≡ returnedAs q (checkBytes copy)
+    module _ (small : mass < 65536) (some : 1 ≤ tier) (has : tier ≤ tier_count s) where
+      returned_as_lem :
+          {q : Reading} → refusal copy (length before) ≡ q → returned copy (length before) ≡ returned_as q (check_bytes copy)
       unfolding returned
-      returned-as e = ap (λ (q : Reading). returnedAs q (checkBytes copy)) e
+      returned_as_lem e = ap (λ (q : Reading). returned_as q (check_bytes copy)) e
 
-      written_as : {q : Reading} → refusal copy (length before) ≡ q → written copy before ≡ writtenAs q (checkBytes copy) before
+      written_as_lem : {q : Reading} → refusal copy (length before) ≡ q → written copy before ≡ written_as q (check_bytes copy) before
       unfolding written
-      written_as e = ap (λ (q : Reading). writtenAs q (checkBytes copy) before) e
+      written_as_lem e = ap (λ (q : Reading). written_as q (check_bytes copy) before) e
 
-      bytes-are : checkBytes copy ≡ movedBytes (sheetOf s) tier mass
-      bytes-are = ap (λ (t : Sheet). answerBy (loadRuleOf t) t) (copy_holds s taken tier mass some has small)
+      bytes_are : check_bytes copy ≡ moved_bytes (sheet_of s) tier mass
+      bytes_are = ap (λ (t : Sheet). answer_by (load_rule_of t) t) (copy_holds s taken tier mass some has small)
 
     -- what the sheet with the new mass is answered is what the check answers to the copy
-    module _ {after : List ℕ} {r : Outcome} (small : mass < 65536) (h : Answers (sheetOf s) tier mass before after r) where
+    module _ {after : List ℕ} {r : Outcome} (small : mass < 65536) (h : Answers (sheet_of s) tier mass before after r) where
       abbrev bytes : List ℕ
-      bytes = movedBytes (sheetOf s) tier mass
+      bytes = moved_bytes (sheet_of s) tier mass
 
       by :
           {q : Reading} →
-          movedRefusal (sheetOf s) tier mass (length before) ≡ q →
-          (r ≡ returnedAs q bytes) × (after ≡ writtenAs q bytes before)
-      by e = subst (λ q. (r ≡ returnedAs q bytes) × (after ≡ writtenAs q bytes before)) e h
+          moved_refusal (sheet_of s) tier mass (length before) ≡ q →
+          (r ≡ returned_as q bytes) × (after ≡ written_as q bytes before)
+      by e = subst (λ q. (r ≡ returned_as q bytes) × (after ≡ written_as q bytes before)) e h
 
       without : lacking s tier ≡ true → Previews after r
-      unfolding sheetOf
+      unfolding sheet_of
       without q =
-          let a = by (row-holds _ _ q) in
-          by-refusal (lacks-tier s tier taken q) (record { refused = a.0; untouched = a.1 })
+          let a = by (row_holds _ _ q) in
+          by_refusal (lacks_tier s tier taken q) (record { refused = a.0; untouched = a.1 })
 
-      within-stack : lacking s tier ≡ false → Previews after r
-      unfolding sheetOf
-      within-stack q =
-          let (some, has) = stack-has (tierCount s) tier q in
-          let c = copy-refusal s taken tier mass some has small (length before) in
-          let a = by (row-passed _ _ q ∙ sym c) in
-          let e = bytes-are small some has in
-          by-refusal (has-tier s tier taken q) (
-            a.0 ∙ ap (returnedAs (refusal copy (length before))) (sym e) ∙ sym (returned-as small some has refl),
+      within_stack : lacking s tier ≡ false → Previews after r
+      unfolding sheet_of
+      within_stack q =
+          let (some, has) = stack_has (tier_count s) tier q in
+          let c = copy_refusal s taken tier mass some has small (length before) in
+          let a = by (row_passed _ _ q ∙ sym c) in
+          let e = bytes_are small some has in
+          by_refusal (has_tier s tier taken q) (
+            a.0 ∙ ap (returned_as (refusal copy (length before))) (sym e) ∙ sym (returned_as_lem small some has refl),
             a.1
-                ∙ ap (λ (b : List ℕ). writtenAs (refusal copy (length before)) b before) (sym e)
-                ∙ sym (written_as small some has refl),
+                ∙ ap (λ (b : List ℕ). written_as (refusal copy (length before)) b before) (sym e)
+                ∙ sym (written_as_lem small some has refl),
           )
 
       pub answered : Previews after r
@@ -103,4 +103,4 @@ module _ (s : List ℕ) (tier mass : ℕ) (before : List ℕ) where
         where
           go : (b : Bool) → lacking s tier ≡ b → Previews after r
           go true q = without q
-          go false q = within-stack q
+          go false q = within_stack q

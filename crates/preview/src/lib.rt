@@ -3,11 +3,11 @@
 
 ghost use Rattle.std.specs.Prelude.{◌≡◌};
 ghost use Rattle.sheet.specs.declared.Reading.TheVariants.{Taken};
-ghost use Rattle.sheet.specs.Layout.{sheetOf};
-ghost use Rattle.sheet.specs.Refusals.{first, sheetRows};
+ghost use Rattle.sheet.specs.Layout.{sheet_of};
+ghost use Rattle.sheet.specs.Refusals.{first, sheet_rows};
 ghost use Rattle.answer.specs.Checked.{kept};
 ghost use Rattle.preview_moves.specs.Previews.{Previewed};
-ghost use Rattle.preview_moves.specs.inner.Moved.{AsChecked, Answers};
+ghost use Rattle.preview_moves.specs.Inner.Moved.{AsChecked, Answers};
 
 use answer::Outcome;
 use preview_moves::with_mass;
@@ -27,8 +27,8 @@ pub fn preview(sheet: &[u8], tier: u32, mass: u16, answer: &mut [u8]) -> Outcome
 
 // The answer to a taken sheet with a new mass in a tier: 17 for a tier that it does not have, then 7 for a mass outside the limits.
 fn answer_moved(sheet: &[u8], tier: u32, mass: u16, answer: &mut [u8]) -> Outcome
-    requires { first (sheetRows sheet.now) ≡ Taken }
-    ensures { Answers (sheetOf sheet.now) tier mass answer.old answer.new result }
+    requires { first (sheet_rows sheet.now) ≡ Taken }
+    ensures { Answers (sheet_of sheet.now) tier mass answer.old answer.new result }
 {
     let number = tier as usize;
     let n = sheet_fields::byte_at(sheet, 8) as usize;

@@ -3,39 +3,39 @@ use Rattle.std.specs.Prelude.{ℕ, ◌+◌, ◌-◌, ◌<◌, ◌≤◌, true, f
 use Rattle.arith.specs.Bytes.{byte_at, le2}
 use Rattle.sheet.specs.declared.Reading.{Reading}
 use Rattle.sheet.specs.declared.Reading.TheVariants.{Taken, Refused}
-use Rattle.sheet.specs.Layout.{tierCount, tierPlace, within, sheetOf}
-use Rattle.sheet.specs.Refusals.{row7, decoded, refusalOf, longestAnswer, refusal}
+use Rattle.sheet.specs.Layout.{tier_count, tier_place, within, sheet_of}
+use Rattle.sheet.specs.Refusals.{row7, decoded, refusal_of, longest_answer, refusal}
 use Rattle.answer.specs.declared.Outcome.{Outcome}
-use Rattle.preview_moves.specs.Previews.{massPlace, withMass, row17, moveRefusal, Previewed}
-use Rattle.preview_moves.specs.inner.Moved.{moved}
+use Rattle.preview_moves.specs.Previews.{mass_place, with_mass, row17, move_refusal, Previewed}
+use Rattle.preview_moves.specs.Inner.Moved.{moved}
 
 -- the copy is the sheet but for the two bytes of a mass, and holds what the sheet holds with the mass put in; a mass from 1 to 30,480 has
 -- it taken, any other has it refused with 7 at its tier
 pub record CopyOf (s : List ℕ) (tier mass : ℕ) : Type 0 where
-  pub size : length (withMass tier mass s) ≡ length s
-  pub put : le2 (withMass tier mass s) (massPlace tier) ≡ mass
-  pub before : (i : ℕ) → i < massPlace tier → byte_at (withMass tier mass s) i ≡ byte_at s i
-  pub behind : (i : ℕ) → massPlace tier + 2 ≤ i → byte_at (withMass tier mass s) i ≡ byte_at s i
-  pub holds : sheetOf (withMass tier mass s) ≡ moved (tier - 1) mass (sheetOf s)
-  pub taken : within 1 30480 mass ≡ true → (decoded (withMass tier mass s)).reading ≡ Taken
-  pub refused : within 1 30480 mass ≡ false → (decoded (withMass tier mass s)).reading ≡ Refused 7 (tierPlace (tier - 1))
+  pub size : length (with_mass tier mass s) ≡ length s
+  pub put : le2 (with_mass tier mass s) (mass_place tier) ≡ mass
+  pub before : (i : ℕ) → i < mass_place tier → byte_at (with_mass tier mass s) i ≡ byte_at s i
+  pub behind : (i : ℕ) → mass_place tier + 2 ≤ i → byte_at (with_mass tier mass s) i ≡ byte_at s i
+  pub holds : sheet_of (with_mass tier mass s) ≡ moved (tier - 1) mass (sheet_of s)
+  pub taken : within 1 30480 mass ≡ true → (decoded (with_mass tier mass s)).reading ≡ Taken
+  pub refused : within 1 30480 mass ≡ false → (decoded (with_mass tier mass s)).reading ≡ Refused 7 (tier_place (tier - 1))
 
 -- of every taken sheet, for each tier that it has (proofs/Copies)
 abbrev pub Copies : Type 0
-Copies = (s : List ℕ) (tier mass : ℕ) → (decoded s).reading ≡ Taken → 1 ≤ tier → tier ≤ tierCount s → mass < 65536 → CopyOf s tier mass
+Copies = (s : List ℕ) (tier mass : ℕ) → (decoded s).reading ≡ Taken → 1 ≤ tier → tier ≤ tier_count s → mass < 65536 → CopyOf s tier mass
 
 -- what turns a preview back in all: what does so before the new mass is looked at, or else what the check of the copy is turned back for
-abbrev pub orCopy : Reading → Reading → Reading
-orCopy Taken r = r
-orCopy (Refused number second) r = Refused number second
+abbrev pub or_copy : Reading → Reading → Reading
+or_copy Taken r = r
+or_copy (Refused number second) r = Refused number second
 
 -- that is the first of these rows: the sheet's own, 17, 7 at the tier by the new mass, 13 (proofs/Order)
 abbrev pub RefusedInOrder : Type 0
 RefusedInOrder =
     (s : List ℕ) (tier mass room : ℕ) →
     mass < 65536 →
-    orCopy (moveRefusal s tier) (refusal (withMass tier mass s) room) ≡
-    refusalOf s (row17 s tier ∷ row7 (withMass tier mass s) (tier - 1) ∷ []) longestAnswer room
+    or_copy (move_refusal s tier) (refusal (with_mass tier mass s) room) ≡
+    refusal_of s (row17 s tier ∷ row7 (with_mass tier mass s) (tier - 1) ∷ []) longest_answer room
 
 -- what holds within a margin holds within any wider one (proofs/TwoNumbers)
 abbrev pub Wider : Type 0

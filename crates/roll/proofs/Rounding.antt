@@ -7,32 +7,32 @@ use native.Mathlib.Omega.{arith}
 use lib.IntN.{ℤ, pos, neg_ℤ, ◌-ℤ◌}
 use Rattle.arith.specs.Fractions.{Frac}
 use Rattle.arith.specs.Wholes.{floor, ceiling}
-use Rattle.arith.specs.inner.Rounding.{roundedUp}
+use Rattle.arith.specs.Inner.Rounding.{rounded_up}
 use Rattle.arith.proofs.Polynomials.{v, kp, kn, ⊖◌}
-use Rattle.arith.proofs.Rings.{∀₃, ∀₆, ∀₇, by-cert, by-eqs, contra, over, to, times, mul-eq, ◌⊞◌, ◌⊠◌}
-use Rattle.arith.proofs.Rationals.{ℚR, ℚ, mk, int, ◌+ℚ◌, ◌-ℚ◌, ◌*ℚ◌, ◌≤ℚ◌, int-plus, int-times, <→≤}
-use Rattle.arith.proofs.RationalTerms.{qq, q-int-neg}
-use Rattle.arith.proofs.RationalOrder.{above-0, lt_not}
-use Rattle.arith.proofs.RationalRounding.{up-low, up-high, down-low, down-high, ceil-up, div-down}
-use Rattle.arith.proofs.WholeLaws.{ceiling-is, floor-is}
+use Rattle.arith.proofs.Rings.{∀₃, ∀₆, ∀₇, by_cert, by_eqs, contra, over, to, times, mul_eq, ◌⊞◌, ◌⊠◌}
+use Rattle.arith.proofs.Rationals.{ℚR, ℚ, mk, int, ◌+ℚ◌, ◌-ℚ◌, ◌*ℚ◌, ◌≤ℚ◌, int_plus, int_times, <→≤}
+use Rattle.arith.proofs.RationalTerms.{qq, q_int_neg}
+use Rattle.arith.proofs.RationalOrder.{above_0, lt_not}
+use Rattle.arith.proofs.RationalRounding.{up_low, up_high, down_low, down_high, ceil_up, div_down}
+use Rattle.arith.proofs.WholeLaws.{ceiling_is, floor_is}
 
-pub nat-plus : (x y : ℕ) → int (pos (x + y)) ≡ int (pos x) +ℚ int (pos y)
-nat-plus x y = int-plus (pos x) (pos y)
+pub nat_plus : (x y : ℕ) → int (pos (x + y)) ≡ int (pos x) +ℚ int (pos y)
+nat_plus x y = int_plus (pos x) (pos y)
 
-pub nat-times : (x y : ℕ) → int (pos (x * y)) ≡ int (pos x) *ℚ int (pos y)
-nat-times x y = int-times (pos x) (pos y)
+pub nat_times : (x y : ℕ) → int (pos (x * y)) ≡ int (pos x) *ℚ int (pos y)
+nat_times x y = int_times (pos x) (pos y)
 
-pub int-minus : (a b : ℤ) → int (a -ℤ b) ≡ int a -ℚ int b
-int-minus a b = int-plus a (neg_ℤ b) ∙ ap (λ q. int a +ℚ q) (sym (q-int-neg b))
+pub int_minus : (a b : ℤ) → int (a -ℤ b) ≡ int a -ℚ int b
+int_minus a b = int_plus a (neg_ℤ b) ∙ ap (λ q. int a +ℚ q) (sym (q_int_neg b))
 
-pub nat-minus : (x y : ℕ) → y ≤ x → int (pos (x - y)) ≡ int (pos x) -ℚ int (pos y)
-nat-minus x y h = go (int (pos (x - y))) (int (pos y)) (int (pos x)) (sym (nat-plus (x - y) y) ∙ ap (λ (n : ℕ). int (pos n)) e)
+pub nat_minus : (x y : ℕ) → y ≤ x → int (pos (x - y)) ≡ int (pos x) -ℚ int (pos y)
+nat_minus x y h = go (int (pos (x - y))) (int (pos y)) (int (pos x)) (sym (nat_plus (x - y) y) ∙ ap (λ (n : ℕ). int (pos n)) e)
   where
     e : x - y + y ≡ x
     e = omega arith
 
     go : (d y x : ℚ) → d +ℚ y ≡ x → d ≡ x -ℚ y
-    go = ∀₃ ℚR _ λ ρ. simp qq λ h. by-eqs (mul-eq (kp 1) h) tt
+    go = ∀₃ ℚR _ λ ρ. simp qq λ h. by_eqs (mul_eq (kp 1) h) tt
 
 -- what is over whole numbers W of Y, in parts of 1 / b, is at most `rest`, and not by one more
 pub record Over (b Y W rest : ℚ) : Type 0 where
@@ -50,17 +50,17 @@ module _ (w pp n : ℕ) (Y : ℚ) (p0 : 0 < pp) (e : int (pos (100 * pp)) *ℚ Y
       int (pos 100) *ℚ int (pos pp) *ℚ Y ≡ int (pos 100) *ℚ int (pos pp) *ℚ int (pos whole) +ℚ int (pos rest)
   parts =
       let split : int (pos (100 * pp * whole + rest)) ≡ int (pos n) = ap (λ (k : ℕ). int (pos k)) (div-add-mod n (100 * pp)) in
-      simp (nat-plus, nat-times) at (e ∙ sym split)
+      simp (nat_plus, nat_times) at (e ∙ sym split)
 
-  pub over-rounded : Over (int (pos 100) *ℚ int (pos w)) Y (int (pos whole)) (int (pos (roundedUp (rest * w) pp)))
-  over-rounded =
-      let u = ceil-up (rest * w) pp p0 in
+  pub over_rounded : Over (int (pos 100) *ℚ int (pos w)) Y (int (pos whole)) (int (pos (rounded_up (rest * w) pp)))
+  over_rounded =
+      let u = ceil_up (rest * w) pp p0 in
       let a = int (pos w) in
       let r = int (pos rest) in
-      let t = int (pos (roundedUp (rest * w) pp)) in
+      let t = int (pos (rounded_up (rest * w) pp)) in
       record {
-        most = low (int (pos pp)) a Y (int (pos whole)) r t (lt_not (above-0 pp p0)) parts (rw (nat-times rest w) at (up-low u));
-        least = high (int (pos pp)) a Y (int (pos whole)) r t (<→≤ (above-0 pp p0)) parts (rw (nat-times rest w) at (up-high u));
+        most = low (int (pos pp)) a Y (int (pos whole)) r t (lt_not (above_0 pp p0)) parts (rw (nat_times rest w) at (up_low u));
+        least = high (int (pos pp)) a Y (int (pos whole)) r t (<→≤ (above_0 pp p0)) parts (rw (nat_times rest w) at (up_high u));
       }
     where
       low :
@@ -83,15 +83,15 @@ module _ (w pp n : ℕ) (Y : ℚ) (p0 : 0 < pp) (e : int (pos (100 * pp)) *ℚ Y
 -- X + Y rounded up, X − Y rounded down
 module _ (x : Frac) (S b W rest : ℕ) (X Y : ℚ) (b0 : 0 < b)
     (eX : int (pos b) *ℚ X ≡ int (pos S)) (o : Over (int (pos b)) Y (int (pos W)) (int (pos rest))) where
-  pub rounded-up : mk x ≡ X +ℚ Y → ceiling x ≡ pos (W + roundedUp (S + rest) b)
-  rounded-up is =
-      let u = ceil-up (S + rest) b b0 in
-      let T = int (pos (roundedUp (S + rest) b)) in
-      let m = low (int (pos b)) X Y (int (pos W)) (int (pos S)) (int (pos rest)) T (lt_not (above-0 b b0)) eX o.most in
-      let l = high (int (pos b)) X Y (int (pos W)) (int (pos S)) (int (pos rest)) T (<→≤ (above-0 b b0)) eX in
-      ceiling-is x (pos (W + roundedUp (S + rest) b))
-      (simp (is, nat-plus) (m (simp nat-plus at (up-low u))))
-      (simp (is, nat-plus) (λ k. o.least (l (simp nat-plus at (up-high u)) k)))
+  pub rounded_up_lem : mk x ≡ X +ℚ Y → ceiling x ≡ pos (W + rounded_up (S + rest) b)
+  rounded_up_lem is =
+      let u = ceil_up (S + rest) b b0 in
+      let T = int (pos (rounded_up (S + rest) b)) in
+      let m = low (int (pos b)) X Y (int (pos W)) (int (pos S)) (int (pos rest)) T (lt_not (above_0 b b0)) eX o.most in
+      let l = high (int (pos b)) X Y (int (pos W)) (int (pos S)) (int (pos rest)) T (<→≤ (above_0 b b0)) eX in
+      ceiling_is x (pos (W + rounded_up (S + rest) b))
+      (simp (is, nat_plus) (m (simp nat_plus at (up_low u))))
+      (simp (is, nat_plus) (λ k. o.least (l (simp nat_plus at (up_high u)) k)))
     where
       low :
           (b X Y W S r T : ℚ) →
@@ -109,20 +109,20 @@ module _ (x : Frac) (S b W rest : ℕ) (X Y : ℚ) (b0 : 0 < b)
           b *ℚ T +ℚ int (pos 1) ≤ℚ S +ℚ r +ℚ b →
           X +ℚ Y +ℚ int (pos 1) ≤ℚ W +ℚ T →
           b *ℚ (Y -ℚ W) +ℚ int (pos 1) ≤ℚ r
-      high = ∀₇ ℚR _ λ ρ. simp qq λ h e l k. by-cert (to h ⊠ to k ⊞ to l ⊞ times (kp 1) e) tt
+      high = ∀₇ ℚR _ λ ρ. simp qq λ h e l k. by_cert (to h ⊠ to k ⊞ to l ⊞ times (kp 1) e) tt
 
-  pub rounded-down : rest ≤ b → mk x ≡ X -ℚ Y → floor x ≡ pos ((S + (b - rest)) / b) -ℤ pos (W + 1)
-  rounded-down h is =
-      let d = div-down (S + (b - rest)) b b0 in
+  pub rounded_down : rest ≤ b → mk x ≡ X -ℚ Y → floor x ≡ pos ((S + (b - rest)) / b) -ℤ pos (W + 1)
+  rounded_down h is =
+      let d = div_down (S + (b - rest)) b b0 in
       let T = int (pos ((S + (b - rest)) / b)) in
-      let m = low (int (pos b)) X Y (int (pos W)) (int (pos S)) (int (pos rest)) T (lt_not (above-0 b b0)) eX o.most in
-      let l = high (int (pos b)) X Y (int (pos W)) (int (pos S)) (int (pos rest)) T (<→≤ (above-0 b b0)) eX in
-      let lo = rw (nat-plus S (b - rest), nat-minus b rest h) at (down-low d) in
-      let hi = rw (nat-plus S (b - rest), nat-minus b rest h) at (down-high d) in
+      let m = low (int (pos b)) X Y (int (pos W)) (int (pos S)) (int (pos rest)) T (lt_not (above_0 b b0)) eX o.most in
+      let l = high (int (pos b)) X Y (int (pos W)) (int (pos S)) (int (pos rest)) T (<→≤ (above_0 b b0)) eX in
+      let lo = rw (nat_plus S (b - rest), nat_minus b rest h) at (down_low d) in
+      let hi = rw (nat_plus S (b - rest), nat_minus b rest h) at (down_high d) in
       let taken : int (pos ((S + (b - rest)) / b) -ℤ pos (W + 1)) ≡ T -ℚ (int (pos W) +ℚ int (pos 1)) =
-      int-minus (pos ((S + (b - rest)) / b)) (pos (W + 1)) ∙ ap (λ q. T -ℚ q) (nat-plus W 1)
+      int_minus (pos ((S + (b - rest)) / b)) (pos (W + 1)) ∙ ap (λ q. T -ℚ q) (nat_plus W 1)
       in
-      floor-is x (pos ((S + (b - rest)) / b) -ℤ pos (W + 1))
+      floor_is x (pos ((S + (b - rest)) / b) -ℤ pos (W + 1))
       (rw (is, taken) (m lo))
       (rw (is, taken) (λ k. o.least (l hi k)))
     where
@@ -142,4 +142,4 @@ module _ (x : Frac) (S b W rest : ℕ) (X Y : ℚ) (b0 : 0 < b)
           S +ℚ (b -ℚ r) +ℚ int (pos 1) ≤ℚ b *ℚ T +ℚ b →
           T -ℚ (W +ℚ int (pos 1)) +ℚ int (pos 1) ≤ℚ X -ℚ Y →
           b *ℚ (Y -ℚ W) +ℚ int (pos 1) ≤ℚ r
-      high = ∀₇ ℚR _ λ ρ. simp qq λ h e l k. by-cert (to h ⊠ to k ⊞ to l ⊞ times (kn 0) e) tt
+      high = ∀₇ ℚR _ λ ρ. simp qq λ h e l k. by_cert (to h ⊠ to k ⊞ to l ⊞ times (kn 0) e) tt

@@ -1,4 +1,4 @@
 pub mod ConditionA
 pub mod Rounded
 pub mod Theorems
-pub mod inner
+pub mod Inner

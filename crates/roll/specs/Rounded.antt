@@ -11,20 +11,20 @@ use Rattle.roll.specs.declared.Condition.{Condition}
 use Rattle.roll.specs.declared.Accelerations.{Accelerations}
 use Rattle.roll.specs.declared.Rolled.{Rolled}
 use Rattle.roll.specs.declared.Rolled.TheVariants.{Given, Refused}
-use Rattle.roll.specs.ConditionA.{A-T, A-VMAX, A-VMIN}
+use Rattle.roll.specs.ConditionA.{a_t, a_vmax, a_vmin}
 
 -- A_T and A_Vmax are rounded up to thousandths, A_Vmin down, and A_Vmin alone is then cut at 1,000
 abbrev pub cut : ℤ → ℤ
 cut z = cond (le_z z (pos 1000)) z (pos 1000)
 
 unfoldable pub transverse : Condition → ℤ
-transverse g = ceiling (nat 1000 *q A-T g)
+transverse g = ceiling (nat 1000 *q a_t g)
 
-unfoldable pub verticalMost : Condition → ℤ
-verticalMost g = ceiling (nat 1000 *q A-VMAX g)
+unfoldable pub vertical_most : Condition → ℤ
+vertical_most g = ceiling (nat 1000 *q a_vmax g)
 
-unfoldable pub verticalLeast : Condition → ℤ
-verticalLeast g = cut (floor (nat 1000 *q A-VMIN g))
+unfoldable pub vertical_least : Condition → ℤ
+vertical_least g = cut (floor (nat 1000 *q a_vmin g))
 
 -- 18, 0: a ship's length or period of zero, a period over 100 s, an angle over 90 degrees, a0 over 1, any length beyond 500 m either
 -- way, x outside 0 to the ship's length, or sine² + cosine² further than 15,000 from 100,000,000
@@ -34,8 +34,8 @@ far mm = nat_abs mm above 500000
 abbrev pub along : ℤ → ℕ → Bool
 along x length = le_z (pos 0) x && le_z x (pos length)
 
-abbrev pub offUnit : ℕ → ℕ → Bool
-offUnit sine cosine = nat_abs (pos (sine * sine + cosine * cosine) -ℤ pos 100000000) above 15000
+abbrev pub off_unit : ℕ → ℕ → Bool
+off_unit sine cosine = nat_abs (pos (sine * sine + cosine * cosine) -ℤ pos 100000000) above 15000
 
 abbrev pub row18 : Condition → Row
 row18 g =
@@ -46,19 +46,19 @@ row18 g =
     || g.heave above 10000
     || far (pos g.length) || far g.centre || far g.x || far g.y || far g.z
     || not (along g.x g.length)
-    || offUnit g.sine g.cosine)
+    || off_unit g.sine g.cosine)
 
 -- 19, with 1, 2 or 3, for the first of A_T, A_Vmax and A_Vmin outside document 01's limits: 0 to 1,500, 0 to 3,000, 0 to 1,000
 abbrev pub row19 : ℕ → ℕ → ℤ → Row
 row19 which most z = row 19 which (not (along z most))
 
 -- the first row that holds turns the question back; where none does, the accelerations are given
-abbrev pub unlessRefused : Reading → Accelerations → Rolled
-unlessRefused reading.Taken a = Given a
-unlessRefused (reading.Refused number second) a = Refused number second
+abbrev pub unless_refused : Reading → Accelerations → Rolled
+unless_refused reading.Taken a = Given a
+unless_refused (reading.Refused number second) a = Refused number second
 
-unfoldable pub conditionA : Condition → Rolled
-conditionA g =
-    unlessRefused
-    (first (row18 g ∷ row19 1 1500 (transverse g) ∷ row19 2 3000 (verticalMost g) ∷ row19 3 1000 (verticalLeast g) ∷ []))
-    (record { aT = nat_abs (transverse g); aVmax = nat_abs (verticalMost g); aVmin = nat_abs (verticalLeast g) })
+unfoldable pub condition_a : Condition → Rolled
+condition_a g =
+    unless_refused
+    (first (row18 g ∷ row19 1 1500 (transverse g) ∷ row19 2 3000 (vertical_most g) ∷ row19 3 1000 (vertical_least g) ∷ []))
+    (record { aT = nat_abs (transverse g); aVmax = nat_abs (vertical_most g); aVmin = nat_abs (vertical_least g) })

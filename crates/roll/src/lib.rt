@@ -3,11 +3,11 @@
 ghost use Rattle.std.specs.Prelude.{◌≡◌, ◌*◌, ◌≤◌, ◌^◌, pos};
 ghost use Rattle.arith.specs.Fractions.{Frac, nat, absq, ◌*q◌, ◌≈◌};
 ghost use Rattle.arith.specs.Wholes.{floor, ceiling};
-ghost use Rattle.arith.specs.inner.Sizes.{Small};
-ghost use Rattle.roll_parts.specs.inner.Parts.{parts_of, rollOf};
-ghost use Rattle.roll.specs.ConditionA.{metres, k₃, k₃Of};
-ghost use Rattle.roll.specs.Rounded.{transverse, verticalMost, verticalLeast, row18, conditionA};
-ghost use Rattle.roll.specs.inner.Sums.{Legal, sum, difference};
+ghost use Rattle.arith.specs.Inner.Sizes.{Small};
+ghost use Rattle.roll_parts.specs.Inner.Parts.{parts_of, roll_of};
+ghost use Rattle.roll.specs.ConditionA.{metres, k₃, k₃of};
+ghost use Rattle.roll.specs.Rounded.{transverse, vertical_most, vertical_least, row18, condition_a};
+ghost use Rattle.roll.specs.Inner.Sums.{Legal, sum, difference};
 
 use roll_parts::RollPart;
 
@@ -45,7 +45,7 @@ pub enum Rolled {
 
 // The accelerations that Condition A gives, or why none are given.
 pub fn condition_a(given: Condition) -> Rolled
-    ensures { result ≡ conditionA given }
+    ensures { result ≡ condition_a given }
 {
     if refused(given) {
         return Rolled::Refused(18, 0);
@@ -104,7 +104,7 @@ fn k3_part(length: u64, x: u64) -> u64
 // k_3 of the box.
 fn k3_of(given: Condition) -> u64
     requires { Legal given }
-    ensures { (nat result ≈ nat (30 * given.length) *q k₃Of given) × (result ≤ 21 * given.length) }
+    ensures { (nat result ≈ nat (30 * given.length) *q k₃of given) × (result ≤ 21 * given.length) }
 {
     k3_part(given.length as u64, given.x as u64)
 }
@@ -112,7 +112,7 @@ fn k3_of(given: Condition) -> u64
 // The roll at a distance from the roll centre or the centreline.
 fn roll_at(given: Condition, distance: u64) -> RollPart
     requires { Legal given × (distance ≤ 1000000) }
-    ensures { (result ≡ rollOf given.angle given.period distance given.length) × (result.whole ≤ 2 ^ 36)
+    ensures { (result ≡ roll_of given.angle given.period distance given.length) × (result.whole ≤ 2 ^ 36)
         × (result.rest ≤ parts_of given.length) }
 {
     roll_parts::roll_part(
@@ -161,7 +161,7 @@ fn transverse(given: Condition) -> u64
 // A_Vmax: by the cosine, at the distance from the centreline.
 fn vertical_most(given: Condition) -> u64
     requires { Legal given }
-    ensures { pos result ≡ verticalMost given }
+    ensures { pos result ≡ vertical_most given }
 {
     together(given, given.cosine, roll_parts::distance(given.y, 0))
 }
@@ -169,7 +169,7 @@ fn vertical_most(given: Condition) -> u64
 // A_Vmin: at the distance from the centreline, cut at 1,000.
 fn vertical_least(given: Condition) -> i64
     requires { Legal given }
-    ensures { (result ≡ verticalLeast given) × Small (2 ^ 55) result }
+    ensures { (result ≡ vertical_least given) × Small (2 ^ 55) result }
 {
     let least = taken_off(given, roll_parts::distance(given.y, 0));
     if 1000 < least {

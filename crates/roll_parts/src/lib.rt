@@ -5,8 +5,8 @@
 
 ghost use Rattle.std.specs.Prelude.{◌&&◌, ◌≡◌, ◌+◌, ◌*◌, ◌≤◌, ◌^◌, ltb, pos, nat_abs, ◌-ℤ◌};
 ghost use Rattle.std.specs.Int.Signed.{le_z};
-ghost use Rattle.arith.specs.inner.Sizes.{Small};
-ghost use Rattle.roll_parts.specs.inner.Parts.{parts_of, still_of, rollOf, upOf, downOf};
+ghost use Rattle.arith.specs.Inner.Sizes.{Small};
+ghost use Rattle.roll_parts.specs.Inner.Parts.{parts_of, still_of, roll_of, up_of, down_of};
 
 use arith::rounding::{ceil_div, split_product_up};
 
@@ -28,7 +28,7 @@ pub fn still_part(trig: u64, heave: u64, length: u64, factor: u64) -> u64
 // The roll at a distance from the roll centre or the centreline.
 pub fn roll_part(angle: u64, period: u64, distance: u64, length: u64) -> RollPart
     requires { (angle ≤ 9000) × (1 ≤ period) × (period ≤ 10000) × (distance ≤ 1000000) × (1 ≤ length) × (length ≤ 500000) }
-    ensures { (result ≡ rollOf angle period distance length) × (result.whole ≤ 2 ^ 36) × (result.rest ≤ parts_of length) }
+    ensures { (result ≡ roll_of angle period distance length) × (result.whole ≤ 2 ^ 36) × (result.rest ≤ parts_of length) }
 {
     let turn = 701 * angle * distance;
     let over = 100 * (period * period);
@@ -41,7 +41,7 @@ pub fn roll_part(angle: u64, period: u64, distance: u64, length: u64) -> RollPar
 // The thousandths of both together, rounded up.
 pub fn rounded_up(still: u64, roll: RollPart, parts: u64) -> u64
     requires { (1 ≤ parts) × (still ≤ 2 ^ 53) × (roll.whole ≤ 2 ^ 36) × (roll.rest ≤ 2 ^ 41) }
-    ensures { result ≡ upOf still roll parts }
+    ensures { result ≡ up_of still roll parts }
 {
     let whole = roll.whole;
     let rest = roll.rest;
@@ -51,7 +51,7 @@ pub fn rounded_up(still: u64, roll: RollPart, parts: u64) -> u64
 // The thousandths with the roll taken off, rounded down, below zero too.
 pub fn rounded_down(still: u64, roll: RollPart, parts: u64) -> i64
     requires { (1 ≤ parts) × (parts ≤ 2 ^ 41) × (still ≤ 2 ^ 53) × (roll.whole ≤ 2 ^ 36) × (roll.rest ≤ parts) }
-    ensures { (result ≡ downOf still roll parts) × Small (2 ^ 55) result }
+    ensures { (result ≡ down_of still roll parts) × Small (2 ^ 55) result }
 {
     let whole = roll.whole;
     let rest = roll.rest;

@@ -4,26 +4,26 @@ use mathlib.Core.List.{List, [], ◌∷◌, ◌++◌, map, flat_map}
 use mathlib.Core.Path.{◌≡◌, refl}
 use Rattle.sheet.specs.declared.Reading.{Reading}
 use Rattle.sheet.specs.declared.Reading.TheVariants.{Taken, Refused}
-use Rattle.sheet.specs.Layout.{head_of, tierOf, lashOf, tierFits, breakingFits, lashFits}
+use Rattle.sheet.specs.Layout.{head_of, tier_of, lash_of, tier_fits, breaking_fits, lash_fits}
 use Rattle.arith.specs.Lists.{from, below}
-use Rattle.sheet.specs.Refusals.{offTiers, later, notLater, first, refusalOf, refusal}
-use Rattle.sheet.specs.Written.{headBytes, tierBytes, lashBytes}
+use Rattle.sheet.specs.Refusals.{off_tiers, later, not_later, first, refusal_of, refusal}
+use Rattle.sheet.specs.Written.{head_bytes, tier_bytes, lash_bytes}
 
 -- a rule number, route 0, an ordinary lock of 400,000 N; by rule 1 where no other is named
-abbrev headBy : ℕ → List ℕ
-headBy rule = headBytes (record { rule = rule; route = 0; lockMaterial = 0; zero = 0; lockBreakingLoad = 400000 })
+abbrev head_by : ℕ → List ℕ
+head_by rule = head_bytes (record { rule = rule; route = 0; lockMaterial = 0; zero = 0; lockBreakingLoad = 400000 })
 
 abbrev head : List ℕ
-head = headBy 1
+head = head_by 1
 
 -- a box like B, of a size, height, mass and A_Vmin
 abbrev box : ℕ → ℕ → ℕ → ℕ → List ℕ
 box size height mass aVmin =
-    tierBytes (record { size = size; wind = 0; height = height; mass = mass; aT = 500; aVmax = 1500; aVmin = aVmin })
+    tier_bytes (record { size = size; wind = 0; height = height; mass = mass; aT = 500; aVmax = 1500; aVmin = aVmin })
 
 -- B with a wind byte
 abbrev windy : ℕ → List ℕ
-windy wind = tierBytes (record { size = 40; wind = wind; height = 2591; mass = 20000; aT = 500; aVmax = 1500; aVmin = 800 })
+windy wind = tier_bytes (record { size = 40; wind = wind; height = 2591; mass = 20000; aT = 500; aVmax = 1500; aVmin = 800 })
 
 abbrev B : List ℕ
 B = box 40 2591 20000 800
@@ -31,7 +31,7 @@ B = box 40 2591 20000 800
 -- a rod like S on a tier, hook and kind, with LY ly
 abbrev rod : ℕ → ℕ → ℕ → ℕ → List ℕ
 rod tier hook kind ly =
-    lashBytes
+    lash_bytes
     (record {
       tier = tier;
       hook = hook;
@@ -81,10 +81,10 @@ cases =
     ∷ (head ++ stack 10 ++ bares gives Taken)
     ∷ (head ++ stack 11 ++ bares gives Refused 6 8)
     -- rule numbers 0, 2, 3 and the greatest
-    ∷ (headBy 0 ++ stack 1 ++ bares gives Refused 3 0)
-    ∷ (headBy 2 ++ stack 1 ++ bares gives Taken)
-    ∷ (headBy 3 ++ stack 1 ++ bares gives Refused 3 0)
-    ∷ (headBy 255 ++ stack 1 ++ bares gives Refused 3 0)
+    ∷ (head_by 0 ++ stack 1 ++ bares gives Refused 3 0)
+    ∷ (head_by 2 ++ stack 1 ++ bares gives Taken)
+    ∷ (head_by 3 ++ stack 1 ++ bares gives Refused 3 0)
+    ∷ (head_by 255 ++ stack 1 ++ bares gives Refused 3 0)
     -- mass 30,480 and 30,481; A_Vmin 1,000 and 1,001
     ∷ (head ++ (1 ∷ box 40 2591 30480 800) ++ bares gives Taken)
     ∷ (head ++ (1 ∷ box 40 2591 30481 800) ++ bares gives Refused 7 9)
@@ -115,5 +115,5 @@ cases =
     ∷ []
 
 pub answered : map (λ c. refusal c.sheet c.room) cases ≡ map (λ c. c.answer) cases
-unfolding refusal refusalOf first head_of tierOf lashOf tierFits breakingFits lashFits offTiers later notLater flat_map from
+unfolding refusal refusal_of first head_of tier_of lash_of tier_fits breaking_fits lash_fits off_tiers later not_later flat_map from
 answered = refl

@@ -6,18 +6,18 @@ use mathlib.Core.Path.{◌≡◌, refl}
 use native.Mathlib.Omega.{arith}
 use borrow.Author.Tests.{ltb-false, eqb-false}
 use lib.Dec.{ltb, eqb}
-use Rattle.sheet.specs.Layout.{tierOf}
+use Rattle.sheet.specs.Layout.{tier_of}
 use Rattle.arith.specs.Bytes.{byte_at}
-use Rattle.sheet.proofs.Bools.{or-false}
+use Rattle.sheet.proofs.Bools.{or_false}
 
 pub count_fits : (n : ℕ) → eqb n 0 || ltb 10 n ≡ false → (1 ≤ n) × (n ≤ 10)
 count_fits n e =
-    let b = or-false (eqb n 0) (ltb 10 n) e in
+    let b = or_false (eqb n 0) (ltb 10 n) e in
     (some (eqb-false n 0 b.0), ltb-false 10 n b.1)
   where
     some : (n ≡ 0 → ⊥) → 1 ≤ n
     some h = omega arith
 
-pub tier-size : (s : List ℕ) (at : ℕ) → (tierOf s at).size ≡ byte_at s at
-unfolding tierOf
-tier-size s at = refl
+pub tier_size : (s : List ℕ) (at : ℕ) → (tier_of s at).size ≡ byte_at s at
+unfolding tier_of
+tier_size s at = refl

@@ -8,13 +8,13 @@ use borrow.Author.Tests.{ltb-true, ltb-false}
 use lib.ListN.{length}
 use Rattle.sheet.specs.declared.Reading.{Reading}
 use Rattle.sheet.specs.declared.Reading.TheVariants.{Taken, Refused}
-use Rattle.sheet.specs.Layout.{tierCount, tierPlace, lashPlace, doorPlace, closed_place}
+use Rattle.sheet.specs.Layout.{tier_count, tier_place, lash_place, door_place, closed_place}
 use Rattle.arith.specs.Bytes.{byte_at}
 use Rattle.arith.specs.Lists.{from, below}
-use Rattle.sheet.specs.Refusals.{Row, row1, row13, first, headRows, tierCountRows, tierRows, tiersRows, lashCountRows, lashRows}
-use Rattle.sheet.specs.Refusals.{endRows, doorRows, closedRows, sheetRows, refusalOf, longestAnswer, refusal}
-use Rattle.sheet.proofs.Rows.{or_else, first-append}
-use Rattle.sheet.proofs.Clear.{clear, not_taken, few-tiers, few-lashes}
+use Rattle.sheet.specs.Refusals.{Row, row1, row13, first, head_rows, tier_count_rows, tier_rows, tiers_rows, lash_count_rows, lash_rows}
+use Rattle.sheet.specs.Refusals.{end_rows, door_rows, closed_rows, sheet_rows, refusal_of, longest_answer, refusal}
+use Rattle.sheet.proofs.Rows.{or_else, first_append}
+use Rattle.sheet.proofs.Clear.{clear, not_taken, few_tiers, few_lashes}
 use Rattle.sheet.proofs.Items.{count_fits}
 
 -- a refusal with a number from 1 to c and a second number of at most p
@@ -36,7 +36,7 @@ module _ (c p : ℕ) where
       go false e = k
 
   parts_within : (a b : List Row) → Within c p (first a) → (first a ≡ Taken → Within c p (first b)) → Within c p (first (a ++ b))
-  parts_within a b h k = rw (first-append a b) (go (first a) refl h)
+  parts_within a b h k = rw (first_append a b) (go (first a) refl h)
     where
       go : (q : Reading) → first a ≡ q → Within c p q → Within c p (or_else q (first b))
       go Taken e w = k e
@@ -70,71 +70,71 @@ module _ (s : List ℕ) where
   short at size rs h k =
       row_within 12 451 (row1 s at size) rs (λ e. (omega arith, omega arith, omega (arith, ltb-true (length s) (at + size) e))) k
 
-  head-bounded : Bounded (headRows s)
-  head-bounded =
+  head_bounded : Bounded (head_rows s)
+  head_bounded =
       short 0 8 _ (omega arith)
       (plain _ _ (omega arith) (omega arith) (omega arith)
       (plain _ _ (omega arith) (omega arith) (omega arith) (plain _ [] (omega arith) (omega arith) (omega arith) none)))
 
-  tier-bounded : (k : ℕ) → k < 10 → Bounded (tierRows s k)
-  tier-bounded k h =
-      short (tierPlace k) 12 _ (omega arith)
+  tier_bounded : (k : ℕ) → k < 10 → Bounded (tier_rows s k)
+  tier_bounded k h =
+      short (tier_place k) 12 _ (omega arith)
       (plain _ _ (omega arith) (omega arith) (omega arith) (plain _ [] (omega arith) (omega arith) (omega arith) none))
 
-  tiers-bounded : Bounded (tiersRows s)
-  tiers-bounded =
-      parts_within 12 451 (tierCountRows s) (flat_map (tierRows s) (below (tierCount s)))
+  tiers_bounded : Bounded (tiers_rows s)
+  tiers_bounded =
+      parts_within 12 451 (tier_count_rows s) (flat_map (tier_rows s) (below (tier_count s)))
       (short 8 1 _ (omega arith) (plain _ [] (omega arith) (omega arith) (omega arith) none))
       (λ e.
-      let few : tierCount s ≤ 10 = (count_fits (tierCount s) (clear (tierCountRows s) e).1.0).1 in
-      each_within 12 451 (tierRows s) 0 (tierCount s) 10 (omega arith) tier-bounded)
+      let few : tier_count s ≤ 10 = (count_fits (tier_count s) (clear (tier_count_rows s) e).1.0).1 in
+      each_within 12 451 (tier_rows s) 0 (tier_count s) 10 (omega arith) tier_bounded)
 
   -- an end whose count stands at 290 or before, as the closed end's does at the latest
   module _ (n at : ℕ) (place : at ≤ 290) where
-    lash-bounded : (k : ℕ) → k < 8 → Bounded (lashRows n s at k)
-    lash-bounded k h =
-        short (lashPlace at k) 20 _ (omega arith)
+    lash_bounded : (k : ℕ) → k < 8 → Bounded (lash_rows n s at k)
+    lash_bounded k h =
+        short (lash_place at k) 20 _ (omega arith)
         (plain _ _ (omega arith) (omega arith) (omega arith)
         (plain _ _ (omega arith) (omega arith) (omega arith) (plain _ [] (omega arith) (omega arith) (omega arith) none)))
 
-    end-bounded : Bounded (endRows n s at)
-    end-bounded =
-        parts_within 12 451 (lashCountRows s at) (flat_map (lashRows n s at) (below (byte_at s at)))
+    end_bounded : Bounded (end_rows n s at)
+    end_bounded =
+        parts_within 12 451 (lash_count_rows s at) (flat_map (lash_rows n s at) (below (byte_at s at)))
         (short at 1 _ (omega arith) (plain _ [] (omega arith) (omega arith) (omega arith) none))
         (λ e.
-        let few : byte_at s at ≤ 8 = ltb-false 8 (byte_at s at) (clear (lashCountRows s at) e).1.0 in
-        each_within 12 451 (lashRows n s at) 0 (byte_at s at) 8 (omega arith) lash-bounded)
+        let few : byte_at s at ≤ 8 = ltb-false 8 (byte_at s at) (clear (lash_count_rows s at) e).1.0 in
+        each_within 12 451 (lash_rows n s at) 0 (byte_at s at) 8 (omega arith) lash_bounded)
 
-  sheet-bounded : Bounded (sheetRows s)
-  sheet-bounded =
-      parts_within 12 451 (headRows s) _ head-bounded
+  sheet_bounded : Bounded (sheet_rows s)
+  sheet_bounded =
+      parts_within 12 451 (head_rows s) _ head_bounded
       (λ _.
-      parts_within 12 451 (tiersRows s) _ tiers-bounded
+      parts_within 12 451 (tiers_rows s) _ tiers_bounded
       (λ t.
-      let tiers : tierCount s ≤ 10 = few-tiers s (clear (tiersRows s) t) in
-      parts_within 12 451 (doorRows s) _ (end-bounded (tierCount s) (doorPlace s) (omega arith))
+      let tiers : tier_count s ≤ 10 = few_tiers s (clear (tiers_rows s) t) in
+      parts_within 12 451 (door_rows s) _ (end_bounded (tier_count s) (door_place s) (omega arith))
       (λ d.
-      let door : byte_at s (doorPlace s) ≤ 8 = few-lashes (tierCount s) s (doorPlace s) (clear (doorRows s) d) in
-      parts_within 12 451 (closedRows s) _ (end-bounded (tierCount s) (closed_place s) (omega arith))
+      let door : byte_at s (door_place s) ≤ 8 = few_lashes (tier_count s) s (door_place s) (clear (door_rows s) d) in
+      parts_within 12 451 (closed_rows s) _ (end_bounded (tier_count s) (closed_place s) (omega arith))
       (λ c.
-      let closed : byte_at s (closed_place s) ≤ 8 = few-lashes (tierCount s) s (closed_place s) (clear (closedRows s) c) in
+      let closed : byte_at s (closed_place s) ≤ 8 = few_lashes (tier_count s) s (closed_place s) (clear (closed_rows s) c) in
       plain _ [] (omega arith) (omega arith) (omega arith) none))))
 
 -- of a sheet
-pub sheet-numbers :
+pub sheet_numbers :
     (s : List ℕ) {number second : ℕ} →
-    first (sheetRows s) ≡ Refused number second →
+    first (sheet_rows s) ≡ Refused number second →
     (1 ≤ number) × (number ≤ 12) × (second ≤ 451)
-sheet-numbers s e = subst (Within 12 451) e (sheet-bounded s)
+sheet_numbers s e = subst (Within 12 451) e (sheet_bounded s)
 
 -- of an end whose count stands at 290 or before
-pub end-numbers :
+pub end_numbers :
     (n : ℕ) (s : List ℕ) (at : ℕ) →
     at ≤ 290 →
     {number second : ℕ} →
-    first (endRows n s at) ≡ Refused number second →
+    first (end_rows n s at) ≡ Refused number second →
     (1 ≤ number) × (number ≤ 12) × (second ≤ 451)
-end-numbers n s at h e = subst (Within 12 451) e (end-bounded s n at h)
+end_numbers n s at h e = subst (Within 12 451) e (end_bounded s n at h)
 
 wider : {c p : ℕ} → 12 ≤ c → 451 ≤ p → (q : Reading) → Within 12 451 q → Within c p q
 wider a b Taken w = tt
@@ -150,24 +150,24 @@ within_by c p (Refused number second) h = h number second refl
 -- of a call with rows of its own, whose numbers are at most c and second numbers at most p, and which needs so many bytes of `room`
 module _ (c p : ℕ) (table : 13 ≤ c) (places : 451 ≤ p) (s : List ℕ) (own : List Row) (needed room : ℕ) (enough : needed ≤ p)
     (owns : (number second : ℕ) → first own ≡ Refused number second → (1 ≤ number) × (number ≤ c) × (second ≤ p)) where
-  pub call-numbers :
-      {number second : ℕ} → refusalOf s own needed room ≡ Refused number second → (1 ≤ number) × (number ≤ c) × (second ≤ p)
-  unfolding refusalOf first
-  call-numbers e =
+  pub call_numbers :
+      {number second : ℕ} → refusal_of s own needed room ≡ Refused number second → (1 ≤ number) × (number ≤ c) × (second ≤ p)
+  unfolding refusal_of first
+  call_numbers e =
       subst (Within c p) e
-      (parts_within c p (sheetRows s) (own ++ (row13 needed room ∷ [])) (wider (omega arith) places (first (sheetRows s)) (sheet-bounded s))
+      (parts_within c p (sheet_rows s) (own ++ (row13 needed room ∷ [])) (wider (omega arith) places (first (sheet_rows s)) (sheet_bounded s))
       (λ _.
       parts_within c p own (row13 needed room ∷ []) (within_by c p (first own) owns)
       (λ _. row_within c p (row13 needed room) [] (λ _. (omega arith, table, enough)) tt)))
 
 -- of a check with an answer buffer of `room` bytes
-pub check-numbers :
+pub check_numbers :
     (s : List ℕ) (room : ℕ) {number second : ℕ} →
     refusal s room ≡ Refused number second →
-    (1 ≤ number) × (number ≤ 13) × (second ≤ longestAnswer)
+    (1 ≤ number) × (number ≤ 13) × (second ≤ longest_answer)
 unfolding refusal first
-check-numbers s room e =
-    call-numbers 13 longestAnswer (omega arith) (omega arith) s [] longestAnswer room (omega arith) none e
+check_numbers s room e =
+    call_numbers 13 longest_answer (omega arith) (omega arith) s [] longest_answer room (omega arith) none e
   where
-    none : (number second : ℕ) → first [] ≡ Refused number second → (1 ≤ number) × (number ≤ 13) × (second ≤ longestAnswer)
+    none : (number second : ℕ) → first [] ≡ Refused number second → (1 ≤ number) × (number ≤ 13) × (second ≤ longest_answer)
     none number second q = not_taken number second (sym q)

@@ -12,170 +12,170 @@ use Rattle.sheet.specs.declared.Tier.{Tier}
 use Rattle.sheet.specs.declared.Sheet.{Sheet}
 use Rattle.sheet.specs.declared.Reading.{Reading}
 use Rattle.sheet.specs.declared.Reading.TheVariants.{Taken, Refused}
-use Rattle.sheet.specs.Layout.{head_of, tierCount, tierPlace, tierIn, lashPlace, lashIn, doorPlace, closed_place, sparePlace}
-use Rattle.sheet.specs.Layout.{tierFits, lashesIn, tiersIn, sheetOf}
-use Rattle.sheet.specs.Fits.{tierAt, Fits}
-use Rattle.sheet.specs.Refusals.{Row, row2, notLater, first, headRows, tierCountRows, tierRows, tiersRows, lashRows}
-use Rattle.sheet.specs.Refusals.{endRows, doorRows, closedRows, endsRows, sheetRows}
-use Rattle.sheet.specs.inner.Changed.{withTiers}
-use Rattle.sheet.proofs.Clear.{Clear, Parts, parts, clear-taken, clear-join, clear-all, tiers-parts, tiers-there}
-use Rattle.sheet.proofs.Rows.{row-holds, row-passed, or_else, first-append, behind-taken, first-refused}
-use Rattle.sheet.proofs.SameBytes.{head-same, lash-same}
+use Rattle.sheet.specs.Layout.{head_of, tier_count, tier_place, tier_in, lash_place, lash_in, door_place, closed_place, spare_place}
+use Rattle.sheet.specs.Layout.{tier_fits, lashes_in, tiers_in, sheet_of}
+use Rattle.sheet.specs.Fits.{tier_at, Fits}
+use Rattle.sheet.specs.Refusals.{Row, row2, not_later, first, head_rows, tier_count_rows, tier_rows, tiers_rows, lash_rows}
+use Rattle.sheet.specs.Refusals.{end_rows, door_rows, closed_rows, ends_rows, sheet_rows}
+use Rattle.sheet.specs.Inner.Changed.{with_tiers}
+use Rattle.sheet.proofs.Clear.{Clear, Parts, parts, clear_taken, clear_join, clear_all, tiers_parts, tiers_there}
+use Rattle.sheet.proofs.Rows.{row_holds, row_passed, or_else, first_append, behind_taken, first_refused}
+use Rattle.sheet.proofs.SameBytes.{head_same, lash_same}
 
 -- c is a copy of s: as many bytes, the same up to the tier count and from the door end's count on
 pub record OnlyTiersDiffer (s c : List ℕ) : Type 0 where
   pub size : length c ≡ length s
   pub front : (i : ℕ) → i < 9 → byte_at c i ≡ byte_at s i
-  pub ends : (i : ℕ) → doorPlace s ≤ i → byte_at c i ≡ byte_at s i
+  pub ends : (i : ℕ) → door_place s ≤ i → byte_at c i ≡ byte_at s i
 
 module _ {s c : List ℕ} (o : OnlyTiersDiffer s c) where
-  count : tierCount c ≡ tierCount s
+  count : tier_count c ≡ tier_count s
   count = o.front 8 (omega arith)
 
-  head-is : head_of c ≡ head_of s
-  head-is = head-same c s (λ i _ h. o.front i (omega (arith, h)))
+  head_is : head_of c ≡ head_of s
+  head_is = head_same c s (λ i _ h. o.front i (omega (arith, h)))
 
-  lash-is : (at k : ℕ) → doorPlace s ≤ at → lashIn c at k ≡ lashIn s at k
-  lash-is at k h = lash-same c s (lashPlace at k) (λ i l _. o.ends i (omega (arith, h, l)))
+  lash_is : (at k : ℕ) → door_place s ≤ at → lash_in c at k ≡ lash_in s at k
+  lash_is at k h = lash_same c s (lash_place at k) (λ i l _. o.ends i (omega (arith, h, l)))
 
-  later-is : (at k : ℕ) → doorPlace s ≤ at → notLater c at k ≡ notLater s at k
-  unfolding notLater
-  later-is at zero h = refl
-  later-is at (suc k) h = rw (lash-is at k h, lash-is at (suc k) h)
+  later_is : (at k : ℕ) → door_place s ≤ at → not_later c at k ≡ not_later s at k
+  unfolding not_later
+  later_is at zero h = refl
+  later_is at (suc k) h = rw (lash_is at k h, lash_is at (suc k) h)
 
   -- an end whose count stands at `at`
-  module _ (at : ℕ) (h : doorPlace s ≤ at) where
-    lashes-are : lashIn c at ≡ lashIn s at
-    lashes-are = λ i k. lash-is at k h i
+  module _ (at : ℕ) (h : door_place s ≤ at) where
+    lashes_are : lash_in c at ≡ lash_in s at
+    lashes_are = λ i k. lash_is at k h i
 
-    rows_are : (n k : ℕ) → lashRows n c at k ≡ lashRows n s at k
-    rows_are n k = rw (o.size, lash-is at k h, later-is at k h)
+    rows_are : (n k : ℕ) → lash_rows n c at k ≡ lash_rows n s at k
+    rows_are n k = rw (o.size, lash_is at k h, later_is at k h)
 
-    end_is : (n : ℕ) → endRows n c at ≡ endRows n s at
+    end_is : (n : ℕ) → end_rows n c at ≡ end_rows n s at
     end_is n =
-        let each : lashRows n c at ≡ lashRows n s at = λ i k. rows_are n k i in
+        let each : lash_rows n c at ≡ lash_rows n s at = λ i k. rows_are n k i in
         rw (o.size, o.ends at h, each)
 
-    entries-are : lashesIn c at (byte_at c at) ≡ lashesIn s at (byte_at s at)
-    entries-are = rw (o.ends at h, lashes-are)
+    entries_are : lashes_in c at (byte_at c at) ≡ lashes_in s at (byte_at s at)
+    entries_are = rw (o.ends at h, lashes_are)
 
-  door-place : doorPlace c ≡ doorPlace s
-  door-place = ap tierPlace count
+  door_place_lem : door_place c ≡ door_place s
+  door_place_lem = ap tier_place count
 
-  door-first : doorPlace s ≤ doorPlace s
-  door-first = omega arith
+  door_first : door_place s ≤ door_place s
+  door_first = omega arith
 
-  closed-behind : doorPlace s ≤ closed_place s
-  closed-behind = omega arith
+  closed_behind : door_place s ≤ closed_place s
+  closed_behind = omega arith
 
-  door-count : byte_at c (doorPlace c) ≡ byte_at s (doorPlace s)
-  door-count = ap (byte_at c) door-place ∙ o.ends (doorPlace s) door-first
+  door_count : byte_at c (door_place c) ≡ byte_at s (door_place s)
+  door_count = ap (byte_at c) door_place_lem ∙ o.ends (door_place s) door_first
 
-  closed-place : closed_place c ≡ closed_place s
-  closed-place = ap₂ lashPlace door-place door-count
+  closed_place_lem : closed_place c ≡ closed_place s
+  closed_place_lem = ap₂ lash_place door_place_lem door_count
 
-  closed-count : byte_at c (closed_place c) ≡ byte_at s (closed_place s)
-  closed-count = ap (byte_at c) closed-place ∙ o.ends (closed_place s) closed-behind
+  closed_count : byte_at c (closed_place c) ≡ byte_at s (closed_place s)
+  closed_count = ap (byte_at c) closed_place_lem ∙ o.ends (closed_place s) closed_behind
 
-  spare-place : sparePlace c ≡ sparePlace s
-  spare-place = ap₂ lashPlace closed-place closed-count
+  spare_place_lem : spare_place c ≡ spare_place s
+  spare_place_lem = ap₂ lash_place closed_place_lem closed_count
 
   -- what the copy holds
-  pub other-sheet : sheetOf c ≡ withTiers (tiersIn c (tierCount s)) (sheetOf s)
-  unfolding sheetOf
-  other-sheet = λ i. record {
-    head = head-is i;
-    tiers = tiersIn c (count i);
+  pub other_sheet : sheet_of c ≡ with_tiers (tiers_in c (tier_count s)) (sheet_of s)
+  unfolding sheet_of
+  other_sheet = λ i. record {
+    head = head_is i;
+    tiers = tiers_in c (count i);
     ntiers = count i;
-    door = door-is i;
-    ndoor = door-count i;
+    door = door_is i;
+    ndoor = door_count i;
     closed = closed_is i;
-    nclosed = closed-count i;
+    nclosed = closed_count i;
   }
     where
-      door-is : lashesIn c (doorPlace c) (byte_at c (doorPlace c)) ≡ lashesIn s (doorPlace s) (byte_at s (doorPlace s))
-      door-is = ap (λ at. lashesIn c at (byte_at c at)) door-place ∙ entries-are (doorPlace s) door-first
+      door_is : lashes_in c (door_place c) (byte_at c (door_place c)) ≡ lashes_in s (door_place s) (byte_at s (door_place s))
+      door_is = ap (λ at. lashes_in c at (byte_at c at)) door_place_lem ∙ entries_are (door_place s) door_first
 
-      closed_is : lashesIn c (closed_place c) (byte_at c (closed_place c)) ≡ lashesIn s (closed_place s) (byte_at s (closed_place s))
-      closed_is = ap (λ at. lashesIn c at (byte_at c at)) closed-place ∙ entries-are (closed_place s) closed-behind
+      closed_is : lashes_in c (closed_place c) (byte_at c (closed_place c)) ≡ lashes_in s (closed_place s) (byte_at s (closed_place s))
+      closed_is = ap (λ at. lashes_in c at (byte_at c at)) closed_place_lem ∙ entries_are (closed_place s) closed_behind
 
-  head_rows : headRows c ≡ headRows s
-  head_rows = rw (o.size, head-is)
+  head_rows_lem : head_rows c ≡ head_rows s
+  head_rows_lem = rw (o.size, head_is)
 
-  count-rows : tierCountRows c ≡ tierCountRows s
-  count-rows = rw (o.size, count)
+  count_rows : tier_count_rows c ≡ tier_count_rows s
+  count_rows = rw (o.size, count)
 
-  end-rows : (at bt : ℕ) → at ≡ bt → doorPlace s ≤ bt → endRows (tierCount c) c at ≡ endRows (tierCount s) s bt
-  end-rows at bt e h = ap₂ (λ n x. endRows n c x) count e ∙ end_is bt h (tierCount s)
+  end_rows_lem : (at bt : ℕ) → at ≡ bt → door_place s ≤ bt → end_rows (tier_count c) c at ≡ end_rows (tier_count s) s bt
+  end_rows_lem at bt e h = ap₂ (λ n x. end_rows n c x) count e ∙ end_is bt h (tier_count s)
 
-  ends-rows : endsRows c ≡ endsRows s
-  ends-rows =
-      ap₂ (λ (a b : List Row). a ++ b) (end-rows (doorPlace c) (doorPlace s) door-place door-first)
-      (ap₂ (λ (a b : List Row). a ++ b) (end-rows (closed_place c) (closed_place s) closed-place closed-behind)
-      (rw (o.size, spare-place)))
+  ends_rows_lem : ends_rows c ≡ ends_rows s
+  ends_rows_lem =
+      ap₂ (λ (a b : List Row). a ++ b) (end_rows_lem (door_place c) (door_place s) door_place_lem door_first)
+      (ap₂ (λ (a b : List Row). a ++ b) (end_rows_lem (closed_place c) (closed_place s) closed_place_lem closed_behind)
+      (rw (o.size, spare_place_lem)))
 
   -- where s is taken, only the tiers can turn the copy back
-  module _ (taken : first (sheetRows s) ≡ Taken) where
+  module _ (taken : first (sheet_rows s) ≡ Taken) where
     p : Parts s
     p = parts s taken
 
-    abbrev eachTier : List Row
-    eachTier = flat_map (tierRows c) (below (tierCount s))
+    abbrev each_tier : List Row
+    each_tier = flat_map (tier_rows c) (below (tier_count s))
 
     no_more : (r q : Reading) → q ≡ Taken → or_else r q ≡ r
     no_more Taken q e = e
     no_more (Refused number second) q e = refl
 
-    ends-taken : first (endsRows s) ≡ Taken
-    ends-taken =
-        clear-taken (endsRows s)
-        (clear-join (doorRows s) (closedRows s ++ (row2 s (sparePlace s) ∷ [])) p.door
-        (clear-join (closedRows s) (row2 s (sparePlace s) ∷ []) p.closed p.spare))
+    ends_taken : first (ends_rows s) ≡ Taken
+    ends_taken =
+        clear_taken (ends_rows s)
+        (clear_join (door_rows s) (closed_rows s ++ (row2 s (spare_place s) ∷ [])) p.door
+        (clear_join (closed_rows s) (row2 s (spare_place s) ∷ []) p.closed p.spare))
 
-    pub by-tiers : first (sheetRows c) ≡ first eachTier
-    by-tiers =
-        behind-taken (headRows c) (tiersRows c ++ endsRows c) (ap first head_rows ∙ clear-taken (headRows s) p.head)
-        ∙ first-append (tiersRows c) (endsRows c)
-        ∙ no_more (first (tiersRows c)) (first (endsRows c)) (ap first ends-rows ∙ ends-taken)
-        ∙ behind-taken (tierCountRows c) (flat_map (tierRows c) (below (tierCount c)))
-        (ap first count-rows ∙ clear-taken (tierCountRows s) (tiers-parts s p.tiers).0)
-        ∙ ap (λ n. first (flat_map (tierRows c) (below n))) count
+    pub by_tiers : first (sheet_rows c) ≡ first each_tier
+    by_tiers =
+        behind_taken (head_rows c) (tiers_rows c ++ ends_rows c) (ap first head_rows_lem ∙ clear_taken (head_rows s) p.head)
+        ∙ first_append (tiers_rows c) (ends_rows c)
+        ∙ no_more (first (tiers_rows c)) (first (ends_rows c)) (ap first ends_rows_lem ∙ ends_taken)
+        ∙ behind_taken (tier_count_rows c) (flat_map (tier_rows c) (below (tier_count c)))
+        (ap first count_rows ∙ clear_taken (tier_count_rows s) (tiers_parts s p.tiers).0)
+        ∙ ap (λ n. first (flat_map (tier_rows c) (below n))) count
 
     -- the copy's tiers have one size
-    module _ (sizes : (k : ℕ) → k < tierCount s → (tierIn c k).size ≡ (tierIn c 0).size) where
-      there : (k : ℕ) → k < tierCount s → tierPlace k + 12 ≤ length c
-      there k h = rw o.size (omega (arith, h, tiers-there s p.tiers))
+    module _ (sizes : (k : ℕ) → k < tier_count s → (tier_in c k).size ≡ (tier_in c 0).size) where
+      there : (k : ℕ) → k < tier_count s → tier_place k + 12 ≤ length c
+      there k h = rw o.size (omega (arith, h, tiers_there s p.tiers))
 
-      tier-passes : (k : ℕ) → k < tierCount s → tierFits (tierIn c k) ≡ true → Clear (tierRows c k)
-      tier-passes k h f =
-          (le-ltb (length c) (tierPlace k + 12) (there k h), (rw f refl, (rw (eq-eqb _ _ (sizes k h)) refl, tt)))
+      tier_passes : (k : ℕ) → k < tier_count s → tier_fits (tier_in c k) ≡ true → Clear (tier_rows c k)
+      tier_passes k h f =
+          (le-ltb (length c) (tier_place k + 12) (there k h), (rw f refl, (rw (eq-eqb _ _ (sizes k h)) refl, tt)))
 
       -- each is within its limits
-      pub tiers-taken : ((k : ℕ) → k < tierCount s → tierFits (tierIn c k) ≡ true) → first (sheetRows c) ≡ Taken
-      tiers-taken fit = by-tiers ∙ clear-taken eachTier (clear-all (tierRows c) (tierCount s) (λ k h. tier-passes k h (fit k h)))
+      pub tiers_taken : ((k : ℕ) → k < tier_count s → tier_fits (tier_in c k) ≡ true) → first (sheet_rows c) ≡ Taken
+      tiers_taken fit = by_tiers ∙ clear_taken each_tier (clear_all (tier_rows c) (tier_count s) (λ k h. tier_passes k h (fit k h)))
 
       -- tier k is the first that is not
-      pub tier-refused :
+      pub tier_refused :
           (k : ℕ) →
-          k < tierCount s →
-          ((j : ℕ) → j < k → tierFits (tierIn c j) ≡ true) →
-          tierFits (tierIn c k) ≡ false →
-          first (sheetRows c) ≡ Refused 7 (tierPlace k)
-      tier-refused k h fit bad =
-          by-tiers
-          ∙ first-refused (tierRows c) (tierCount s) k h
-          (λ j q. clear-taken (tierRows c j) (tier-passes j (omega (arith, h, q)) (fit j q)))
-          (row-passed _ _ (le-ltb (length c) (tierPlace k + 12) (there k h)) ∙ row-holds _ _ (rw bad refl))
+          k < tier_count s →
+          ((j : ℕ) → j < k → tier_fits (tier_in c j) ≡ true) →
+          tier_fits (tier_in c k) ≡ false →
+          first (sheet_rows c) ≡ Refused 7 (tier_place k)
+      tier_refused k h fit bad =
+          by_tiers
+          ∙ first_refused (tier_rows c) (tier_count s) k h
+          (λ j q. clear_taken (tier_rows c j) (tier_passes j (omega (arith, h, q)) (fit j q)))
+          (row_passed _ _ (le-ltb (length c) (tier_place k + 12) (there k h)) ∙ row_holds _ _ (rw bad refl))
 
 -- a decoded sheet within its limits is so with other tiers that are, and have one size
-pub with-tiers-fit :
+pub with_tiers_fit :
     {t : Sheet} →
     Fits t →
     (tiers : List Tier) →
-    ((k : ℕ) → k < t.ntiers → tierFits (tierAt tiers k) ≡ true) →
-    ((k : ℕ) → k < t.ntiers → (tierAt tiers k).size ≡ (tierAt tiers 0).size) →
-    Fits (withTiers tiers t)
-with-tiers-fit f tiers fit sizes =
+    ((k : ℕ) → k < t.ntiers → tier_fits (tier_at tiers k) ≡ true) →
+    ((k : ℕ) → k < t.ntiers → (tier_at tiers k).size ≡ (tier_at tiers 0).size) →
+    Fits (with_tiers tiers t)
+with_tiers_fit f tiers fit sizes =
     record {
       rule = f.rule;
       zero = f.zero;

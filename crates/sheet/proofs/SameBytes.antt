@@ -4,7 +4,7 @@ use mathlib.Core.List.{List}
 use mathlib.Core.Path.{◌≡◌}
 use native.Mathlib.Omega.{arith}
 use Rattle.arith.specs.Bytes.{le2, le4, byte_at}
-use Rattle.sheet.specs.Layout.{head_of, tierOf, lashOf}
+use Rattle.sheet.specs.Layout.{head_of, tier_of, lash_of}
 
 module _ (s t : List ℕ) where
   -- they agree on `size` bytes from `at`
@@ -22,9 +22,9 @@ module _ (s t : List ℕ) where
     four d h =
         rw (two d (omega arith), same (at + d + 2) (omega arith) (omega arith), same (at + d + 2 + 1) (omega arith) (omega arith))
 
-  pub head-same : Agree 0 8 → head_of s ≡ head_of t
+  pub head_same : Agree 0 8 → head_of s ≡ head_of t
   unfolding head_of
-  head-same h =
+  head_same h =
       rw (
         one 0 8 h 0 (omega arith),
         one 0 8 h 1 (omega arith),
@@ -33,9 +33,9 @@ module _ (s t : List ℕ) where
         four 0 8 h 4 (omega arith),
       )
 
-  pub tier-same : (at : ℕ) → Agree at 12 → tierOf s at ≡ tierOf t at
-  unfolding tierOf
-  tier-same at h =
+  pub tier_same : (at : ℕ) → Agree at 12 → tier_of s at ≡ tier_of t at
+  unfolding tier_of
+  tier_same at h =
       rw (
         h at (omega arith) (omega arith),
         one at 12 h 1 (omega arith),
@@ -46,9 +46,9 @@ module _ (s t : List ℕ) where
         two at 12 h 10 (omega arith),
       )
 
-  pub lash-same : (at : ℕ) → Agree at 20 → lashOf s at ≡ lashOf t at
-  unfolding lashOf
-  lash-same at h =
+  pub lash_same : (at : ℕ) → Agree at 20 → lash_of s at ≡ lash_of t at
+  unfolding lash_of
+  lash_same at h =
       rw (
         h at (omega arith) (omega arith),
         one at 20 h 1 (omega arith),

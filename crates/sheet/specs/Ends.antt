@@ -9,9 +9,9 @@ pub data End : Type 0 where
   closed : End
 
 -- the tiers of a sheet, bottom first, and the lashes of an end, in sheet order
-abbrev pub tiersOf : Sheet → List Tier
-tiersOf t = take t.ntiers t.tiers
+abbrev pub tiers_of : Sheet → List Tier
+tiers_of t = take t.ntiers t.tiers
 
-abbrev pub lashesOf : End → Sheet → List Lash
-lashesOf door t = take t.ndoor t.door
-lashesOf closed t = take t.nclosed t.closed
+abbrev pub lashes_of : End → Sheet → List Lash
+lashes_of door t = take t.ndoor t.door
+lashes_of closed t = take t.nclosed t.closed

@@ -22,8 +22,8 @@ head_of s =
     }
 
 -- a tier, 12 bytes: size, wind, height, mass, A_T, A_Vmax, A_Vmin
-unfoldable pub tierOf : List ℕ → ℕ → Tier
-tierOf s at =
+unfoldable pub tier_of : List ℕ → ℕ → Tier
+tier_of s at =
     record {
       size = byte_at s at;
       wind = byte_at s (at + 1);
@@ -35,8 +35,8 @@ tierOf s at =
     }
 
 -- a lash, 20 bytes: tier, hook, kind, material, LX, LY, LZ, area, modulus, breaking load
-unfoldable pub lashOf : List ℕ → ℕ → Lash
-lashOf s at =
+unfoldable pub lash_of : List ℕ → ℕ → Lash
+lash_of s at =
     record {
       tier = byte_at s at;
       hook = byte_at s (at + 1);
@@ -53,31 +53,31 @@ lashOf s at =
 -- Places
 
 -- the tier count follows the head; the tiers, counted from 0 here, follow it
-abbrev pub tierCount : List ℕ → ℕ
-tierCount s = byte_at s 8
+abbrev pub tier_count : List ℕ → ℕ
+tier_count s = byte_at s 8
 
-abbrev pub tierPlace : ℕ → ℕ
-tierPlace k = 9 + 12 * k
+abbrev pub tier_place : ℕ → ℕ
+tier_place k = 9 + 12 * k
 
-abbrev pub tierIn : List ℕ → ℕ → Tier
-tierIn s k = tierOf s (tierPlace k)
+abbrev pub tier_in : List ℕ → ℕ → Tier
+tier_in s k = tier_of s (tier_place k)
 
 -- an end's lashes, counted from 0, follow its count, which stands at `at`
-abbrev pub lashPlace : ℕ → ℕ → ℕ
-lashPlace at k = at + 1 + 20 * k
+abbrev pub lash_place : ℕ → ℕ → ℕ
+lash_place at k = at + 1 + 20 * k
 
-abbrev pub lashIn : List ℕ → ℕ → ℕ → Lash
-lashIn s at k = lashOf s (lashPlace at k)
+abbrev pub lash_in : List ℕ → ℕ → ℕ → Lash
+lash_in s at k = lash_of s (lash_place at k)
 
 -- the door end's count, the closed end's count and the first spare byte: each behind the last entry before it
-abbrev pub doorPlace : List ℕ → ℕ
-doorPlace s = tierPlace (tierCount s)
+abbrev pub door_place : List ℕ → ℕ
+door_place s = tier_place (tier_count s)
 
 abbrev pub closed_place : List ℕ → ℕ
-closed_place s = lashPlace (doorPlace s) (byte_at s (doorPlace s))
+closed_place s = lash_place (door_place s) (byte_at s (door_place s))
 
-abbrev pub sparePlace : List ℕ → ℕ
-sparePlace s = lashPlace (closed_place s) (byte_at s (closed_place s))
+abbrev pub spare_place : List ℕ → ℕ
+spare_place s = lash_place (closed_place s) (byte_at s (closed_place s))
 
 -- Codes and limits
 
@@ -96,12 +96,12 @@ abbrev pub within : ℕ → ℕ → ℕ → Bool
 within lo hi x = leb lo x && leb x hi
 
 -- rule number 1, the class rule, or 2, the fleet standard (document 02, P10)
-abbrev pub ruleFits : ℕ → Bool
-ruleFits x = x is 1 || x is 2
+abbrev pub rule_fits : ℕ → Bool
+rule_fits x = x is 1 || x is 2
 
 -- the wind byte is 0 where a box is sheltered and 1 where it is exposed, and gains 2 where the box stands turned (document 02, P1)
-abbrev pub windCode : Bool → Bool → ℕ
-windCode e t = cond e 1 0 + cond t 2 0
+abbrev pub wind_code : Bool → Bool → ℕ
+wind_code e t = cond e 1 0 + cond t 2 0
 
 abbrev pub exposed : Tier → Bool
 exposed t = t.wind % 2 is 1
@@ -111,8 +111,8 @@ turned t = t.wind / 2 is 1
 
 -- heights 2438 or 2591 for 20 feet, 2591 or 2896 for 40 feet; wind codes 0 to 3; mass 1 to 30,480; A_T 0 to 1,500; A_Vmax 0 to 3,000;
 -- A_Vmin 0 to 1,000 and not above A_Vmax
-unfoldable pub tierFits : Tier → Bool
-tierFits t =
+unfoldable pub tier_fits : Tier → Bool
+tier_fits t =
     (t.size is 20 && (t.height is 2438 || t.height is 2591)
     || t.size is 40 && (t.height is 2591 || t.height is 2896))
     && up_to 3 t.wind
@@ -123,13 +123,13 @@ tierFits t =
     && up_to t.aVmax t.aVmin
 
 -- breaking loads, of the lock and of a lash: 1 to 2,000,000
-unfoldable pub breakingFits : ℕ → Bool
-breakingFits x = within 1 2000000 x
+unfoldable pub breaking_fits : ℕ → Bool
+breaking_fits x = within 1 2000000 x
 
 -- hook 0 or 1; kind 0 or 1; material 0 to 3; LX 0 to 5,000; LY 500 to 10,000; LZ 500 to 20,000; area 50 to 1,000;
 -- modulus 10,000 to 200,000; a breaking load
-unfoldable pub lashFits : Lash → Bool
-lashFits l =
+unfoldable pub lash_fits : Lash → Bool
+lash_fits l =
     up_to 1 l.hook
     && up_to 1 l.kind
     && up_to 3 l.material
@@ -138,43 +138,43 @@ lashFits l =
     && within 500 20000 l.lz
     && within 50 1000 l.area
     && within 10000 200000 l.modulus
-    && breakingFits l.breakingLoad
+    && breaking_fits l.breakingLoad
 
 -- What a sheet holds. An array's entries behind its count are blank
 
-abbrev pub blankTier : Tier
-blankTier = record { size = 0; wind = 0; height = 0; mass = 0; aT = 0; aVmax = 0; aVmin = 0 }
+abbrev pub blank_tier : Tier
+blank_tier = record { size = 0; wind = 0; height = 0; mass = 0; aT = 0; aVmax = 0; aVmin = 0 }
 
-abbrev pub blankLash : Lash
-blankLash =
+abbrev pub blank_lash : Lash
+blank_lash =
     record { tier = 0; hook = 0; kind = 0; material = 0; lx = 0; ly = 0; lz = 0; area = 0; modulus = 0; breakingLoad = 0 }
 
-abbrev pub tiersIn : List ℕ → ℕ → List Tier
-tiersIn s n = padded 10 blankTier (map (tierIn s) (below n))
+abbrev pub tiers_in : List ℕ → ℕ → List Tier
+tiers_in s n = padded 10 blank_tier (map (tier_in s) (below n))
 
-abbrev pub lashesIn : List ℕ → ℕ → ℕ → List Lash
-lashesIn s at n = padded 8 blankLash (map (lashIn s at) (below n))
+abbrev pub lashes_in : List ℕ → ℕ → ℕ → List Lash
+lashes_in s at n = padded 8 blank_lash (map (lash_in s at) (below n))
 
-unfoldable pub sheetOf : List ℕ → Sheet
-sheetOf s =
+unfoldable pub sheet_of : List ℕ → Sheet
+sheet_of s =
     record {
       head = head_of s;
-      tiers = tiersIn s (tierCount s);
-      ntiers = tierCount s;
-      door = lashesIn s (doorPlace s) (byte_at s (doorPlace s));
-      ndoor = byte_at s (doorPlace s);
-      closed = lashesIn s (closed_place s) (byte_at s (closed_place s));
+      tiers = tiers_in s (tier_count s);
+      ntiers = tier_count s;
+      door = lashes_in s (door_place s) (byte_at s (door_place s));
+      ndoor = byte_at s (door_place s);
+      closed = lashes_in s (closed_place s) (byte_at s (closed_place s));
       nclosed = byte_at s (closed_place s);
     }
 
-unfoldable pub blankSheet : Sheet
-blankSheet =
+unfoldable pub blank_sheet : Sheet
+blank_sheet =
     record {
       head = record { rule = 0; route = 0; lockMaterial = 0; zero = 0; lockBreakingLoad = 0 };
-      tiers = replicate 10 blankTier;
+      tiers = replicate 10 blank_tier;
       ntiers = 0;
-      door = replicate 8 blankLash;
+      door = replicate 8 blank_lash;
       ndoor = 0;
-      closed = replicate 8 blankLash;
+      closed = replicate 8 blank_lash;
       nclosed = 0;
     }

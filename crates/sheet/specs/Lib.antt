@@ -6,4 +6,4 @@ pub mod Ends
 pub mod Fits
 pub mod Written
 pub mod Theorems
-pub mod inner
+pub mod Inner

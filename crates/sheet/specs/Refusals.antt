@@ -7,8 +7,8 @@ use Rattle.sheet.specs.declared.Sheet.{Sheet}
 use Rattle.sheet.specs.declared.Reading.{Reading}
 use Rattle.sheet.specs.declared.Reading.TheVariants.{Taken, Refused}
 use Rattle.sheet.specs.declared.Decoded.{Decoded}
-use Rattle.sheet.specs.Layout.{head_of, tierCount, tierPlace, tierIn, lashPlace, lashIn, doorPlace, closed_place, sparePlace, ◌is◌}
-use Rattle.sheet.specs.Layout.{◌above◌, ruleFits, tierFits, breakingFits, lashFits, sheetOf, blankSheet}
+use Rattle.sheet.specs.Layout.{head_of, tier_count, tier_place, tier_in, lash_place, lash_in, door_place, closed_place, spare_place, ◌is◌}
+use Rattle.sheet.specs.Layout.{◌above◌, rule_fits, tier_fits, breaking_fits, lash_fits, sheet_of, blank_sheet}
 use Rattle.arith.specs.Bytes.{byte_at}
 use Rattle.arith.specs.Lists.{below}
 
@@ -31,7 +31,7 @@ row2 s at = row 2 at (length s above at)
 
 -- 3, 0: rule number other than 1 or 2 (document 02, P10), or the zero byte not zero
 abbrev pub row3 : List ℕ → Row
-row3 s = row 3 0 (not (ruleFits (head_of s).rule) || not ((head_of s).zero is 0))
+row3 s = row 3 0 (not (rule_fits (head_of s).rule) || not ((head_of s).zero is 0))
 
 -- 4, 1: route above 12
 abbrev pub row4 : List ℕ → Row
@@ -39,19 +39,19 @@ row4 s = row 4 1 ((head_of s).route above 12)
 
 -- 5, 2: lock material above 2, or its breaking load outside the limits
 abbrev pub row5 : List ℕ → Row
-row5 s = row 5 2 ((head_of s).lockMaterial above 2 || not (breakingFits (head_of s).lockBreakingLoad))
+row5 s = row 5 2 ((head_of s).lockMaterial above 2 || not (breaking_fits (head_of s).lockBreakingLoad))
 
 -- 6, 8: tier count 0 or above 10
 abbrev pub row6 : List ℕ → Row
-row6 s = row 6 8 (tierCount s is 0 || tierCount s above 10)
+row6 s = row 6 8 (tier_count s is 0 || tier_count s above 10)
 
 -- 7, offset of the tier: a tier field outside its codes or limits
 abbrev pub row7 : List ℕ → ℕ → Row
-row7 s k = row 7 (tierPlace k) (not (tierFits (tierIn s k)))
+row7 s k = row 7 (tier_place k) (not (tier_fits (tier_in s k)))
 
 -- 8, offset of the tier: size differs from tier 1
 abbrev pub row8 : List ℕ → ℕ → Row
-row8 s k = row 8 (tierPlace k) (not ((tierIn s k).size is (tierIn s 0).size))
+row8 s k = row 8 (tier_place k) (not ((tier_in s k).size is (tier_in s 0).size))
 
 -- 9, offset of the count: lash count above 8
 abbrev pub row9 : List ℕ → ℕ → Row
@@ -59,14 +59,14 @@ row9 s at = row 9 at (byte_at s at above 8)
 
 -- 10, offset of the lash: hook, kind, material or a measure outside codes or limits
 abbrev pub row10 : List ℕ → ℕ → ℕ → Row
-row10 s at k = row 10 (lashPlace at k) (not (lashFits (lashIn s at k)))
+row10 s at k = row 10 (lash_place at k) (not (lash_fits (lash_in s at k)))
 
 -- 11, offset of the lash: tier 0 or above the tier count n, or bottom corner of tier 1
-unfoldable pub offTiers : ℕ → Lash → Bool
-offTiers n l = l.tier is 0 || l.tier above n || l.tier is 1 && l.hook is 1
+unfoldable pub off_tiers : ℕ → Lash → Bool
+off_tiers n l = l.tier is 0 || l.tier above n || l.tier is 1 && l.hook is 1
 
 abbrev pub row11 : ℕ → List ℕ → ℕ → ℕ → Row
-row11 n s at k = row 11 (lashPlace at k) (offTiers n (lashIn s at k))
+row11 n s at k = row 11 (lash_place at k) (off_tiers n (lash_in s at k))
 
 -- 12, offset of the lash: not later than the lash before it at the same end, by tier, then hook, then kind
 -- (`later a b`: b is later than a. The first lash of an end has none before it)
@@ -76,12 +76,12 @@ later a b =
     || b.tier is a.tier && (b.hook above a.hook
     || b.hook is a.hook && b.kind above a.kind)
 
-unfoldable pub notLater : List ℕ → ℕ → ℕ → Bool
-notLater s at zero = false
-notLater s at (suc k) = not (later (lashIn s at k) (lashIn s at (suc k)))
+unfoldable pub not_later : List ℕ → ℕ → ℕ → Bool
+not_later s at zero = false
+not_later s at (suc k) = not (later (lash_in s at k) (lash_in s at (suc k)))
 
 abbrev pub row12 : List ℕ → ℕ → ℕ → Row
-row12 s at k = row 12 (lashPlace at k) (notLater s at k)
+row12 s at k = row 12 (lash_place at k) (not_later s at k)
 
 -- 13, 834: answer buffer under 834 bytes (`needed`: what a call needs, of which the buffer has `room`)
 abbrev pub row13 : ℕ → ℕ → Row
@@ -93,40 +93,40 @@ infixr 20 ◌then◌
 abbrev pub ◌then◌ : List Row → List Row → List Row
 a then b = a ++ b
 
-abbrev pub headRows : List ℕ → List Row
-headRows s = row1 s 0 8 ∷ row3 s ∷ row4 s ∷ row5 s ∷ []
+abbrev pub head_rows : List ℕ → List Row
+head_rows s = row1 s 0 8 ∷ row3 s ∷ row4 s ∷ row5 s ∷ []
 
-abbrev pub tierCountRows : List ℕ → List Row
-tierCountRows s = row1 s 8 1 ∷ row6 s ∷ []
+abbrev pub tier_count_rows : List ℕ → List Row
+tier_count_rows s = row1 s 8 1 ∷ row6 s ∷ []
 
-abbrev pub tierRows : List ℕ → ℕ → List Row
-tierRows s k = row1 s (tierPlace k) 12 ∷ row7 s k ∷ row8 s k ∷ []
+abbrev pub tier_rows : List ℕ → ℕ → List Row
+tier_rows s k = row1 s (tier_place k) 12 ∷ row7 s k ∷ row8 s k ∷ []
 
-abbrev pub tiersRows : List ℕ → List Row
-tiersRows s = tierCountRows s then flat_map (tierRows s) (below (tierCount s))
+abbrev pub tiers_rows : List ℕ → List Row
+tiers_rows s = tier_count_rows s then flat_map (tier_rows s) (below (tier_count s))
 
 -- an end of a stack of n tiers, whose count stands at `at`: the count, then its lashes
-abbrev pub lashCountRows : List ℕ → ℕ → List Row
-lashCountRows s at = row1 s at 1 ∷ row9 s at ∷ []
+abbrev pub lash_count_rows : List ℕ → ℕ → List Row
+lash_count_rows s at = row1 s at 1 ∷ row9 s at ∷ []
 
-abbrev pub lashRows : ℕ → List ℕ → ℕ → ℕ → List Row
-lashRows n s at k = row1 s (lashPlace at k) 20 ∷ row10 s at k ∷ row11 n s at k ∷ row12 s at k ∷ []
+abbrev pub lash_rows : ℕ → List ℕ → ℕ → ℕ → List Row
+lash_rows n s at k = row1 s (lash_place at k) 20 ∷ row10 s at k ∷ row11 n s at k ∷ row12 s at k ∷ []
 
-abbrev pub endRows : ℕ → List ℕ → ℕ → List Row
-endRows n s at = lashCountRows s at then flat_map (lashRows n s at) (below (byte_at s at))
+abbrev pub end_rows : ℕ → List ℕ → ℕ → List Row
+end_rows n s at = lash_count_rows s at then flat_map (lash_rows n s at) (below (byte_at s at))
 
-abbrev pub doorRows : List ℕ → List Row
-doorRows s = endRows (tierCount s) s (doorPlace s)
+abbrev pub door_rows : List ℕ → List Row
+door_rows s = end_rows (tier_count s) s (door_place s)
 
-abbrev pub closedRows : List ℕ → List Row
-closedRows s = endRows (tierCount s) s (closed_place s)
+abbrev pub closed_rows : List ℕ → List Row
+closed_rows s = end_rows (tier_count s) s (closed_place s)
 
 -- 2 follows the last entry
-abbrev pub endsRows : List ℕ → List Row
-endsRows s = doorRows s then closedRows s then row2 s (sparePlace s) ∷ []
+abbrev pub ends_rows : List ℕ → List Row
+ends_rows s = door_rows s then closed_rows s then row2 s (spare_place s) ∷ []
 
-abbrev pub sheetRows : List ℕ → List Row
-sheetRows s = headRows s then tiersRows s then endsRows s
+abbrev pub sheet_rows : List ℕ → List Row
+sheet_rows s = head_rows s then tiers_rows s then ends_rows s
 
 -- the first row that holds turns the sheet back; where none does, it is taken
 unfoldable pub first : List Row → Reading
@@ -134,21 +134,21 @@ first [] = Taken
 first (r ∷ rs) = cond r.holds (Refused r.number r.second) (first rs)
 
 -- a sheet decoded: as it stands where it is taken, a blank one where it is turned back
-abbrev pub unlessRefused : Reading → Sheet → Decoded
-unlessRefused Taken held = record { reading = Taken; sheet = held }
-unlessRefused (Refused number second) held = record { reading = Refused number second; sheet = blankSheet }
+abbrev pub unless_refused : Reading → Sheet → Decoded
+unless_refused Taken held = record { reading = Taken; sheet = held }
+unless_refused (Refused number second) held = record { reading = Refused number second; sheet = blank_sheet }
 
 unfoldable pub decoded : List ℕ → Decoded
-decoded s = unlessRefused (first (sheetRows s)) (sheetOf s)
+decoded s = unless_refused (first (sheet_rows s)) (sheet_of s)
 
 -- 13 comes last: what a call is turned back for that reads the sheet, then tests rows of its own, and needs so many bytes of an answer
 -- buffer of `room`
-unfoldable pub refusalOf : List ℕ → List Row → ℕ → ℕ → Reading
-refusalOf s own needed room = first (sheetRows s then own then row13 needed room ∷ [])
+unfoldable pub refusal_of : List ℕ → List Row → ℕ → ℕ → Reading
+refusal_of s own needed room = first (sheet_rows s then own then row13 needed room ∷ [])
 
 -- the check of a stack has no rows of its own, and needs this room, in which every answer fits
-abbrev pub longestAnswer : ℕ
-longestAnswer = 834
+abbrev pub longest_answer : ℕ
+longest_answer = 834
 
 unfoldable pub refusal : List ℕ → ℕ → Reading
-refusal s room = refusalOf s [] longestAnswer room
+refusal s room = refusal_of s [] longest_answer room

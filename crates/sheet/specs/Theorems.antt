@@ -4,7 +4,7 @@ use Rattle.arith.specs.Bytes.{byte_at}
 use Rattle.sheet.specs.declared.Tier.{Tier}
 use Rattle.sheet.specs.declared.Sheet.{Sheet}
 use Rattle.sheet.specs.declared.Reading.TheVariants.{Taken}
-use Rattle.sheet.specs.Layout.{windCode, exposed, turned, tierFits}
+use Rattle.sheet.specs.Layout.{wind_code, exposed, turned, tier_fits}
 use Rattle.sheet.specs.Refusals.{decoded}
 use Rattle.sheet.specs.Fits.{Fits, Padded}
 use Rattle.sheet.specs.Written.{written}
@@ -26,4 +26,4 @@ WrittenInBytes = (t : Sheet) → Fits t → (i : ℕ) → byte_at (written t) i 
 
 -- the wind byte of a tier within the limits is the code of what its two tests say (proofs/Limits)
 abbrev pub WindCodes : Type 0
-WindCodes = (t : Tier) → tierFits t ≡ true → t.wind ≡ windCode (exposed t) (turned t)
+WindCodes = (t : Tier) → tier_fits t ≡ true → t.wind ≡ wind_code (exposed t) (turned t)

@@ -6,17 +6,17 @@ use Rattle.sheet.specs.declared.Head.{Head}
 use Rattle.sheet.specs.declared.Tier.{Tier}
 use Rattle.sheet.specs.declared.Lash.{Lash}
 use Rattle.sheet.specs.declared.Sheet.{Sheet}
-use Rattle.sheet.specs.Fits.{tierAt, lashAt}
+use Rattle.sheet.specs.Fits.{tier_at, lash_at}
 
-abbrev pub headBytes : Head → List ℕ
-headBytes h = h.rule ∷ h.route ∷ h.lockMaterial ∷ h.zero ∷ bytes4 h.lockBreakingLoad
+abbrev pub head_bytes : Head → List ℕ
+head_bytes h = h.rule ∷ h.route ∷ h.lockMaterial ∷ h.zero ∷ bytes4 h.lockBreakingLoad
 
-abbrev pub tierBytes : Tier → List ℕ
-tierBytes t =
+abbrev pub tier_bytes : Tier → List ℕ
+tier_bytes t =
     t.size ∷ t.wind ∷ bytes2 t.height ++ bytes2 t.mass ++ bytes2 t.aT ++ bytes2 t.aVmax ++ bytes2 t.aVmin
 
-abbrev pub lashBytes : Lash → List ℕ
-lashBytes l =
+abbrev pub lash_bytes : Lash → List ℕ
+lash_bytes l =
     l.tier
     ∷ l.hook
     ∷ l.kind
@@ -25,7 +25,7 @@ lashBytes l =
 
 unfoldable pub written : Sheet → List ℕ
 written t =
-    headBytes t.head
-    ++ (counted t.ntiers (λ k. tierBytes (tierAt t.tiers k))
-    ++ (counted t.ndoor (λ k. lashBytes (lashAt t.door k))
-    ++ counted t.nclosed (λ k. lashBytes (lashAt t.closed k))))
+    head_bytes t.head
+    ++ (counted t.ntiers (λ k. tier_bytes (tier_at t.tiers k))
+    ++ (counted t.ndoor (λ k. lash_bytes (lash_at t.door k))
+    ++ counted t.nclosed (λ k. lash_bytes (lash_at t.closed k))))

@@ -3,8 +3,8 @@
 
 ghost use Rattle.std.specs.Prelude.{◌≡◌, ◌<◌, ◌≤◌};
 ghost use Rattle.sheet.specs.Layout.{exposed, turned};
-ghost use Rattle.sheet.specs.Lashings.{lashingOf};
-ghost use Rattle.sheet.specs.Routes.{routePercent};
+ghost use Rattle.sheet.specs.Lashings.{lashing_of};
+ghost use Rattle.sheet.specs.Routes.{route_percent};
 
 // Fields have the widths of the sheet's own fields, so that a sheet is cheap to copy.
 
@@ -95,7 +95,7 @@ pub enum Lashing {
 }
 
 pub fn lashing_of(l: Lash) -> Lashing
-    ensures { result ≡ lashingOf l }
+    ensures { result ≡ lashing_of l }
 {
     if l.kind == 0 {
         return Lashing::Cross(l);
@@ -108,7 +108,7 @@ pub const ROUTE_PERCENT: [u64; 13] = [100, 87, 96, 95, 94, 100, 95, 73, 86, 90, 
 
 pub fn route_percent(route: u8) -> u64
     requires { route < 13 }
-    ensures { (result ≡ routePercent route) × (73 ≤ result) × (result ≤ 100) }
+    ensures { (result ≡ route_percent route) × (73 ≤ result) × (result ≤ 100) }
 {
     ROUTE_PERCENT[route as usize]
 }

@@ -3,15 +3,15 @@
 ghost use Rattle.std.specs.Prelude.{◌≡◌, ◌+◌, ◌*◌, ◌<◌, ◌≤◌};
 ghost use mathlib.Core.List.{flat_map};
 ghost use Rattle.arith.specs.Lists.{below};
-ghost use Rattle.sheet.specs.Refusals.{first, headRows, tierRows, tiersRows, lashRows, endRows, doorRows};
-ghost use Rattle.sheet.specs.Refusals.{closedRows, endsRows, sheetRows};
-ghost use Rattle.sheet_limits.specs.inner.Ranks.{leastRank};
+ghost use Rattle.sheet.specs.Refusals.{first, head_rows, tier_rows, tiers_rows, lash_rows, end_rows, door_rows};
+ghost use Rattle.sheet.specs.Refusals.{closed_rows, ends_rows, sheet_rows};
+ghost use Rattle.sheet_limits.specs.Inner.Ranks.{least_rank};
 
 use sheet::Reading;
 use sheet_limits::{breaking_fits, lash_fits, off_tiers, rank, tier_fits};
 
 fn test_head(s: &[u8]) -> Reading
-    ensures { result ≡ first (headRows s.now) }
+    ensures { result ≡ first (head_rows s.now) }
 {
     if s.len() < 8 {
         return Reading::Refused(1, s.len());
@@ -31,7 +31,7 @@ fn test_head(s: &[u8]) -> Reading
 
 fn test_tier(s: &[u8], k: usize) -> Reading
     requires { k < 10 }
-    ensures { result ≡ first (tierRows s.now k) }
+    ensures { result ≡ first (tier_rows s.now k) }
 {
     let at = 9 + 12 * k;
     if s.len() < at + 12 {
@@ -49,7 +49,7 @@ fn test_tier(s: &[u8], k: usize) -> Reading
 
 fn test_each_tier(s: &[u8], n: usize) -> Reading
     requires { n ≤ 10 }
-    ensures { result ≡ first (flat_map (tierRows s.now) (below n)) }
+    ensures { result ≡ first (flat_map (tier_rows s.now) (below n)) }
 {
     let mut k = 0;
     while k < n {
@@ -62,7 +62,7 @@ fn test_each_tier(s: &[u8], n: usize) -> Reading
 }
 
 fn test_tiers(s: &[u8]) -> Reading
-    ensures { result ≡ first (tiersRows s.now) }
+    ensures { result ≡ first (tiers_rows s.now) }
 {
     if s.len() < 9 {
         return Reading::Refused(1, s.len());
@@ -76,8 +76,8 @@ fn test_tiers(s: &[u8]) -> Reading
 
 // Lash k of an end whose count stands at `at`, on a stack of n tiers: `least` is the least rank that it may have.
 fn test_lash(n: u64, s: &[u8], at: usize, k: usize, least: u64) -> Reading
-    requires { (at < 10000) × (k < 8) × (least ≡ leastRank s.now at k) }
-    ensures { result ≡ first (lashRows n s.now at k) }
+    requires { (at < 10000) × (k < 8) × (least ≡ least_rank s.now at k) }
+    ensures { result ≡ first (lash_rows n s.now at k) }
 {
     let place = at + 1 + 20 * k;
     if s.len() < place + 20 {
@@ -98,7 +98,7 @@ fn test_lash(n: u64, s: &[u8], at: usize, k: usize, least: u64) -> Reading
 
 fn test_each_lash(n: u64, s: &[u8], at: usize, count: usize) -> Reading
     requires { (at < 10000) × (count ≤ 8) }
-    ensures { result ≡ first (flat_map (lashRows n s.now at) (below count)) }
+    ensures { result ≡ first (flat_map (lash_rows n s.now at) (below count)) }
 {
     let mut k = 0;
     let mut least = 0;
@@ -115,7 +115,7 @@ fn test_each_lash(n: u64, s: &[u8], at: usize, count: usize) -> Reading
 // An end of a stack of n tiers: the count at `at`, then its lashes.
 pub fn test_end(n: u64, s: &[u8], at: usize) -> Reading
     requires { at < 10000 }
-    ensures { result ≡ first (endRows n s.now at) }
+    ensures { result ≡ first (end_rows n s.now at) }
 {
     if s.len() < at + 1 {
         return Reading::Refused(1, s.len());
@@ -128,13 +128,13 @@ pub fn test_end(n: u64, s: &[u8], at: usize) -> Reading
 }
 
 fn test_door(s: &[u8]) -> Reading
-    ensures { result ≡ first (doorRows s.now) }
+    ensures { result ≡ first (door_rows s.now) }
 {
     test_end(sheet_fields::byte_at(s, 8), s, sheet_fields::door_place(s))
 }
 
 fn test_closed(s: &[u8]) -> Reading
-    ensures { result ≡ first (closedRows s.now) }
+    ensures { result ≡ first (closed_rows s.now) }
 {
     test_end(
         sheet_fields::byte_at(s, 8),
@@ -145,7 +145,7 @@ fn test_closed(s: &[u8]) -> Reading
 
 // Both ends, then whether bytes follow the last entry.
 fn test_ends(s: &[u8]) -> Reading
-    ensures { result ≡ first (endsRows s.now) }
+    ensures { result ≡ first (ends_rows s.now) }
 {
     if let Reading::Refused(number, second) = test_door(s) {
         return Reading::Refused(number, second);
@@ -161,7 +161,7 @@ fn test_ends(s: &[u8]) -> Reading
 }
 
 pub fn test_sheet(s: &[u8]) -> Reading
-    ensures { result ≡ first (sheetRows s.now) }
+    ensures { result ≡ first (sheet_rows s.now) }
 {
     if let Reading::Refused(number, second) = test_head(s) {
         return Reading::Refused(number, second);

@@ -3,10 +3,10 @@
 ghost use Rattle.std.specs.Prelude.{◌≡◌, ◌+◌, ◌*◌, ◌<◌, ◌≤◌, length};
 ghost use Rattle.arith.specs.Bytes.{le2, le4, byte_at};
 ghost use Rattle.sheet.specs.declared.Reading.TheVariants.{Taken};
-ghost use Rattle.sheet.specs.Layout.{head_of, tierOf, lashOf, tierPlace, lashPlace, doorPlace, closed_place, sparePlace};
-ghost use Rattle.sheet.specs.Layout.{tiersIn, lashesIn, sheetOf, blankTier, blankLash, blankSheet};
-ghost use Rattle.sheet.specs.Refusals.{first, sheetRows};
-ghost use Rattle.sheet.specs.inner.Changed.{withTiers};
+ghost use Rattle.sheet.specs.Layout.{head_of, tier_of, lash_of, tier_place, lash_place, door_place, closed_place, spare_place};
+ghost use Rattle.sheet.specs.Layout.{tiers_in, lashes_in, sheet_of, blank_tier, blank_lash, blank_sheet};
+ghost use Rattle.sheet.specs.Refusals.{first, sheet_rows};
+ghost use Rattle.sheet.specs.Inner.Changed.{with_tiers};
 
 use arith::bytes::{read1, read2, read4};
 use sheet::{Head, Lash, Sheet, Tier};
@@ -58,7 +58,7 @@ pub fn head_of(s: &[u8]) -> Head
 
 pub fn tier_of(s: &[u8], at: usize) -> Tier
     requires { at + 12 ≤ length s.now }
-    ensures { result ≡ tierOf s.now at }
+    ensures { result ≡ tier_of s.now at }
 {
     Tier {
         size: field1(s, at),
@@ -73,7 +73,7 @@ pub fn tier_of(s: &[u8], at: usize) -> Tier
 
 pub fn lash_of(s: &[u8], at: usize) -> Lash
     requires { at + 20 ≤ length s.now }
-    ensures { result ≡ lashOf s.now at }
+    ensures { result ≡ lash_of s.now at }
 {
     Lash {
         tier: field1(s, at),
@@ -91,7 +91,7 @@ pub fn lash_of(s: &[u8], at: usize) -> Lash
 
 // Where the door end's count, the closed end's count and the first spare byte stand.
 pub fn door_place(s: &[u8]) -> usize
-    ensures { (result ≡ doorPlace s.now) × (result < 4000) }
+    ensures { (result ≡ door_place s.now) × (result < 4000) }
 {
     9 + 12 * (byte_at(s, 8) as usize)
 }
@@ -104,14 +104,14 @@ pub fn closed_place(s: &[u8]) -> usize
 }
 
 pub fn spare_place(s: &[u8]) -> usize
-    ensures { result ≡ sparePlace s.now }
+    ensures { result ≡ spare_place s.now }
 {
     let closed = closed_place(s);
     closed + 1 + 20 * (byte_at(s, closed) as usize)
 }
 
 pub fn blank_tier() -> Tier
-    ensures { result ≡ blankTier }
+    ensures { result ≡ blank_tier }
 {
     Tier {
         size: 0,
@@ -125,7 +125,7 @@ pub fn blank_tier() -> Tier
 }
 
 pub fn blank_lash() -> Lash
-    ensures { result ≡ blankLash }
+    ensures { result ≡ blank_lash }
 {
     Lash {
         tier: 0,
@@ -142,7 +142,7 @@ pub fn blank_lash() -> Lash
 }
 
 pub fn blank_sheet() -> Sheet
-    ensures { result ≡ blankSheet }
+    ensures { result ≡ blank_sheet }
 {
     Sheet {
         head: Head {
@@ -163,8 +163,8 @@ pub fn blank_sheet() -> Sheet
 
 // The first n tiers.
 fn tiers_of(s: &[u8], n: usize) -> [Tier; 10]
-    requires { (n ≤ 10) × (tierPlace n ≤ length s.now) }
-    ensures { result ≡ tiersIn s.now n }
+    requires { (n ≤ 10) × (tier_place n ≤ length s.now) }
+    ensures { result ≡ tiers_in s.now n }
 {
     let mut tiers = [blank_tier(); 10];
     let mut k = 0;
@@ -177,8 +177,8 @@ fn tiers_of(s: &[u8], n: usize) -> [Tier; 10]
 
 // The first n lashes of an end whose count stands at `at`.
 pub fn lashes_of(s: &[u8], at: usize, n: usize) -> [Lash; 8]
-    requires { (n ≤ 8) × (lashPlace at n ≤ length s.now) }
-    ensures { result ≡ lashesIn s.now at n }
+    requires { (n ≤ 8) × (lash_place at n ≤ length s.now) }
+    ensures { result ≡ lashes_in s.now at n }
 {
     let mut lashes = [blank_lash(); 8];
     let mut k = 0;
@@ -191,16 +191,16 @@ pub fn lashes_of(s: &[u8], at: usize, n: usize) -> [Lash; 8]
 
 // The tiers of a taken sheet.
 pub fn own_tiers(s: &[u8]) -> [Tier; 10]
-    requires { first (sheetRows s.now) ≡ Taken }
-    ensures { result ≡ (sheetOf s.now).tiers }
+    requires { first (sheet_rows s.now) ≡ Taken }
+    ensures { result ≡ (sheet_of s.now).tiers }
 {
     tiers_of(s, byte_at(s, 8) as usize)
 }
 
 // What a taken sheet holds, with these tiers in place of its own.
 pub fn sheet_with(s: &[u8], tiers: [Tier; 10]) -> Sheet
-    requires { first (sheetRows s.now) ≡ Taken }
-    ensures { result ≡ withTiers tiers (sheetOf s.now) }
+    requires { first (sheet_rows s.now) ≡ Taken }
+    ensures { result ≡ with_tiers tiers (sheet_of s.now) }
 {
     let n = byte_at(s, 8) as usize;
     let door = door_place(s);
@@ -221,8 +221,8 @@ pub fn sheet_with(s: &[u8], tiers: [Tier; 10]) -> Sheet
 // What a sheet holds that no row of the table turns back. Not by sheet_with: each has one caller, so the compiler puts both into theirs,
 // and copies no sheet.
 pub fn sheet_of(s: &[u8]) -> Sheet
-    requires { first (sheetRows s.now) ≡ Taken }
-    ensures { result ≡ sheetOf s.now }
+    requires { first (sheet_rows s.now) ≡ Taken }
+    ensures { result ≡ sheet_of s.now }
 {
     let ntiers = byte_at(s, 8) as usize;
     let door = door_place(s);

@@ -8,9 +8,9 @@ use native.Mathlib.Omega.{arith}
 use borrow.Author.Tests.{ltb-true, ltb-false, eqb-true, eqb-false, lt-ltb, le-ltb}
 use lib.Dec.{ltb, eqb}
 use lib.ListN.{get_or}
-use Rattle.sheet.specs.Layout.{lashOf, lashPlace, lashIn}
-use Rattle.sheet.specs.Refusals.{later, notLater}
-use Rattle.sheet_limits.specs.inner.Ranks.{rank, leastRank}
+use Rattle.sheet.specs.Layout.{lash_of, lash_place, lash_in}
+use Rattle.sheet.specs.Refusals.{later, not_later}
+use Rattle.sheet_limits.specs.Inner.Ranks.{rank, least_rank}
 
 -- of a lash's tier, hook and kind
 abbrev number : ℕ → ℕ → ℕ → ℕ
@@ -39,25 +39,25 @@ module _ (t h k t' h' k' : ℕ) (p : h < 256) (q : k < 256) (p' : h' < 256) (q' 
   ranks = by_tests _ _ _ _ _ refl refl refl refl refl
 
 -- the last row of a lash is one comparison of its rank
-not-less : (x y : ℕ) → not (ltb x y) ≡ ltb y (x + 1)
-not-less x y = go (ltb x y) refl
+not_less : (x y : ℕ) → not (ltb x y) ≡ ltb y (x + 1)
+not_less x y = go (ltb x y) refl
   where
     go : (less : Bool) → ltb x y ≡ less → not less ≡ ltb y (x + 1)
     go true e = sym (le-ltb y (x + 1) (omega (arith, ltb-true x y e)))
     go false e = sym (lt-ltb y (x + 1) (omega (arith, ltb-false x y e)))
 
 module _ (s : List ℕ) (bytes : (i : ℕ) → get_or s i 0 < 256) where
-  pub not-later-rank : (at k : ℕ) → notLater s at k ≡ ltb (rank (lashIn s at k)) (leastRank s at k)
-  unfolding notLater later lashOf
-  not-later-rank at zero = sym (le-ltb (rank (lashIn s at 0)) 0 (omega arith))
-  not-later-rank at (suc k) =
-      let p = lashPlace at k in
-      let q = lashPlace at (suc k) in
+  pub not_later_rank : (at k : ℕ) → not_later s at k ≡ ltb (rank (lash_in s at k)) (least_rank s at k)
+  unfolding not_later later lash_of
+  not_later_rank at zero = sym (le-ltb (rank (lash_in s at 0)) 0 (omega arith))
+  not_later_rank at (suc k) =
+      let p = lash_place at k in
+      let q = lash_place at (suc k) in
       ap not
       (sym
       (ranks (get_or s p 0) (get_or s (p + 1) 0) (get_or s (p + 2) 0) (get_or s q 0) (get_or s (q + 1) 0) (get_or s (q + 2) 0)
       (bytes (p + 1)) (bytes (p + 2)) (bytes (q + 1)) (bytes (q + 2))))
-      ∙ not-less (rank (lashIn s at k)) (rank (lashIn s at (suc k)))
+      ∙ not_less (rank (lash_in s at k)) (rank (lash_in s at (suc k)))
 
-pub least-next : (s : List ℕ) (at k : ℕ) → rank (lashIn s at k) + 1 ≡ leastRank s at (k + 1)
-least-next s at k = ap (leastRank s at) (sym (add-one k))
+pub least_next : (s : List ℕ) (at k : ℕ) → rank (lash_in s at k) + 1 ≡ least_rank s at (k + 1)
+least_next s at k = ap (least_rank s at) (sym (add-one k))

@@ -1,20 +1,20 @@
 // Document 01, "Limits": whether the fields of a tier or a lash lie within them, a lash is on the stack, and its place in the order of lashes.
 
 ghost use Rattle.std.specs.Prelude.{◌≡◌, ◌<◌};
-ghost use Rattle.sheet.specs.Layout.{tierFits, lashFits, breakingFits};
-ghost use Rattle.sheet.specs.Refusals.{offTiers};
-ghost use Rattle.sheet_limits.specs.inner.Ranks.{rank};
+ghost use Rattle.sheet.specs.Layout.{tier_fits, lash_fits, breaking_fits};
+ghost use Rattle.sheet.specs.Refusals.{off_tiers};
+ghost use Rattle.sheet_limits.specs.Inner.Ranks.{rank};
 
 use sheet::{Lash, Tier};
 
 pub fn breaking_fits(load: u32) -> bool
-    ensures { result ≡ breakingFits load }
+    ensures { result ≡ breaking_fits load }
 {
     (1 <= load) & (load <= 2000000)
 }
 
 pub fn tier_fits(t: Tier) -> bool
-    ensures { result ≡ tierFits t }
+    ensures { result ≡ tier_fits t }
 {
     (((t.size == 20) & ((t.height == 2438) | (t.height == 2591)))
         | ((t.size == 40) & ((t.height == 2591) | (t.height == 2896))))
@@ -27,7 +27,7 @@ pub fn tier_fits(t: Tier) -> bool
 }
 
 pub fn lash_fits(l: Lash) -> bool
-    ensures { result ≡ lashFits l }
+    ensures { result ≡ lash_fits l }
 {
     (l.hook <= 1)
         & (l.kind <= 1)
@@ -42,7 +42,7 @@ pub fn lash_fits(l: Lash) -> bool
 
 // On no tier of n, or on the bottom corner of tier 1.
 pub fn off_tiers(n: u64, l: Lash) -> bool
-    ensures { result ≡ offTiers n l }
+    ensures { result ≡ off_tiers n l }
 {
     (l.tier == 0) | (n < l.tier as u64) | ((l.tier == 1) & (l.hook == 1))
 }

@@ -10,10 +10,10 @@ use Rattle.arith.specs.Bytes.{bytes4}
 use Rattle.arith.specs.Lists.{from, below, counted}
 use Rattle.sheet.specs.declared.Sheet.{Sheet}
 use Rattle.sheet.specs.Layout.{◌above◌}
-use Rattle.answer_write.specs.inner.Encoding.{Wrote}
+use Rattle.answer_write.specs.Inner.Encoding.{Wrote}
 use Rattle.answer_write.proofs.Stores.{run, then}
-use Rattle.side_walls.specs.SideWalls.{reportedRacking, reportedShift, sideLimit, any_of, sideVerdict, sideBytes}
-use Rattle.side_walls.specs.inner.Units.{SideFigured}
+use Rattle.side_walls.specs.SideWalls.{reported_racking, reported_shift, side_limit, any_of, side_verdict, side_bytes}
+use Rattle.side_walls.specs.Inner.Units.{SideFigured}
 use Rattle.side_parts.proofs.Tests.{any_same}
 
 -- entries that agree
@@ -30,19 +30,19 @@ module _ {t : Sheet} {p racking shift : List ℕ} (f : SideFigured t p racking s
   abbrev figures : List ℕ
   figures = counted t.ntiers (λ i. bytes4 (get_or racking i 0) ++ bytes4 (get_or shift i 0))
 
-  figures-are : figures ≡ counted t.ntiers (λ i. bytes4 (reportedRacking t p i) ++ bytes4 (reportedShift t p i))
-  figures-are = counted_same _ _ t.ntiers (λ j q. rw (f.rackings j q, f.shifts j q) refl)
+  figures_are : figures ≡ counted t.ntiers (λ i. bytes4 (reported_racking t p i) ++ bytes4 (reported_shift t p i))
+  figures_are = counted_same _ _ t.ntiers (λ j q. rw (f.rackings j q, f.shifts j q) refl)
 
-  verdict-is : {v : ℕ} → v ≡ cond (any_of (λ i. get_or racking i 0 above sideLimit) (below t.ntiers)) 1 0 → v ≡ sideVerdict t p
-  unfolding sideVerdict
-  verdict-is e =
-      e ∙ ap {B = ℕ} (λ (b : Bool). cond b 1 0) (any_same _ _ t.ntiers (λ j q. ap (λ (x : ℕ). x above sideLimit) (f.rackings j q)))
+  verdict_is : {v : ℕ} → v ≡ cond (any_of (λ i. get_or racking i 0 above side_limit) (below t.ntiers)) 1 0 → v ≡ side_verdict t p
+  unfolding side_verdict
+  verdict_is e =
+      e ∙ ap {B = ℕ} (λ (b : Bool). cond b 1 0) (any_same _ _ t.ntiers (λ j q. ap (λ (x : ℕ). x above side_limit) (f.rackings j q)))
 
   pub whole :
       {l k z : List ℕ} {v next : ℕ} →
       k ≡ sets l 0 (v ∷ []) →
-      v ≡ cond (any_of (λ i. get_or racking i 0 above sideLimit) (below t.ntiers)) 1 0 →
+      v ≡ cond (any_of (λ i. get_or racking i 0 above side_limit) (below t.ntiers)) 1 0 →
       Wrote k 1 figures z next →
-      Wrote l 0 (sideBytes t p) z next
-  unfolding sideBytes
-  whole e g w = then (run {bytes = sideVerdict t p ∷ []} (rw (verdict-is g) at e) refl) (rw figures-are at w)
+      Wrote l 0 (side_bytes t p) z next
+  unfolding side_bytes
+  whole e g w = then (run {bytes = side_verdict t p ∷ []} (rw (verdict_is g) at e) refl) (rw figures_are at w)

@@ -9,67 +9,67 @@ use Rattle.arith.specs.Lists.{counted}
 use Rattle.sheet.specs.declared.Reading.{Reading}
 use Rattle.sheet.specs.declared.Reading.TheVariants.{Taken}
 use Rattle.sheet.specs.declared.Sheet.{Sheet}
-use Rattle.sheet.specs.Layout.{tierCount, sheetOf}
+use Rattle.sheet.specs.Layout.{tier_count, sheet_of}
 use Rattle.sheet.specs.Fits.{Fits}
-use Rattle.sheet.proofs.Refusal.{decoded-reading, sheet-taken-of, own-taken-of}
-use Rattle.sheet.proofs.TakenSheets.{taken-fits}
+use Rattle.sheet.proofs.Refusal.{decoded_reading, sheet_taken_of, own_taken_of}
+use Rattle.sheet.proofs.TakenSheets.{taken_fits}
 use Rattle.answer.specs.declared.Outcome.TheVariants as O
-use Rattle.answer.proofs.ReadBack.{Stands, first_part, second-part, first_byte, number, section-length, the-count, the-entry}
-use Rattle.side_walls.specs.SideWalls.{reportedRacking, reportedShift, sideVerdict, sideBytes}
-use Rattle.side_walls.specs.inner.Units.{Pitched}
+use Rattle.answer.proofs.ReadBack.{Stands, first_part, second_part, first_byte, number, section_length, the_count, the_entry}
+use Rattle.side_walls.specs.SideWalls.{reported_racking, reported_shift, side_verdict, side_bytes}
+use Rattle.side_walls.specs.Inner.Units.{Pitched}
 use Rattle.side_walls.proofs.Most.{all_most}
-use Rattle.side_parts.specs.ShortSheets.{pitchRows}
-use Rattle.side.specs.Sides.{longestSide, sideRefusal, SidedAs, SideAnswered}
+use Rattle.side_parts.specs.ShortSheets.{pitch_rows}
+use Rattle.side.specs.Sides.{longest_side, side_refusal, SidedAs, SideAnswered}
 use Rattle.side.specs.Theorems.{SideReadBack, AllReadBack}
 use Rattle.side_parts.proofs.ShortSheets.{pitched}
 
 module _ (t : Sheet) (p : List ℕ) where
   abbrev entry : ℕ → List ℕ
-  entry i = bytes4 (reportedRacking t p i) ++ bytes4 (reportedShift t p i)
+  entry i = bytes4 (reported_racking t p i) ++ bytes4 (reported_shift t p i)
 
-  pub side-length : length (sideBytes t p) ≡ 2 + 8 * t.ntiers
-  unfolding sideBytes
-  side-length = omega (arith, section-length entry 8 (λ i. refl) t.ntiers)
+  pub side_length : length (side_bytes t p) ≡ 2 + 8 * t.ntiers
+  unfolding side_bytes
+  side_length = omega (arith, section_length entry 8 (λ i. refl) t.ntiers)
 
   module _ (f : Fits t) (h : Pitched t.ntiers p) (rest : List ℕ) where
-    starts : Stands (sideBytes t p ++ rest) 0 ((sideVerdict t p ∷ []) ++ counted t.ntiers entry)
-    unfolding sideBytes
+    starts : Stands (side_bytes t p ++ rest) 0 ((side_verdict t p ∷ []) ++ counted t.ntiers entry)
+    unfolding side_bytes
     starts = record { front = []; back = rest; split = refl; place = refl }
 
-    tiers : Stands (sideBytes t p ++ rest) 1 (counted t.ntiers entry)
-    tiers = second-part (sideVerdict t p ∷ []) (counted t.ntiers entry) starts
+    tiers : Stands (side_bytes t p ++ rest) 1 (counted t.ntiers entry)
+    tiers = second_part (side_verdict t p ∷ []) (counted t.ntiers entry) starts
 
-    pub read_back : SideReadBack t p (sideBytes t p ++ rest)
+    pub read_back : SideReadBack t p (side_bytes t p ++ rest)
     read_back =
         record {
-          verdict = first_byte (sideVerdict t p) (counted t.ntiers entry) starts;
-          count = the-count entry 8 (λ i. refl) 1 t.ntiers tiers;
+          verdict = first_byte (side_verdict t p) (counted t.ntiers entry) starts;
+          count = the_count entry 8 (λ i. refl) 1 t.ntiers tiers;
           racking =
               λ i q.
-              let e = the-entry entry 8 (λ i. refl) 1 t.ntiers tiers i q in
-              number (reportedRacking t p i) (omega (arith, (all_most t p f h i q).0)) (first_part (bytes4 _) (bytes4 _) e);
+              let e = the_entry entry 8 (λ i. refl) 1 t.ntiers tiers i q in
+              number (reported_racking t p i) (omega (arith, (all_most t p f h i q).0)) (first_part (bytes4 _) (bytes4 _) e);
           shift =
               λ i q.
-              let e = the-entry entry 8 (λ i. refl) 1 t.ntiers tiers i q in
-              number (reportedShift t p i) (omega (arith, (all_most t p f h i q).1)) (second-part (bytes4 _) (bytes4 _) e);
+              let e = the_entry entry 8 (λ i. refl) 1 t.ntiers tiers i q in
+              number (reported_shift t p i) (omega (arith, (all_most t p f h i q).1)) (second_part (bytes4 _) (bytes4 _) e);
         }
 
 -- a pair of sheets that is taken
-module _ (s p : List ℕ) (room : ℕ) (e : sideRefusal s p room ≡ Taken) where
-  pub fits : Fits (sheetOf s)
-  fits = taken-fits s (sym (decoded-reading s) ∙ sheet-taken-of s (pitchRows (tierCount s) p) longestSide room e)
+module _ (s p : List ℕ) (room : ℕ) (e : side_refusal s p room ≡ Taken) where
+  pub fits : Fits (sheet_of s)
+  fits = taken_fits s (sym (decoded_reading s) ∙ sheet_taken_of s (pitch_rows (tier_count s) p) longest_side room e)
 
-  pub goes_with : Pitched (sheetOf s).ntiers p
-  unfolding sheetOf
+  pub goes_with : Pitched (sheet_of s).ntiers p
+  unfolding sheet_of
   goes_with =
-      pitched (tierCount s) p
-      (own-taken-of s (pitchRows (tierCount s) p) longestSide room (sheet-taken-of s (pitchRows (tierCount s) p) longestSide room e) e)
+      pitched (tier_count s) p
+      (own_taken_of s (pitch_rows (tier_count s) p) longest_side room (sheet_taken_of s (pitch_rows (tier_count s) p) longest_side room e) e)
 
-pub all-read-back : AllReadBack
-all-read-back s p before after r e c =
-    let a : SideAnswered (sideBytes (sheetOf s) p) before after r =
-    subst (λ (q : Reading). SidedAs q (sideBytes (sheetOf s) p) before after r) e c.holds in
-    let back = drop (length (sideBytes (sheetOf s) p)) before in (
-      a.taken ∙ ap O.Taken (side-length (sheetOf s) p),
-      rw a.written (read_back (sheetOf s) p (fits s p (length before) e) (goes_with s p (length before) e) back),
+pub all_read_back : AllReadBack
+all_read_back s p before after r e c =
+    let a : SideAnswered (side_bytes (sheet_of s) p) before after r =
+    subst (λ (q : Reading). SidedAs q (side_bytes (sheet_of s) p) before after r) e c.holds in
+    let back = drop (length (side_bytes (sheet_of s) p)) before in (
+      a.taken ∙ ap O.Taken (side_length (sheet_of s) p),
+      rw a.written (read_back (sheet_of s) p (fits s p (length before) e) (goes_with s p (length before) e) back),
     )

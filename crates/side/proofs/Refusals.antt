@@ -9,91 +9,91 @@ use Rattle.sheet.specs.declared.Reading.{Reading}
 use Rattle.sheet.specs.declared.Reading.TheVariants.{Taken, Refused}
 use Rattle.sheet.specs.declared.Decoded.{Decoded}
 use Rattle.sheet.specs.declared.Sheet.{Sheet}
-use Rattle.sheet.specs.Layout.{tierCount, sheetOf}
+use Rattle.sheet.specs.Layout.{tier_count, sheet_of}
 use Rattle.sheet.specs.Fits.{Fits}
 use Rattle.sheet.specs.Refusals.{first, decoded}
-use Rattle.sheet.proofs.Refusal.{decoded-sheet, refusal-of, refused-by-sheet}
-use Rattle.sheet.proofs.Rows.{no_rows, row-holds, row-passed, or_else, behind-taken, behind-refused}
-use Rattle.sheet.proofs.TakenSheets.{decoded-fits}
+use Rattle.sheet.proofs.Refusal.{decoded_sheet, refusal_of_lem, refused_by_sheet}
+use Rattle.sheet.proofs.Rows.{no_rows, row_holds, row_passed, or_else, behind_taken, behind_refused}
+use Rattle.sheet.proofs.TakenSheets.{decoded_fits}
 use Rattle.answer.specs.declared.Outcome.{Outcome}
 use Rattle.answer.specs.declared.Outcome.TheVariants as O
-use Rattle.answer_write.specs.inner.Encoding.{Wrote}
+use Rattle.answer_write.specs.Inner.Encoding.{Wrote}
 use Rattle.answer_write.proofs.Stores.{from_start}
-use Rattle.side_walls.specs.SideWalls.{sideBytes}
-use Rattle.side_parts.specs.ShortSheets.{pitchRows}
-use Rattle.side.specs.Sides.{longestSide, sideRefusal, Sided}
-use Rattle.side.specs.inner.Steps.{ownReading, roomReading, Settled}
+use Rattle.side_walls.specs.SideWalls.{side_bytes}
+use Rattle.side_parts.specs.ShortSheets.{pitch_rows}
+use Rattle.side.specs.Sides.{longest_side, side_refusal, Sided}
+use Rattle.side.specs.Inner.Steps.{own_reading, room_reading, Settled}
 
-by-same :
+by_same :
     {q w : Reading} {t : Sheet} {p before after : List ℕ} {r : Outcome} →
     w ≡ q →
     Settled q t p before after r →
     Settled w t p before after r
-by-same {q} {w} {t} {p} {before} {after} {r} e h = subst (λ (x : Reading). Settled x t p before after r) (sym e) h
+by_same {q} {w} {t} {p} {before} {after} {r} e h = subst (λ (x : Reading). Settled x t p before after r) (sym e) h
 
-turned-back : {t : Sheet} {p before : List ℕ} {a b : ℕ} → Settled (Refused a b) t p before before (O.Refused a b)
-turned-back = record { holds = record { refused = refl; untouched = refl } }
+turned_back : {t : Sheet} {p before : List ℕ} {a b : ℕ} → Settled (Refused a b) t p before before (O.Refused a b)
+turned_back = record { holds = record { refused = refl; untouched = refl } }
 
 module _ (t : Sheet) (p before : List ℕ) where
   abbrev room : ℕ
   room = length before
 
   -- the room
-  pub short : room < longestSide → Settled (roomReading room) t p before before (O.Refused 13 longestSide)
-  short h = by-same (row-holds _ [] (lt-ltb room longestSide h)) turned-back
+  pub short : room < longest_side → Settled (room_reading room) t p before before (O.Refused 13 longest_side)
+  short h = by_same (row_holds _ [] (lt-ltb room longest_side h)) turned_back
 
   pub answered :
       {after : List ℕ} {next : ℕ} →
-      longestSide ≤ room →
-      Wrote before 0 (sideBytes t p) after next →
+      longest_side ≤ room →
+      Wrote before 0 (side_bytes t p) after next →
       next ≤ room →
-      Settled (roomReading room) t p before after (O.Taken next)
+      Settled (room_reading room) t p before after (O.Taken next)
   answered h w l =
-      by-same (row-passed _ [] (le-ltb room longestSide h) ∙ no_rows)
+      by_same (row_passed _ [] (le-ltb room longest_side h) ∙ no_rows)
       (record { holds = record { taken = ap O.Taken (w.place ∙ zero-add _); written = from_start w l } })
 
   -- the short sheet
-  module _ {q : Reading} (is : q ≡ first (pitchRows t.ntiers p)) where
-    pub pitch-refused : {a b : ℕ} → q ≡ Refused a b → Settled (ownReading t.ntiers p room) t p before before (O.Refused a b)
-    pitch-refused e = by-same (behind-refused (pitchRows t.ntiers p) _ (sym is ∙ e)) turned-back
+  module _ {q : Reading} (is : q ≡ first (pitch_rows t.ntiers p)) where
+    pub pitch_refused : {a b : ℕ} → q ≡ Refused a b → Settled (own_reading t.ntiers p room) t p before before (O.Refused a b)
+    pitch_refused e = by_same (behind_refused (pitch_rows t.ntiers p) _ (sym is ∙ e)) turned_back
 
-    pub pitch-taken :
+    pub pitch_taken :
         {after : List ℕ} {r : Outcome} →
         q ≡ Taken →
-        Settled (roomReading room) t p before after r →
-        Settled (ownReading t.ntiers p room) t p before after r
-    pitch-taken e h = by-same (behind-taken (pitchRows t.ntiers p) _ (sym is ∙ e)) h
+        Settled (room_reading room) t p before after r →
+        Settled (own_reading t.ntiers p room) t p before after r
+    pitch_taken e h = by_same (behind_taken (pitch_rows t.ntiers p) _ (sym is ∙ e)) h
 
 -- the stack sheet
 module _ (s p before : List ℕ) (d : Decoded) (is : d ≡ decoded s) where
   sided :
       {after : List ℕ} {r : Outcome} →
-      Settled (sideRefusal s p (length before)) (sheetOf s) p before after r →
+      Settled (side_refusal s p (length before)) (sheet_of s) p before after r →
       Sided s p before after r
   sided h = record { holds = h.holds }
 
-  reading-is : {q : Reading} → d.reading ≡ q → (decoded s).reading ≡ q
-  reading-is e = sym (ap (λ (x : Decoded). x.reading) is) ∙ e
+  reading_is : {q : Reading} → d.reading ≡ q → (decoded s).reading ≡ q
+  reading_is e = sym (ap (λ (x : Decoded). x.reading) is) ∙ e
 
-  pub sheet-refused : {a b : ℕ} → d.reading ≡ Refused a b → Sided s p before before (O.Refused a b)
-  sheet-refused e =
-      sided (by-same (refused-by-sheet s (pitchRows (tierCount s) p) longestSide (length before) (reading-is e)) turned-back)
+  pub sheet_refused : {a b : ℕ} → d.reading ≡ Refused a b → Sided s p before before (O.Refused a b)
+  sheet_refused e =
+      sided (by_same (refused_by_sheet s (pitch_rows (tier_count s) p) longest_side (length before) (reading_is e)) turned_back)
 
   module _ (e : d.reading ≡ Taken) where
-    pub sheet-fits : Fits d.sheet
-    sheet-fits = decoded-fits s d is e
+    pub sheet_fits : Fits d.sheet
+    sheet_fits = decoded_fits s d is e
 
-    past-sheet : sideRefusal s p (length before) ≡ ownReading (sheetOf s).ntiers p (length before)
-    unfolding sheetOf
-    past-sheet =
-        refusal-of s (pitchRows (tierCount s) p) longestSide (length before)
-        ∙ ap (λ (q : Reading). or_else q (ownReading (tierCount s) p (length before))) (reading-is e)
+    past_sheet : side_refusal s p (length before) ≡ own_reading (sheet_of s).ntiers p (length before)
+    unfolding sheet_of
+    past_sheet =
+        refusal_of_lem s (pitch_rows (tier_count s) p) longest_side (length before)
+        ∙ ap (λ (q : Reading). or_else q (own_reading (tier_count s) p (length before))) (reading_is e)
 
-    pub sheet-taken :
+    pub sheet_taken :
         {after : List ℕ} {r : Outcome} →
-        Settled (ownReading d.sheet.ntiers p (length before)) d.sheet p before after r →
+        Settled (own_reading d.sheet.ntiers p (length before)) d.sheet p before after r →
         Sided s p before after r
-    sheet-taken {after} {r} h =
-        let same : d.sheet ≡ sheetOf s = ap (λ (x : Decoded). x.sheet) is ∙ decoded-sheet s (reading-is e) in
-        let held = subst (λ (t : Sheet). Settled (ownReading t.ntiers p (length before)) t p before after r) same h in
-        sided (by-same past-sheet held)
+    sheet_taken {after} {r} h =
+        let same : d.sheet ≡ sheet_of s = ap (λ (x : Decoded). x.sheet) is ∙ decoded_sheet s (reading_is e) in
+        let held = subst (λ (t : Sheet). Settled (own_reading t.ntiers p (length before)) t p before after r) same h in
+        sided (by_same past_sheet held)

@@ -2,20 +2,20 @@
 use Rattle.std.specs.Prelude.{ℕ, ◌+◌, List, ◌++◌, ◌≡◌, length, drop}
 use Rattle.sheet.specs.declared.Reading.{Reading}
 use Rattle.sheet.specs.declared.Reading.TheVariants.{Taken, Refused}
-use Rattle.sheet.specs.Layout.{tierCount, sheetOf}
-use Rattle.sheet.specs.Refusals.{refusalOf}
+use Rattle.sheet.specs.Layout.{tier_count, sheet_of}
+use Rattle.sheet.specs.Refusals.{refusal_of}
 use Rattle.answer.specs.declared.Outcome.{Outcome}
 use Rattle.answer.specs.declared.Outcome.TheVariants as O
 use Rattle.answer.specs.Checked.{TurnedBack}
-use Rattle.side_walls.specs.SideWalls.{sideBytes}
-use Rattle.side_parts.specs.ShortSheets.{pitchRows}
+use Rattle.side_walls.specs.SideWalls.{side_bytes}
+use Rattle.side_parts.specs.ShortSheets.{pitch_rows}
 
 -- 13, 82: a side buffer under 82 bytes. After the stack sheet's own tests 14, then 15, then 13
-abbrev pub longestSide : ℕ
-longestSide = 82
+abbrev pub longest_side : ℕ
+longest_side = 82
 
-abbrev pub sideRefusal : List ℕ → List ℕ → ℕ → Reading
-sideRefusal s p room = refusalOf s (pitchRows (tierCount s) p) longestSide room
+abbrev pub side_refusal : List ℕ → List ℕ → ℕ → Reading
+side_refusal s p room = refusal_of s (pitch_rows (tier_count s) p) longest_side room
 
 -- answered: 0 and the side answer's length; the buffer holds its bytes, then what stood there
 pub record SideAnswered (bytes before after : List ℕ) (r : Outcome) : Type 0 where
@@ -29,4 +29,4 @@ SidedAs Taken bytes before after r = SideAnswered bytes before after r
 
 -- the call with a side buffer that held `before`
 pub record Sided (s p before after : List ℕ) (r : Outcome) : Type 0 where
-  pub holds : SidedAs (sideRefusal s p (length before)) (sideBytes (sheetOf s) p) before after r
+  pub holds : SidedAs (side_refusal s p (length before)) (side_bytes (sheet_of s) p) before after r

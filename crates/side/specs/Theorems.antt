@@ -3,23 +3,23 @@ use Rattle.std.specs.Prelude.{ℕ, ◌+◌, ◌*◌, ◌<◌, List, ◌≡◌, l
 use Rattle.arith.specs.Bytes.{byte_at, le4}
 use Rattle.sheet.specs.declared.Reading.TheVariants.{Taken}
 use Rattle.sheet.specs.declared.Sheet.{Sheet}
-use Rattle.sheet.specs.Layout.{sheetOf}
+use Rattle.sheet.specs.Layout.{sheet_of}
 use Rattle.answer.specs.declared.Outcome.{Outcome}
 use Rattle.answer.specs.declared.Outcome.TheVariants as O
-use Rattle.side_walls.specs.SideWalls.{reportedRacking, reportedShift, sideVerdict}
-use Rattle.side.specs.Sides.{sideRefusal, Sided}
+use Rattle.side_walls.specs.SideWalls.{reported_racking, reported_shift, side_verdict}
+use Rattle.side.specs.Sides.{side_refusal, Sided}
 
 -- where each number of a side answer lies, and what is read back from there; tiers are counted from 0
 pub record SideReadBack (t : Sheet) (p : List ℕ) (side : List ℕ) : Type 0 where
-  pub verdict : byte_at side 0 ≡ sideVerdict t p
+  pub verdict : byte_at side 0 ≡ side_verdict t p
   pub count : byte_at side 1 ≡ t.ntiers
-  pub racking : (i : ℕ) → i < t.ntiers → le4 side (2 + 8 * i) ≡ reportedRacking t p i
-  pub shift : (i : ℕ) → i < t.ntiers → le4 side (2 + 8 * i + 4) ≡ reportedShift t p i
+  pub racking : (i : ℕ) → i < t.ntiers → le4 side (2 + 8 * i) ≡ reported_racking t p i
+  pub shift : (i : ℕ) → i < t.ntiers → le4 side (2 + 8 * i + 4) ≡ reported_shift t p i
 
 -- of every pair of sheets that is taken: the length returned, and every number of the buffer (proofs/ReadBack)
 abbrev pub AllReadBack : Type 0
 AllReadBack =
     (s p before after : List ℕ) (r : Outcome) →
-    sideRefusal s p (length before) ≡ Taken →
+    side_refusal s p (length before) ≡ Taken →
     Sided s p before after r →
-    (r ≡ O.Taken (2 + 8 * (sheetOf s).ntiers)) × SideReadBack (sheetOf s) p after
+    (r ≡ O.Taken (2 + 8 * (sheet_of s).ntiers)) × SideReadBack (sheet_of s) p after

@@ -2,9 +2,9 @@
 
 ghost use Rattle.std.specs.Prelude.{length};
 ghost use Rattle.sheet.specs.Fits.{Fits};
-ghost use Rattle.side_walls.specs.inner.Units.{Pitched};
+ghost use Rattle.side_walls.specs.Inner.Units.{Pitched};
 ghost use Rattle.side.specs.Sides.{Sided};
-ghost use Rattle.side.specs.inner.Steps.{Settled, roomReading, ownReading};
+ghost use Rattle.side.specs.Inner.Steps.{Settled, room_reading, own_reading};
 
 use answer::Outcome;
 use arith::bytes::write1;
@@ -17,7 +17,7 @@ const LONGEST: usize = 82;
 // The side answer to a sheet and a short sheet within the limits; a short buffer is left as it was.
 fn answer_side(t: Sheet, pitch: &[u8], answer: &mut [u8]) -> Outcome
     requires { Fits t × Pitched t.ntiers pitch.now }
-    ensures { Settled (roomReading (length answer.old)) t pitch.now answer.old
+    ensures { Settled (room_reading (length answer.old)) t pitch.now answer.old
         answer.new result }
 {
     if answer.len() < LONGEST {
@@ -32,7 +32,7 @@ fn answer_side(t: Sheet, pitch: &[u8], answer: &mut [u8]) -> Outcome
 // The side answer to a sheet within the limits, unless the short sheet is turned back.
 fn answer_pitched(t: Sheet, pitch: &[u8], answer: &mut [u8]) -> Outcome
     requires { Fits t }
-    ensures { Settled (ownReading t.ntiers pitch.now (length answer.old)) t pitch.now
+    ensures { Settled (own_reading t.ntiers pitch.now (length answer.old)) t pitch.now
         answer.old answer.new result }
 {
     let reading = test_pitch(pitch, t.ntiers);

@@ -11,8 +11,8 @@ module _ (f : ℕ → Bool) (n : ℕ) where
   abbrev pub any_from : ℕ → Bool
   any_from i = any_of f (from i (n - i))
 
-  pub any-all : any_from 0 ≡ any_of f (below n)
-  any-all = let e : n - 0 ≡ n = omega arith in rw e refl
+  pub any_all : any_from 0 ≡ any_of f (below n)
+  any_all = let e : n - 0 ≡ n = omega arith in rw e refl
 
   one_less : (i : ℕ) → i < n → n - i ≡ suc (n - suc i)
   one_less i h = omega arith
@@ -21,20 +21,20 @@ module _ (f : ℕ → Bool) (n : ℕ) where
   unfolding any_of from
   any_here i h e = rw (one_less i h, e) refl
 
-  pub any-later : (i : ℕ) → i < n → f i ≡ false → any_from i ≡ any_from (i + 1)
+  pub any_later : (i : ℕ) → i < n → f i ≡ false → any_from i ≡ any_from (i + 1)
   unfolding any_of from
-  any-later i h e = rw (one_less i h, e, add-one i) refl
+  any_later i h e = rw (one_less i h, e, add-one i) refl
 
-  pub any-end : (i : ℕ) → n ≤ i → any_from i ≡ false
+  pub any_end : (i : ℕ) → n ≤ i → any_from i ≡ false
   unfolding any_of from
-  any-end i h = let e : n - i ≡ 0 = omega arith in rw e refl
+  any_end i h = let e : n - i ≡ 0 = omega arith in rw e refl
 
 -- tests that agree
-any-same-from : (f g : ℕ → Bool) (i left : ℕ) → ((j : ℕ) → j < i + left → f j ≡ g j) → any_of f (from i left) ≡ any_of g (from i left)
+any_same_from : (f g : ℕ → Bool) (i left : ℕ) → ((j : ℕ) → j < i + left → f j ≡ g j) → any_of f (from i left) ≡ any_of g (from i left)
 unfolding any_of from
-any-same-from f g i zero h = refl
-any-same-from f g i (suc left) h =
-    rw (h i (omega arith), any-same-from f g (suc i) left (λ j q. h j (omega (arith, q)))) refl
+any_same_from f g i zero h = refl
+any_same_from f g i (suc left) h =
+    rw (h i (omega arith), any_same_from f g (suc i) left (λ j q. h j (omega (arith, q)))) refl
 
 pub any_same : (f g : ℕ → Bool) (n : ℕ) → ((j : ℕ) → j < n → f j ≡ g j) → any_of f (below n) ≡ any_of g (below n)
-any_same f g n h = any-same-from f g 0 n (λ j q. h j (omega (arith, q)))
+any_same f g n h = any_same_from f g 0 n (λ j q. h j (omega (arith, q)))

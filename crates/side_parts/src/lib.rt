@@ -5,9 +5,9 @@ ghost use Rattle.arith.specs.Bytes.{bytes4};
 ghost use Rattle.arith.specs.Lists.{below, counted};
 ghost use Rattle.sheet.specs.Layout.{◌above◌};
 ghost use Rattle.sheet.specs.Refusals.{first};
-ghost use Rattle.answer_write.specs.inner.Encoding.{Wrote};
-ghost use Rattle.side_walls.specs.SideWalls.{sideLimit, any_of};
-ghost use Rattle.side_parts.specs.ShortSheets.{pitchRows};
+ghost use Rattle.answer_write.specs.Inner.Encoding.{Wrote};
+ghost use Rattle.side_walls.specs.SideWalls.{side_limit, any_of};
+ghost use Rattle.side_parts.specs.ShortSheets.{pitch_rows};
 
 use arith::bytes::{read1, read2, write1, write4};
 use limits::Limits;
@@ -16,7 +16,7 @@ use sheet::Reading;
 // What a short sheet for a stack of n tiers is turned back for: its length or count, then the first A_L above 1,500.
 pub fn test_pitch(pitch: &[u8], n: usize) -> Reading
     requires { n ≤ 10 }
-    ensures { result ≡ first (pitchRows n pitch.now) }
+    ensures { result ≡ first (pitch_rows n pitch.now) }
 {
     if pitch.len() != 1 + 2 * n {
         return Reading::Refused(14, 0);
@@ -37,7 +37,7 @@ pub fn test_pitch(pitch: &[u8], n: usize) -> Reading
 // 0, or 1 where one of n rackings exceeds the limit.
 pub fn verdict_of(racking: &[u64], n: usize) -> u64
     requires { n ≤ length racking.now }
-    ensures { (result ≡ cond (any_of (λ i. get_or racking.now i 0 above sideLimit) (below n)) 1 0) × (result ≤ 1) }
+    ensures { (result ≡ cond (any_of (λ i. get_or racking.now i 0 above side_limit) (below n)) 1 0) × (result ≤ 1) }
 {
     let mut i = 0;
     while i < n {

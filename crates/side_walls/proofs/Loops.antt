@@ -6,29 +6,29 @@ use native.Mathlib.Numerals.{add-one}
 use native.Mathlib.Omega.{arith}
 use lib.ListN.{get_or, set, replicate}
 use Rattle.arith.specs.Lists.{from}
-use Rattle.arith.specs.inner.Rounding.{roundedUp}
+use Rattle.arith.specs.Inner.Rounding.{rounded_up}
 use Rattle.sheet.specs.declared.Sheet.{Sheet}
-use Rattle.statics.specs.inner.Computed.{shareTwentieths}
-use Rattle.statics.proofs.Arrays.{Between, between_none, fill-below, fill-above}
-use Rattle.side_walls.specs.inner.Units.{total, pushUnits, aboveUnits, rackingUnits, shiftUnits, first_sum}
-use Rattle.side_walls.specs.inner.Units.{Pushed, RoundedUp, SideFigured}
-use Rattle.side_walls.proofs.Exact.{racking-reported, shift-reported}
+use Rattle.statics.specs.Inner.Computed.{share_twentieths}
+use Rattle.statics.proofs.Arrays.{Between, between_none, fill_below, fill_above}
+use Rattle.side_walls.specs.Inner.Units.{total, push_units, above_units, racking_units, shift_units, first_sum}
+use Rattle.side_walls.specs.Inner.Units.{Pushed, RoundedUp, SideFigured}
+use Rattle.side_walls.proofs.Exact.{racking_reported, shift_reported}
 
 -- from the top down
-total-more : (f : ℕ → ℕ) (n k : ℕ) → k < n → total f (from k (n - k)) ≡ f k + total f (from (suc k) (n - suc k))
+total_more : (f : ℕ → ℕ) (n k : ℕ) → k < n → total f (from k (n - k)) ≡ f k + total f (from (suc k) (n - suc k))
 unfolding total from
-total-more f n k h =
+total_more f n k h =
     let e : n - k ≡ suc (n - suc k) = omega arith in
     rw e refl
 
 abbrev Racked : Sheet → List ℕ → ℕ → ℕ → Type 0
-Racked t p j x = (x ≡ rackingUnits t p j) × (x ≤ 2 ^ 44)
+Racked t p j x = (x ≡ racking_units t p j) × (x ≤ 2 ^ 44)
 
 pub record PushedDown (t : Sheet) (p units : List ℕ) (above i : ℕ) : Type 0 where
   pub within : i ≤ t.ntiers
   pub filled : Between 0 (Racked t p) 10 i t.ntiers units
-  pub above-is : above ≡ total (pushUnits t p) (from i (t.ntiers - i))
-  pub above-small : above ≤ (t.ntiers - i) * (30480 * 1500)
+  pub above_is : above ≡ total (push_units t p) (from i (t.ntiers - i))
+  pub above_small : above ≤ (t.ntiers - i) * (30480 * 1500)
 
 module _ {t : Sheet} {p : List ℕ} where
   pub pushed_none : PushedDown t p (replicate 10 0) 0 t.ntiers
@@ -38,8 +38,8 @@ module _ {t : Sheet} {p : List ℕ} where
       record {
         within = omega arith;
         filled = between_none 0 (Racked t p) 10 t.ntiers;
-        above-is = rw e refl;
-        above-small = omega arith;
+        above_is = rw e refl;
+        above_small = omega arith;
       }
 
   pub pushed_more :
@@ -47,36 +47,36 @@ module _ {t : Sheet} {p : List ℕ} where
       t.ntiers ≤ 10 →
       0 < i →
       PushedDown t p units above i →
-      own ≡ pushUnits t p (i - 1) →
+      own ≡ push_units t p (i - 1) →
       own ≤ 30480 * 1500 →
-      share ≡ shareTwentieths t.head.rule →
+      share ≡ share_twentieths t.head.rule →
       x ≡ 981 * (share * own + 20 * above) →
       x ≤ 2 ^ 44 →
       PushedDown t p (set units (i - 1) x) (above + own) (i - 1)
-  unfolding rackingUnits
+  unfolding racking_units
   pushed_more {units} {above} {i} {own} {share} {x} few up s eo ho es ex hx =
       let n = t.ntiers in
       let k = i - 1 in
       let e : i ≡ suc k = omega arith in
-      let over : above ≡ aboveUnits t p k = s.above-is ∙ ap (λ (z : ℕ). total (pushUnits t p) (from z (n - z))) e in
-      let more = total-more (pushUnits t p) n k (omega (arith, s.within)) in
-      let racked : x ≡ rackingUnits t p k = rw (← over, ← eo, ← es) ex in
+      let over : above ≡ above_units t p k = s.above_is ∙ ap (λ (z : ℕ). total (push_units t p) (from z (n - z))) e in
+      let more = total_more (push_units t p) n k (omega (arith, s.within)) in
+      let racked : x ≡ racking_units t p k = rw (← over, ← eo, ← es) ex in
       record {
         within = omega (arith, s.within);
         filled =
-            fill-below 0 (Racked t p) 10 k n units x (omega (arith, s.within)) (omega (arith, s.within)) (racked, hx)
+            fill_below 0 (Racked t p) 10 k n units x (omega (arith, s.within)) (omega (arith, s.within)) (racked, hx)
             (subst (λ (z : ℕ). Between 0 (Racked t p) 10 z n units) e s.filled);
-        above-is = omega (arith, over, more, eo);
-        above-small = omega (arith, s.within, s.above-small);
+        above_is = omega (arith, over, more, eo);
+        above_small = omega (arith, s.within, s.above_small);
       }
 
-  pub pushed-all : {units : List ℕ} {above i : ℕ} → i ≤ 0 → PushedDown t p units above i → Pushed t p units
-  pushed-all h s =
+  pub pushed_all : {units : List ℕ} {above i : ℕ} → i ≤ 0 → PushedDown t p units above i → Pushed t p units
+  pushed_all h s =
       record { each = λ j q. (s.filled.each j (omega arith) q).0; small = λ j q. (s.filled.each j (omega arith) q).1 }
 
 -- from the bottom up
 abbrev Up : ℕ → (ℕ → ℕ) → ℕ → ℕ → Type 0
-Up d part j x = (x ≡ roundedUp (part j) d) × (x < 2 ^ 32)
+Up d part j x = (x ≡ rounded_up (part j) d) × (x < 2 ^ 32)
 
 abbrev entries : List ℕ → ℕ → ℕ
 entries units j = get_or units j 0
@@ -88,64 +88,64 @@ pub record RoundedSoFar (units racking shift : List ℕ) (sum i : ℕ) : Type 0 
   pub rackings : Between 0 (Up 4000000 (entries units)) 10 0 i racking
   pub shifts : Between 0 (Up 23160000 (sums units)) 10 0 i shift
   pub sum_is : sum ≡ first_sum units i
-  pub sum-small : sum ≤ i * 2 ^ 44
+  pub sum_small : sum ≤ i * 2 ^ 44
 
 module _ {units : List ℕ} where
-  pub rounded-none : RoundedSoFar units (replicate 10 0) (replicate 10 0) 0 0
+  pub rounded_none : RoundedSoFar units (replicate 10 0) (replicate 10 0) 0 0
   unfolding first_sum
-  rounded-none =
+  rounded_none =
       record {
         rackings = between_none 0 (Up 4000000 (entries units)) 10 0;
         shifts = between_none 0 (Up 23160000 (sums units)) 10 0;
         sum_is = refl;
-        sum-small = omega arith;
+        sum_small = omega arith;
       }
 
-  pub rounded-more :
+  pub rounded_more :
       {racking shift : List ℕ} {sum i x y : ℕ} →
       i < 10 →
       RoundedSoFar units racking shift sum i →
       get_or units i 0 ≤ 2 ^ 44 →
-      (x ≡ roundedUp (get_or units i 0) 4000000) × (x ≤ get_or units i 0 / 4000000 + 1) →
-      (y ≡ roundedUp (sum + get_or units i 0) 23160000) × (y ≤ (sum + get_or units i 0) / 23160000 + 1) →
+      (x ≡ rounded_up (get_or units i 0) 4000000) × (x ≤ get_or units i 0 / 4000000 + 1) →
+      (y ≡ rounded_up (sum + get_or units i 0) 23160000) × (y ≤ (sum + get_or units i 0) / 23160000 + 1) →
       RoundedSoFar units (set racking i x) (set shift i y) (sum + get_or units i 0) (i + 1)
   unfolding first_sum
-  rounded-more {racking} {shift} {sum} {i} {x} {y} room s small (ex, hx) (ey, hy) =
+  rounded_more {racking} {shift} {sum} {i} {x} {y} room s small (ex, hx) (ey, hy) =
       let up : sum + get_or units i 0 ≡ first_sum units (suc i) = omega (arith, s.sum_is) in
-      let low : sum + get_or units i 0 ≤ 10 * 2 ^ 44 = omega (arith, s.sum-small) in
+      let low : sum + get_or units i 0 ≤ 10 * 2 ^ 44 = omega (arith, s.sum_small) in
       rw (add-one i)
       (record {
-        rackings = fill-above 0 (Up 4000000 (entries units)) 10 0 i racking x room (ex, omega arith) s.rackings;
-        shifts = fill-above 0 (Up 23160000 (sums units)) 10 0 i shift y room (rw (← up) ey, omega arith) s.shifts;
+        rackings = fill_above 0 (Up 4000000 (entries units)) 10 0 i racking x room (ex, omega arith) s.rackings;
+        shifts = fill_above 0 (Up 23160000 (sums units)) 10 0 i shift y room (rw (← up) ey, omega arith) s.shifts;
         sum_is = up;
-        sum-small = omega (arith, s.sum-small);
+        sum_small = omega (arith, s.sum_small);
       })
 
-  pub rounded-all :
+  pub rounded_all :
       {n : ℕ} {racking shift : List ℕ} {sum i : ℕ} →
       n ≤ i →
       RoundedSoFar units racking shift sum i →
       RoundedUp n units racking shift
-  rounded-all h s =
+  rounded_all h s =
       record {
         rackings = λ j q. (s.rackings.each j zero-le (omega arith)).0;
         shifts = λ j q. (s.shifts.each j zero-le (omega arith)).0;
-        racking-fits = λ j q. (s.rackings.each j zero-le (omega arith)).1;
+        racking_fits = λ j q. (s.rackings.each j zero-le (omega arith)).1;
         shift_fits = λ j q. (s.shifts.each j zero-le (omega arith)).1;
       }
 
 -- rackings in units and their figures are what is reported
 module _ {t : Sheet} {p units : List ℕ} (e : Pushed t p units) where
-  sums-are : (i : ℕ) → i ≤ t.ntiers → first_sum units i ≡ shiftUnits t p i
-  unfolding first_sum shiftUnits
-  sums-are zero h = refl
-  sums-are (suc i) h = ap₂ ◌+◌ (sums-are i (omega arith)) (e.each i h)
+  sums_are : (i : ℕ) → i ≤ t.ntiers → first_sum units i ≡ shift_units t p i
+  unfolding first_sum shift_units
+  sums_are zero h = refl
+  sums_are (suc i) h = ap₂ ◌+◌ (sums_are i (omega arith)) (e.each i h)
 
   pub figured : {racking shift : List ℕ} → RoundedUp t.ntiers units racking shift → SideFigured t p racking shift
   figured r =
       record {
-        rackings = λ i h. r.rackings i h ∙ ap (λ (u : ℕ). roundedUp u 4000000) (e.each i h) ∙ sym (racking-reported t p i);
-        shifts = λ i h. r.shifts i h ∙ ap (λ (u : ℕ). roundedUp u 23160000) (sums-are (suc i) h) ∙ sym (shift-reported t p i);
-        racking-fits = r.racking-fits;
+        rackings = λ i h. r.rackings i h ∙ ap (λ (u : ℕ). rounded_up u 4000000) (e.each i h) ∙ sym (racking_reported t p i);
+        shifts = λ i h. r.shifts i h ∙ ap (λ (u : ℕ). rounded_up u 23160000) (sums_are (suc i) h) ∙ sym (shift_reported t p i);
+        racking_fits = r.racking_fits;
         shift_fits = r.shift_fits;
       }

@@ -11,12 +11,12 @@ use lib.IntN.{pos}
 use Rattle.arith.specs.Fractions.{nat, ◌⊑◌, ◌⊏◌}
 use Rattle.arith.specs.Lists.{from, below}
 use Rattle.arith.proofs.Rationals.{mk, of-⊑, to-⊑}
-use Rattle.arith.proofs.RationalOrder.{≤ℚ-trans, lt_of, nat-q}
-use Rattle.arith.proofs.FractionsInRationals.{mk-int, to-⊏}
+use Rattle.arith.proofs.RationalOrder.{≤ℚ-trans, lt_of, nat_q}
+use Rattle.arith.proofs.FractionsInRationals.{mk_int, to-⊏}
 use Rattle.sheet.specs.declared.Sheet.{Sheet}
 use Rattle.sheet.specs.Layout.{◌above◌}
-use Rattle.sheet.proofs.Bools.{or-false}
-use Rattle.side_walls.specs.SideWalls.{sideRacking, reportedRacking, sideLimit, any_of, sideVerdict}
+use Rattle.sheet.proofs.Bools.{or_false}
+use Rattle.side_walls.specs.SideWalls.{side_racking, reported_racking, side_limit, any_of, side_verdict}
 use Rattle.side_walls.specs.Theorems.{AllByRule, Exceeded, AllJudged}
 use Rattle.side_walls.proofs.Exact.{reports}
 
@@ -27,22 +27,22 @@ record Found (f : ℕ → Bool) (i left : ℕ) : Type 0 where
   most : at < i + left
   holds : f at ≡ true
 
-none-holds :
+none_holds :
     (f : ℕ → Bool) (i left : ℕ) → any_of f (from i left) ≡ false → (j : ℕ) → i ≤ j → j < i + left → f j ≡ false
 unfolding any_of from
-none-holds f i zero e j l h = absurd (omega (arith, l, h))
-none-holds f i (suc left) e j l h =
-    let p = or-false (f i) (any_of f (from (suc i) left)) e in
+none_holds f i zero e j l h = absurd (omega (arith, l, h))
+none_holds f i (suc left) e j l h =
+    let p = or_false (f i) (any_of f (from (suc i) left)) e in
     elim (ℕ_discrete i j) [
       | yes q ↦ ap f (sym q) ∙ p.0
-      | no q ↦ none-holds f (suc i) left p.1 j (omega arith) (omega arith)
+      | no q ↦ none_holds f (suc i) left p.1 j (omega arith) (omega arith)
     ]
 
-all-fail : (f : ℕ → Bool) (i left : ℕ) → ((j : ℕ) → i ≤ j → j < i + left → f j ≡ false) → any_of f (from i left) ≡ false
+all_fail : (f : ℕ → Bool) (i left : ℕ) → ((j : ℕ) → i ≤ j → j < i + left → f j ≡ false) → any_of f (from i left) ≡ false
 unfolding any_of from
-all-fail f i zero h = refl
-all-fail f i (suc left) h =
-    rw (h i (omega arith) (omega arith)) (all-fail f (suc i) left (λ j l m. h j (omega arith) (omega arith)))
+all_fail f i zero h = refl
+all_fail f i (suc left) h =
+    rw (h i (omega arith) (omega arith)) (all_fail f (suc i) left (λ j l m. h j (omega arith) (omega arith)))
 
 some_holds : (f : ℕ → Bool) (i left : ℕ) → any_of f (from i left) ≡ true → Found f i left
 unfolding any_of from
@@ -62,44 +62,44 @@ some_holds f i (suc left) e = go (f i) refl e (some_holds f (suc i) left)
 
 module _ (t : Sheet) (p : List ℕ) where
   abbrev over : ℕ → Bool
-  over i = reportedRacking t p i above sideLimit
+  over i = reported_racking t p i above side_limit
 
   -- a racking beside the limit, which is a whole number
-  exact-within : (i : ℕ) → reportedRacking t p i ≤ sideLimit → sideRacking t p i ⊑ nat sideLimit
-  exact-within i h =
-      let r = reportedRacking t p i in
-      to-⊑ (sideRacking t p i) (nat sideLimit)
-      (≤ℚ-trans (mk (sideRacking t p i)) (mk (nat r)) (mk (nat sideLimit))
-      (of-⊑ (sideRacking t p i) (nat r) (reports t p i).racking.notBelow)
-      (rw (mk-int (pos r), mk-int (pos sideLimit)) (nat-q r sideLimit h)))
+  exact_within : (i : ℕ) → reported_racking t p i ≤ side_limit → side_racking t p i ⊑ nat side_limit
+  exact_within i h =
+      let r = reported_racking t p i in
+      to-⊑ (side_racking t p i) (nat side_limit)
+      (≤ℚ-trans (mk (side_racking t p i)) (mk (nat r)) (mk (nat side_limit))
+      (of-⊑ (side_racking t p i) (nat r) (reports t p i).racking.not_below)
+      (rw (mk_int (pos r), mk_int (pos side_limit)) (nat_q r side_limit h)))
 
-  exact_above : (i : ℕ) → sideLimit < reportedRacking t p i → nat sideLimit ⊏ sideRacking t p i
+  exact_above : (i : ℕ) → side_limit < reported_racking t p i → nat side_limit ⊏ side_racking t p i
   exact_above i h =
-      to-⊏ (nat sideLimit) (sideRacking t p i)
-      (lt_of (mk (nat sideLimit)) (mk (sideRacking t p i))
-      (λ k. clash (leb→le _ _ ((reports t p i).racking.least (pos sideLimit) (to-⊑ (sideRacking t p i) (nat sideLimit) k)).le)))
+      to-⊏ (nat side_limit) (side_racking t p i)
+      (lt_of (mk (nat side_limit)) (mk (side_racking t p i))
+      (λ k. clash (leb→le _ _ ((reports t p i).racking.least (pos side_limit) (to-⊑ (side_racking t p i) (nat side_limit) k)).le)))
     where
-      clash : reportedRacking t p i ≤ sideLimit → ⊥
+      clash : reported_racking t p i ≤ side_limit → ⊥
       clash k = omega arith
 
-  judged : (b : Bool) → any_of over (below t.ntiers) ≡ b → sideVerdict t p ≡ cond b 1 0
-  unfolding sideVerdict
+  judged : (b : Bool) → any_of over (below t.ntiers) ≡ b → side_verdict t p ≡ cond b 1 0
+  unfolding side_verdict
   judged b e = rw e refl
 
-  within_all : any_of over (below t.ntiers) ≡ false → (i : ℕ) → i < t.ntiers → reportedRacking t p i ≤ sideLimit
-  within_all e i h = ltb-false sideLimit (reportedRacking t p i) (none-holds over 0 t.ntiers e i (omega arith) (omega arith))
+  within_all : any_of over (below t.ntiers) ≡ false → (i : ℕ) → i < t.ntiers → reported_racking t p i ≤ side_limit
+  within_all e i h = ltb-false side_limit (reported_racking t p i) (none_holds over 0 t.ntiers e i (omega arith) (omega arith))
 
-  none_over : sideVerdict t p ≡ 0 → any_of over (below t.ntiers) ≡ false
+  none_over : side_verdict t p ≡ 0 → any_of over (below t.ntiers) ≡ false
   none_over e = go (any_of over (below t.ntiers)) refl
     where
       go : (b : Bool) → any_of over (below t.ntiers) ≡ b → b ≡ false
       go true q = absurd (omega (arith, sym e ∙ judged true q))
       go false q = refl
 
-  pub found : ¬ (sideVerdict t p ≡ 0) → (sideVerdict t p ≡ 1) × Exceeded t p
+  pub found : ¬ (side_verdict t p ≡ 0) → (side_verdict t p ≡ 1) × Exceeded t p
   found ne = go (any_of over (below t.ntiers)) refl
     where
-      go : (b : Bool) → any_of over (below t.ntiers) ≡ b → (sideVerdict t p ≡ 1) × Exceeded t p
+      go : (b : Bool) → any_of over (below t.ntiers) ≡ b → (side_verdict t p ≡ 1) × Exceeded t p
       go false q = absurd (ne (judged false q))
       go true q =
           let r = some_holds over 0 t.ntiers q in (
@@ -107,22 +107,22 @@ module _ (t : Sheet) (p : List ℕ) where
             record {
               tier = r.at;
               stacked = omega (arith, r.most);
-              above = exact_above r.at (ltb-true sideLimit (reportedRacking t p r.at) r.holds);
+              above = exact_above r.at (ltb-true side_limit (reported_racking t p r.at) r.holds);
             },
           )
 
-pub all-judged : AllJudged
-all-judged t p =
+pub all_judged : AllJudged
+all_judged t p =
     record {
       reported = λ e. within_all t p (none_over t p e);
       none =
           λ h.
           judged t p false
-          (all-fail (over t p) 0 t.ntiers (λ i l m. le-ltb sideLimit (reportedRacking t p i) (h i (omega arith))));
-      exact = λ e i h. exact-within t p i (within_all t p (none_over t p e) i h);
+          (all_fail (over t p) 0 t.ntiers (λ i l m. le-ltb side_limit (reported_racking t p i) (h i (omega arith))));
+      exact = λ e i h. exact_within t p i (within_all t p (none_over t p e) i h);
       exceeded = found t p;
     }
 
-pub all-by-rule : AllByRule
-unfolding sideRacking
-all-by-rule t p i = record { class-rule = λ e. rw e refl; fleet = λ e. rw e refl }
+pub all_by_rule : AllByRule
+unfolding side_racking
+all_by_rule t p i = record { class_rule = λ e. rw e refl; fleet = λ e. rw e refl }

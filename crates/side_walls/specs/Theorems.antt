@@ -5,24 +5,24 @@ use Rattle.arith.specs.Theorems.{LeastNotBelow}
 use Rattle.sheet.specs.declared.Sheet.{Sheet}
 use Rattle.sheet.specs.Fits.{Fits}
 use Rattle.statics.specs.Loads.{half}
-use Rattle.side_walls.specs.SideWalls.{sideForce, tiersAbove, sideRacking, sideShift, reportedRacking, reportedShift, sideLimit}
-use Rattle.side_walls.specs.SideWalls.{sideVerdict}
-use Rattle.side_walls.specs.inner.Units.{Pitched}
+use Rattle.side_walls.specs.SideWalls.{side_force, tiers_above, side_racking, side_shift, reported_racking, reported_shift, side_limit}
+use Rattle.side_walls.specs.SideWalls.{side_verdict}
+use Rattle.side_walls.specs.Inner.Units.{Pitched}
 
 -- what is reported is what its words say: neither is below zero, so that no sign is lost (proofs/Exact)
 pub record Reports (t : Sheet) (p : List ℕ) (i : ℕ) : Type 0 where
-  pub racking : LeastNotBelow (sideRacking t p i) (pos (reportedRacking t p i))
-  pub shift : LeastNotBelow (nat 1000 *q sideShift t p (suc i)) (pos (reportedShift t p i))
+  pub racking : LeastNotBelow (side_racking t p i) (pos (reported_racking t p i))
+  pub shift : LeastNotBelow (nat 1000 *q side_shift t p (suc i)) (pos (reported_shift t p i))
 
 abbrev pub AllReport : Type 0
 AllReport = (t : Sheet) (p : List ℕ) (i : ℕ) → Reports t p i
 
 -- the share by the rule number: 0.45 by rule 1, half by rule 2 (proofs/Verdicts)
 pub record SharesByRule (t : Sheet) (p : List ℕ) (i : ℕ) : Type 0 where
-  pub class-rule :
+  pub class_rule :
       t.head.rule ≡ 1 →
-      sideRacking t p i ≡ (nat 45 /q nat 100) *q sideForce t p i +q sumq (sideForce t p) (tiersAbove t i)
-  pub fleet : t.head.rule ≡ 2 → sideRacking t p i ≡ half *q sideForce t p i +q sumq (sideForce t p) (tiersAbove t i)
+      side_racking t p i ≡ (nat 45 /q nat 100) *q side_force t p i +q sumq (side_force t p) (tiers_above t i)
+  pub fleet : t.head.rule ≡ 2 → side_racking t p i ≡ half *q side_force t p i +q sumq (side_force t p) (tiers_above t i)
 
 abbrev pub AllByRule : Type 0
 AllByRule = (t : Sheet) (p : List ℕ) (i : ℕ) → SharesByRule t p i
@@ -31,14 +31,14 @@ AllByRule = (t : Sheet) (p : List ℕ) (i : ℕ) → SharesByRule t p i
 pub record Exceeded (t : Sheet) (p : List ℕ) : Type 0 where
   pub tier : ℕ
   pub stacked : tier < t.ntiers
-  pub above : nat sideLimit ⊏ sideRacking t p tier
+  pub above : nat side_limit ⊏ side_racking t p tier
 
 -- verdict 0 exactly when no reported racking exceeds the limit; then no exact one does. Verdict 1: some exact one does (proofs/Verdicts)
 pub record Verdicts (t : Sheet) (p : List ℕ) : Type 0 where
-  pub reported : sideVerdict t p ≡ 0 → (i : ℕ) → i < t.ntiers → reportedRacking t p i ≤ sideLimit
-  pub none : ((i : ℕ) → i < t.ntiers → reportedRacking t p i ≤ sideLimit) → sideVerdict t p ≡ 0
-  pub exact : sideVerdict t p ≡ 0 → (i : ℕ) → i < t.ntiers → sideRacking t p i ⊑ nat sideLimit
-  pub exceeded : ¬ (sideVerdict t p ≡ 0) → (sideVerdict t p ≡ 1) × Exceeded t p
+  pub reported : side_verdict t p ≡ 0 → (i : ℕ) → i < t.ntiers → reported_racking t p i ≤ side_limit
+  pub none : ((i : ℕ) → i < t.ntiers → reported_racking t p i ≤ side_limit) → side_verdict t p ≡ 0
+  pub exact : side_verdict t p ≡ 0 → (i : ℕ) → i < t.ntiers → side_racking t p i ⊑ nat side_limit
+  pub exceeded : ¬ (side_verdict t p ≡ 0) → (side_verdict t p ≡ 1) × Exceeded t p
 
 abbrev pub AllJudged : Type 0
 AllJudged = (t : Sheet) (p : List ℕ) → Verdicts t p
@@ -51,4 +51,4 @@ Most =
     Pitched t.ntiers p →
     (i : ℕ) →
     i < t.ntiers →
-    (reportedRacking t p i ≤ 2130438) × (reportedShift t p i ≤ 1936586)
+    (reported_racking t p i ≤ 2130438) × (reported_shift t p i ≤ 1936586)

@@ -2,8 +2,8 @@
 
 ghost use Rattle.std.specs.Prelude.{◌≡◌, ℕ, ◌+◌, ◌*◌, ◌<◌, ◌≤◌, ◌^◌, get_or, replicate};
 ghost use Rattle.sheet.specs.Fits.{Fits};
-ghost use Rattle.statics.specs.inner.Computed.{shareTwentieths};
-ghost use Rattle.side_walls.specs.inner.Units.{Pitched, Pushed, RoundedUp, SideFigured};
+ghost use Rattle.statics.specs.Inner.Computed.{share_twentieths};
+ghost use Rattle.side_walls.specs.Inner.Units.{Pitched, Pushed, RoundedUp, SideFigured};
 
 use arith::bytes::read2;
 use arith::rounding::ceil_div;
@@ -39,7 +39,7 @@ fn racking_of(share: u64, own: u64, above: u64) -> u64
 
 // The rackings of all tiers, from the top down.
 fn push_all(t: Sheet, share: u64, pitch: &[u8], units: &mut [u64; 10])
-    requires { Fits t × Pitched t.ntiers pitch.now × (share ≡ shareTwentieths t.head.rule) × (share ≤ 20)
+    requires { Fits t × Pitched t.ntiers pitch.now × (share ≡ share_twentieths t.head.rule) × (share ≤ 20)
         × (units.old ≡ replicate 10 0) }
     ensures { Pushed t pitch.now units.new }
 {

@@ -13,20 +13,20 @@ use lib.ListN.{length, get_or}
 use Rattle.arith.specs.Lists.{from, below}
 use Rattle.arith.specs.Fractions.{Frac, nat, ◌-q◌, ◌*q◌, ◌/q◌, absq, sumq, ◌⊑◌}
 use Rattle.arith.proofs.Polynomials.{kp}
-use Rattle.arith.proofs.Rings.{∀₁, ∀₂, ∀₃, ∀₁₀, by-ring, by-cert, part, to, times, num, ◌⊞◌, ◌⊠◌}
-use Rattle.arith.proofs.Rationals.{ℚR, ℚ, mk, ◌+ℚ◌, ◌-ℚ◌, ◌*ℚ◌, negℚ, ◌/ℚ◌, recipℚ, absℚ, ◌≤ℚ◌, nn-int, int-plus, recip-times, to-⊑}
-use Rattle.arith.proofs.RationalTerms.{qq, q-int-add, q-int-mul}
-use Rattle.arith.proofs.RationalOrder.{≤ℚ-trans, nat-q, above-0, div-times}
-use Rattle.arith.proofs.FractionsInRationals.{sumℚ, mk-int, mk-div, of-≈, toℚ}
-use Rattle.springs.specs.Equations.{Tier, Lash, tierAt, shift, racking, Solves}
-use Rattle.springs.specs.inner.Promise.{stiffnessScale, farthest, shiftScale, Near, found, errorHundredths}
-use Rattle.springs.specs.inner.Promise.{lashError, rackingError, Promised}
-use Rattle.springs.specs.inner.Balance.{springAt, pulled, pushed, slackAt}
+use Rattle.arith.proofs.Rings.{∀₁, ∀₂, ∀₃, ∀₁₀, by_ring, by_cert, part, to, times, num, ◌⊞◌, ◌⊠◌}
+use Rattle.arith.proofs.Rationals.{ℚR, ℚ, mk, ◌+ℚ◌, ◌-ℚ◌, ◌*ℚ◌, negℚ, ◌/ℚ◌, recipℚ, absℚ, ◌≤ℚ◌, nn_int, int_plus, recip_times, to-⊑}
+use Rattle.arith.proofs.RationalTerms.{qq, q_int_add, q_int_mul}
+use Rattle.arith.proofs.RationalOrder.{≤ℚ-trans, nat_q, above_0, div_times}
+use Rattle.arith.proofs.FractionsInRationals.{sumℚ, mk_int, mk_div, of-≈, toℚ}
+use Rattle.springs.specs.Equations.{Tier, Lash, tier_at, shift, racking, Solves}
+use Rattle.springs.specs.Inner.Promise.{stiffness_scale, farthest, shift_scale, Near, found, error_hundredths}
+use Rattle.springs.specs.Inner.Promise.{lash_error, racking_error, Promised}
+use Rattle.springs.specs.Inner.Balance.{spring_at, pulled, pushed, slack_at}
 use Rattle.springs.proofs.Chain.{natℚ, force, load}
-use Rattle.springs.proofs.Levels.{springs, lashes, loads, shifts, mk-racking, no-spring}
-use Rattle.springs.proofs.Stability.{lash-errors, racking-errors, mk-errors}
-use Rattle.springs.proofs.OutOfBalance.{S, unit, times-abs, out-high, out-low}
-use Rattle.springs.proofs.Balance.{spring-in, spring-top, Level}
+use Rattle.springs.proofs.Levels.{springs, lashes, loads, shifts, mk_racking, no_spring}
+use Rattle.springs.proofs.Stability.{lash_errors, racking_errors, mk_errors}
+use Rattle.springs.proofs.OutOfBalance.{S, unit, times_abs, out_high, out_low}
+use Rattle.springs.proofs.Balance.{spring_in, spring_top, Level}
 
 -- shifts of levels 1 to n that are not too far, and 0 elsewhere
 pub record Guessed (n : ℕ) (d : List ℕ) : Type 0 where
@@ -36,39 +36,39 @@ pub record Guessed (n : ℕ) (d : List ℕ) : Type 0 where
 
 -- what a level may be out of balance by, in 2^-50 N
 abbrev most : ℕ
-most = 1326004 * stiffnessScale
+most = 1326004 * stiffness_scale
 
 -- h what the lashes hold the level with, rounded down; b what it may be out of balance by, t its shift in 2^20 units, rounded down
-high-G :
+high_g :
     (K L κ ω p d e h b t : ℚ) →
     K *ℚ d +ℚ L *ℚ d +ℚ h ≤ℚ K *ℚ p +ℚ L *ℚ e +ℚ ω +ℚ b →
     κ *ℚ d ≤ℚ h *ℚ S +ℚ S →
     b +ℚ t ≤ℚ natℚ 1326000 →
     d ≤ℚ natℚ (2 ^ 20) *ℚ t +ℚ natℚ (2 ^ 20) →
-    S *ℚ (K *ℚ (d -ℚ p)) -ℚ S *ℚ (L *ℚ (e -ℚ d)) +ℚ κ *ℚ d -ℚ S *ℚ ω +ℚ natℚ 4 *ℚ d ≤ℚ natℚ (1326002 * stiffnessScale)
-high-G =
+    S *ℚ (K *ℚ (d -ℚ p)) -ℚ S *ℚ (L *ℚ (e -ℚ d)) +ℚ κ *ℚ d -ℚ S *ℚ ω +ℚ natℚ 4 *ℚ d ≤ℚ natℚ (1326002 * stiffness_scale)
+high_g =
     ∀₁₀ ℚR _ λ ρ.
     simp qq λ a hh bt hd.
-    by-cert (num stiffnessScale ⊠ to a ⊞ to hh ⊞ num stiffnessScale ⊠ to bt ⊞ num 4 ⊠ to hd) tt
+    by_cert (num stiffness_scale ⊠ to a ⊞ to hh ⊞ num stiffness_scale ⊠ to bt ⊞ num 4 ⊠ to hd) tt
 
-low-G :
+low_g :
     (K L κ ω p d e h b t : ℚ) →
     K *ℚ p +ℚ L *ℚ e +ℚ ω ≤ℚ K *ℚ d +ℚ L *ℚ d +ℚ h +ℚ b →
     h *ℚ S ≤ℚ κ *ℚ d →
     b +ℚ t ≤ℚ natℚ 1326000 →
     natℚ 0 ≤ℚ t →
-    negℚ (natℚ (1326000 * stiffnessScale)) ≤ℚ S *ℚ (K *ℚ (d -ℚ p)) -ℚ S *ℚ (L *ℚ (e -ℚ d)) +ℚ κ *ℚ d -ℚ S *ℚ ω
-low-G =
+    negℚ (natℚ (1326000 * stiffness_scale)) ≤ℚ S *ℚ (K *ℚ (d -ℚ p)) -ℚ S *ℚ (L *ℚ (e -ℚ d)) +ℚ κ *ℚ d -ℚ S *ℚ ω
+low_g =
     ∀₁₀ ℚR _ λ ρ.
     simp qq λ a hh bt ht.
-    by-cert (num stiffnessScale ⊠ to a ⊞ to hh ⊞ num stiffnessScale ⊠ to bt ⊞ num stiffnessScale ⊠ to ht) tt
+    by_cert (num stiffness_scale ⊠ to a ⊞ to hh ⊞ num stiffness_scale ⊠ to bt ⊞ num stiffness_scale ⊠ to ht) tt
 
 -- the shift found, in mm
-found-is : (d : List ℕ) (j : ℕ) → natℚ shiftScale *ℚ mk (found d j) ≡ natℚ (get_or d j 0)
-found-is d j =
-    ap (λ z. natℚ shiftScale *ℚ z)
-    (mk-div (nat (get_or d j 0)) (nat shiftScale) ∙ ap₂ ◌/ℚ◌ (mk-int (pos (get_or d j 0))) (mk-int (pos shiftScale)))
-    ∙ div-times (natℚ (get_or d j 0)) (natℚ shiftScale) (above-0 shiftScale (lit< tt))
+found_is : (d : List ℕ) (j : ℕ) → natℚ shift_scale *ℚ mk (found d j) ≡ natℚ (get_or d j 0)
+found_is d j =
+    ap (λ z. natℚ shift_scale *ℚ z)
+    (mk_div (nat (get_or d j 0)) (nat shift_scale) ∙ ap₂ ◌/ℚ◌ (mk_int (pos (get_or d j 0))) (mk_int (pos shift_scale)))
+    ∙ div_times (natℚ (get_or d j 0)) (natℚ shift_scale) (above_0 shift_scale (lit< tt))
 
 module _
     (n : ℕ)
@@ -83,15 +83,15 @@ module _
 
     module _ (ts : List Tier) (ls : List Lash) (near : Near n k κ ω ts ls) where
       spring : (j : ℕ) → j < n → springs ts j ≡ natℚ (get_or k j 0)
-      spring j l = of-≈ (tierAt ts j).K (nat (get_or k j 0)) (near.spring j l) ∙ mk-int (pos (get_or k j 0))
+      spring j l = of-≈ (tier_at ts j).K (nat (get_or k j 0)) (near.spring j l) ∙ mk_int (pos (get_or k j 0))
 
       -- the spring over level i + 1
-      over : (i : ℕ) → i < n → springs ts (suc i) ≡ natℚ (springAt n k (suc i))
+      over : (i : ℕ) → i < n → springs ts (suc i) ≡ natℚ (spring_at n k (suc i))
       over i l = go (dec_le (suc (suc i)) n)
         where
-          go : Dec (suc (suc i) ≤ n) → springs ts (suc i) ≡ natℚ (springAt n k (suc i))
-          go (yes b) = spring (suc i) b ∙ ap natℚ (sym (spring-in n k (suc i) b))
-          go (no b) = no-spring ts (suc i) (omega (arith, near.tiers)) ∙ ap natℚ (sym (spring-top n k (suc i) (omega arith)))
+          go : Dec (suc (suc i) ≤ n) → springs ts (suc i) ≡ natℚ (spring_at n k (suc i))
+          go (yes b) = spring (suc i) b ∙ ap natℚ (sym (spring_in n k (suc i) b))
+          go (no b) = no_spring ts (suc i) (omega (arith, near.tiers)) ∙ ap natℚ (sym (spring_top n k (suc i) (omega arith)))
 
       -- the balance of level i + 1 by the shifts in units
       abbrev G : ℕ → ℚ
@@ -103,60 +103,60 @@ module _
 
       module _ (i : ℕ) (l : i < n) where
         abbrev held : ℕ
-        held = get_or κ i 0 * get_or d (suc i) 0 / stiffnessScale
+        held = get_or κ i 0 * get_or d (suc i) 0 / stiffness_scale
 
         abbrev coarse : ℕ
         coarse = get_or d (suc i) 0 / 2 ^ 20
 
         held_low : natℚ held *ℚ S ≤ℚ natℚ (get_or κ i 0) *ℚ units (suc i)
         held_low =
-            simp q-int-mul
-            (nat-q (held * stiffnessScale) (get_or κ i 0 * get_or d (suc i) 0)
-            (omega (arith, div-add-mod' (get_or κ i 0 * get_or d (suc i) 0) stiffnessScale)))
+            simp q_int_mul
+            (nat_q (held * stiffness_scale) (get_or κ i 0 * get_or d (suc i) 0)
+            (omega (arith, div-add-mod' (get_or κ i 0 * get_or d (suc i) 0) stiffness_scale)))
 
         held_high : natℚ (get_or κ i 0) *ℚ units (suc i) ≤ℚ natℚ held *ℚ S +ℚ S
         held_high =
             let x = get_or κ i 0 * get_or d (suc i) 0 in
-            simp (q-int-mul, q-int-add)
-            (nat-q x (held * stiffnessScale + stiffnessScale)
-            (omega (arith, div-add-mod' x stiffnessScale, mod-lt x {m = stiffnessScale} (lit< tt))))
+            simp (q_int_mul, q_int_add)
+            (nat_q x (held * stiffness_scale + stiffness_scale)
+            (omega (arith, div-add-mod' x stiffness_scale, mod-lt x {m = stiffness_scale} (lit< tt))))
 
-        slack-is : natℚ (slackAt (get_or d (suc i) 0)) +ℚ natℚ coarse ≤ℚ natℚ 1326000
-        unfolding slackAt
-        slack-is =
-            simp q-int-add
-            (nat-q (slackAt (get_or d (suc i) 0) + coarse) 1326000
+        slack_is : natℚ (slack_at (get_or d (suc i) 0)) +ℚ natℚ coarse ≤ℚ natℚ 1326000
+        unfolding slack_at
+        slack_is =
+            simp q_int_add
+            (nat_q (slack_at (get_or d (suc i) 0) + coarse) 1326000
             (omega (arith, div-add-mod' (get_or d (suc i) 0) (2 ^ 20), g.far (suc i))))
 
-        shift-high : units (suc i) ≤ℚ natℚ (2 ^ 20) *ℚ natℚ coarse +ℚ natℚ (2 ^ 20)
-        shift-high =
+        shift_high : units (suc i) ≤ℚ natℚ (2 ^ 20) *ℚ natℚ coarse +ℚ natℚ (2 ^ 20)
+        shift_high =
             let x = get_or d (suc i) 0 in
-            simp (q-int-mul, q-int-add)
-            (nat-q x (2 ^ 20 * coarse + 2 ^ 20) (omega (arith, div-add-mod' x (2 ^ 20), mod-lt x {m = 2 ^ 20} (lit< tt))))
+            simp (q_int_mul, q_int_add)
+            (nat_q x (2 ^ 20 * coarse + 2 ^ 20) (omega (arith, div-add-mod' x (2 ^ 20), mod-lt x {m = 2 ^ 20} (lit< tt))))
 
-        high : G i +ℚ natℚ 4 *ℚ units (suc i) ≤ℚ natℚ (1326002 * stiffnessScale)
+        high : G i +ℚ natℚ 4 *ℚ units (suc i) ≤ℚ natℚ (1326002 * stiffness_scale)
         unfolding pulled pushed
         high =
-            let slack = slackAt (get_or d (suc i) 0) in
+            let slack = slack_at (get_or d (suc i) 0) in
             rw (spring i l, over i l)
-            (high-G (natℚ (get_or k i 0)) (natℚ (springAt n k (suc i))) (natℚ (get_or κ i 0)) (natℚ (get_or ω i 0)) (units i) (units (suc i))
+            (high_g (natℚ (get_or k i 0)) (natℚ (spring_at n k (suc i))) (natℚ (get_or κ i 0)) (natℚ (get_or ω i 0)) (units i) (units (suc i))
             (units (suc (suc i))) (natℚ held) (natℚ slack) (natℚ coarse)
-            (simp (q-int-mul, q-int-add) (nat-q (pulled n k κ d i) (pushed n k ω d i + slack) (bal i l).high))
+            (simp (q_int_mul, q_int_add) (nat_q (pulled n k κ d i) (pushed n k ω d i + slack) (bal i l).high))
             held_high
-            slack-is
-            shift-high)
+            slack_is
+            shift_high)
 
-        low : negℚ (natℚ (1326000 * stiffnessScale)) ≤ℚ G i
+        low : negℚ (natℚ (1326000 * stiffness_scale)) ≤ℚ G i
         unfolding pulled pushed
         low =
-            let slack = slackAt (get_or d (suc i) 0) in
+            let slack = slack_at (get_or d (suc i) 0) in
             rw (spring i l, over i l)
-            (low-G (natℚ (get_or k i 0)) (natℚ (springAt n k (suc i))) (natℚ (get_or κ i 0)) (natℚ (get_or ω i 0)) (units i) (units (suc i))
+            (low_g (natℚ (get_or k i 0)) (natℚ (spring_at n k (suc i))) (natℚ (get_or κ i 0)) (natℚ (get_or ω i 0)) (units i) (units (suc i))
             (units (suc (suc i))) (natℚ held) (natℚ slack) (natℚ coarse)
-            (simp (q-int-mul, q-int-add) (nat-q (pushed n k ω d i) (pulled n k κ d i + slack) (bal i l).low))
+            (simp (q_int_mul, q_int_add) (nat_q (pushed n k ω d i) (pulled n k κ d i + slack) (bal i l).low))
             held_low
-            slack-is
-            (nn-int coarse))
+            slack_is
+            (nn_int coarse))
 
       -- what level i + 1 is out of balance by under the shifts found
       abbrev f : ℕ → ℚ
@@ -164,99 +164,99 @@ module _
 
       out_at : (i : ℕ) → i < n → natℚ (2 ^ 50) *ℚ absℚ (load (springs ts) (lashes ls) f i -ℚ loads ts i) ≤ℚ natℚ most
       out_at i l =
-          times-abs (natℚ (2 ^ 50)) (load (springs ts) (lashes ls) f i -ℚ loads ts i) (natℚ most)
+          times_abs (natℚ (2 ^ 50)) (load (springs ts) (lashes ls) f i -ℚ loads ts i) (natℚ most)
           (≤ℚ-trans (natℚ unit *ℚ (load (springs ts) (lashes ls) f i -ℚ loads ts i)) (G i +ℚ natℚ 4 *ℚ units (suc i)) (natℚ most)
-          (out-high n k κ ω ts ls near (λ j. get_or d j 0) f (found-is d) i l)
-          (≤ℚ-trans (G i +ℚ natℚ 4 *ℚ units (suc i)) (natℚ (1326002 * stiffnessScale)) (natℚ most) (high i l)
-          (nat-q (1326002 * stiffnessScale) most (omega arith))))
+          (out_high n k κ ω ts ls near (λ j. get_or d j 0) f (found_is d) i l)
+          (≤ℚ-trans (G i +ℚ natℚ 4 *ℚ units (suc i)) (natℚ (1326002 * stiffness_scale)) (natℚ most) (high i l)
+          (nat_q (1326002 * stiffness_scale) most (omega arith))))
           (less (natℚ unit *ℚ negℚ (load (springs ts) (lashes ls) f i -ℚ loads ts i)) (G i) (low i l)
-          (out-low n k κ ω ts ls near (λ j. get_or d j 0) f (found-is d) i l))
+          (out_low n k κ ω ts ls near (λ j. get_or d j 0) f (found_is d) i l))
         where
-          less : (a g : ℚ) → negℚ (natℚ (1326000 * stiffnessScale)) ≤ℚ g → a ≤ℚ natℚ (4 * stiffnessScale) -ℚ g → a ≤ℚ natℚ most
-          less = ∀₂ ℚR _ λ ρ. simp qq λ h l. by-cert (to h ⊞ to l) tt
+          less : (a g : ℚ) → negℚ (natℚ (1326000 * stiffness_scale)) ≤ℚ g → a ≤ℚ natℚ (4 * stiffness_scale) -ℚ g → a ≤ℚ natℚ most
+          less = ∀₂ ℚR _ λ ρ. simp qq λ h l. by_cert (to h ⊞ to l) tt
 
       -- all levels together, ten at most
       abbrev size : ℕ → ℚ
       size i = absℚ (load (springs ts) (lashes ls) f i -ℚ loads ts i)
 
-      outs-at : (i m : ℕ) → i + m ≤ n → natℚ (2 ^ 50) *ℚ sumℚ size (from i m) ≤ℚ natℚ m *ℚ natℚ most
+      outs_at : (i m : ℕ) → i + m ≤ n → natℚ (2 ^ 50) *ℚ sumℚ size (from i m) ≤ℚ natℚ m *ℚ natℚ most
       unfolding sumℚ from
-      outs-at i zero b = none (natℚ 0) refl
+      outs_at i zero b = none (natℚ 0) refl
         where
           none : (z : ℚ) → z ≡ natℚ 0 → natℚ (2 ^ 50) *ℚ natℚ 0 ≤ℚ z *ℚ natℚ most
-          none = ∀₁ ℚR _ λ ρ. simp qq λ e. by-cert (times (kp most) e) tt
-      outs-at i (suc m) b =
+          none = ∀₁ ℚR _ λ ρ. simp qq λ e. by_cert (times (kp most) e) tt
+      outs_at i (suc m) b =
           subst (λ z. natℚ (2 ^ 50) *ℚ sumℚ size (from i (suc m)) ≤ℚ z *ℚ natℚ most)
-          (sym (int-plus (pos m) (pos 1)) ∙ ap natℚ (add-one m))
-          (more (size i) (sumℚ size (from (suc i) m)) (natℚ m) (out_at i (omega arith)) (outs-at (suc i) m (omega arith)))
+          (sym (int_plus (pos m) (pos 1)) ∙ ap natℚ (add-one m))
+          (more (size i) (sumℚ size (from (suc i) m)) (natℚ m) (out_at i (omega arith)) (outs_at (suc i) m (omega arith)))
         where
           more :
               (a t m : ℚ) →
               natℚ (2 ^ 50) *ℚ a ≤ℚ natℚ most →
               natℚ (2 ^ 50) *ℚ t ≤ℚ m *ℚ natℚ most →
               natℚ (2 ^ 50) *ℚ (a +ℚ t) ≤ℚ (m +ℚ natℚ 1) *ℚ natℚ most
-          more = ∀₃ ℚR _ λ ρ. simp qq λ h l. by-cert (to h ⊞ to l) tt
+          more = ∀₃ ℚR _ λ ρ. simp qq λ h l. by_cert (to h ⊞ to l) tt
 
-      outs-small : sumℚ size (below (length ts)) ≤ℚ mk lashError
-      outs-small =
-          rw (error-is)
+      outs_small : sumℚ size (below (length ts)) ≤ℚ mk lash_error
+      outs_small =
+          rw (error_is)
           (go (sumℚ size (below (length ts))) (natℚ (length ts)) (recipℚ (natℚ 100))
-          (outs-at 0 (length ts) (omega (arith, near.tiers)))
-          (nat-q (length ts) 10 (omega (arith, near.tiers, few)))
+          (outs_at 0 (length ts) (omega (arith, near.tiers)))
+          (nat_q (length ts) 10 (omega (arith, near.tiers, few)))
           hundredth)
         where
           hundredth : natℚ 100 *ℚ recipℚ (natℚ 100) ≡ natℚ 1
-          hundredth = recip-times (natℚ 100) (above-0 100 (lit< tt))
+          hundredth = recip_times (natℚ 100) (above_0 100 (lit< tt))
 
-          error-is : mk lashError ≡ natℚ errorHundredths *ℚ recipℚ (natℚ 100)
-          error-is = simp toℚ
+          error_is : mk lash_error ≡ natℚ error_hundredths *ℚ recipℚ (natℚ 100)
+          error_is = simp toℚ
 
           go :
               (a m r : ℚ) →
               natℚ (2 ^ 50) *ℚ a ≤ℚ m *ℚ natℚ most →
               m ≤ℚ natℚ 10 →
               natℚ 100 *ℚ r ≡ natℚ 1 →
-              a ≤ℚ natℚ errorHundredths *ℚ r
+              a ≤ℚ natℚ error_hundredths *ℚ r
           go =
               ∀₃ ℚR _ λ ρ.
               simp qq λ h l e.
-              part (100 * 2 ^ 50 - 1) (num 100 ⊠ to h ⊞ num (100 * most) ⊠ to l ⊞ times (kp (errorHundredths * 2 ^ 50)) e) tt
+              part (100 * 2 ^ 50 - 1) (num 100 ⊠ to h ⊞ num (100 * most) ⊠ to l ⊞ times (kp (error_hundredths * 2 ^ 50)) e) tt
 
     -- at the deck and above the uppermost level
     found_none : (j : ℕ) → get_or d j 0 ≡ 0 → mk (found d j) ≡ natℚ 0
     found_none j z =
-        ap (λ (a : ℕ). mk (nat a /q nat shiftScale)) z
-        ∙ mk-div (nat 0) (nat shiftScale)
-        ∙ ap (λ a. a /ℚ mk (nat shiftScale)) (mk-int (pos 0))
-        ∙ go (recipℚ (mk (nat shiftScale)))
+        ap (λ (a : ℕ). mk (nat a /q nat shift_scale)) z
+        ∙ mk_div (nat 0) (nat shift_scale)
+        ∙ ap (λ a. a /ℚ mk (nat shift_scale)) (mk_int (pos 0))
+        ∙ go (recipℚ (mk (nat shift_scale)))
       where
         go : (r : ℚ) → natℚ 0 *ℚ r ≡ natℚ 0
-        go = ∀₁ ℚR _ λ ρ. simp qq (by-ring tt)
+        go = ∀₁ ℚR _ λ ρ. simp qq (by_ring tt)
 
     module _ (ts : List Tier) (ls : List Lash) (Ds : List Frac) (near : Near n k κ ω ts ls) (sol : Solves ts ls Ds) where
-      near-lashes : sumq (λ l. l.stiffness *q absq (found d l.level -q shift Ds l.level)) ls ⊑ lashError
-      near-lashes =
-          to-⊑ (sumq (λ l. l.stiffness *q absq (found d l.level -q shift Ds l.level)) ls) lashError
-          (rw (mk-errors ls (found d) (shift Ds))
+      near_lashes : sumq (λ l. l.stiffness *q absq (found d l.level -q shift Ds l.level)) ls ⊑ lash_error
+      near_lashes =
+          to-⊑ (sumq (λ l. l.stiffness *q absq (found d l.level -q shift Ds l.level)) ls) lash_error
+          (rw (mk_errors ls (found d) (shift Ds))
           (≤ℚ-trans (sumℚ (λ l. mk l.stiffness *ℚ absℚ (mk (found d l.level) -ℚ shifts Ds l.level)) ls)
           (sumℚ (size ts ls near) (below (length ts)))
-          (mk lashError)
-          (lash-errors ts ls Ds near.stiff sol (λ j. mk (found d j)) (found_none 0 g.deck)
+          (mk lash_error)
+          (lash_errors ts ls Ds near.stiff sol (λ j. mk (found d j)) (found_none 0 g.deck)
           (λ j b. found_none j (g.over j (omega (arith, near.tiers)))))
-          (outs-small ts ls near)))
+          (outs_small ts ls near)))
 
-      near-rackings : (i : ℕ) → i < n → absq ((tierAt ts i).K *q (found d (suc i) -q found d i) -q racking ts Ds i) ⊑ rackingError
-      near-rackings i b =
-          to-⊑ (absq ((tierAt ts i).K *q (found d (suc i) -q found d i) -q racking ts Ds i)) rackingError
-          (rw (one (tierAt ts i).K (found d (suc i)) (found d i) (racking ts Ds i), mk-racking ts Ds i)
+      near_rackings : (i : ℕ) → i < n → absq ((tier_at ts i).K *q (found d (suc i) -q found d i) -q racking ts Ds i) ⊑ racking_error
+      near_rackings i b =
+          to-⊑ (absq ((tier_at ts i).K *q (found d (suc i) -q found d i) -q racking ts Ds i)) racking_error
+          (rw (one (tier_at ts i).K (found d (suc i)) (found d i) (racking ts Ds i), mk_racking ts Ds i)
           (≤ℚ-trans (absℚ (force (springs ts) (λ j. mk (found d j)) i -ℚ force (springs ts) (shifts Ds) i))
           (sumℚ (size ts ls near) (below (length ts)))
-          (mk rackingError)
-          (racking-errors ts ls Ds near.stiff sol (λ j. mk (found d j)) (found_none 0 g.deck) i (omega (arith, near.tiers)))
-          (outs-small ts ls near)))
+          (mk racking_error)
+          (racking_errors ts ls Ds near.stiff sol (λ j. mk (found d j)) (found_none 0 g.deck) i (omega (arith, near.tiers)))
+          (outs_small ts ls near)))
         where
           one : (K a b r : Frac) → mk (absq (K *q (a -q b) -q r)) ≡ absℚ (mk K *ℚ (mk a -ℚ mk b) -ℚ mk r)
           one K a b r = simp toℚ
 
     pub certified : Promised n k κ ω d
-    certified = record { deck = g.deck; far = g.far; lashes = near-lashes; rackings = near-rackings }
+    certified = record { deck = g.deck; far = g.far; lashes = near_lashes; rackings = near_rackings }

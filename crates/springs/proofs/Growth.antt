@@ -8,29 +8,29 @@ use lib.IntN.{pos}
 use lib.ListN.{length}
 use Rattle.arith.specs.Fractions.{nat, ◌≈◌, ◌⊑◌}
 use Rattle.arith.proofs.Rationals.{mk, ◌≤ℚ◌, of-⊑, to-⊑}
-use Rattle.arith.proofs.Signs.{same-le}
-use Rattle.arith.proofs.FractionsInRationals.{mk-int, of-≈}
-use Rattle.springs.specs.Equations.{tierAt, shift, loadAt}
+use Rattle.arith.proofs.Signs.{same_le}
+use Rattle.arith.proofs.FractionsInRationals.{mk_int, of-≈}
+use Rattle.springs.specs.Equations.{tier_at, shift, load_at}
 use Rattle.springs.specs.Theorems.{NoShiftToWindward, GrowthWithLoads}
 use Rattle.springs.proofs.Chain.{natℚ, load}
-use Rattle.springs.proofs.Elimination.{not-windward, grows}
-use Rattle.springs.proofs.Levels.{springs, lashes, loads, shifts, mk-load, no-spring, deck, no_shift, spring-pos, spring-nn}
-use Rattle.springs.proofs.Levels.{lashes-nn, balance}
+use Rattle.springs.proofs.Elimination.{not_windward, grows}
+use Rattle.springs.proofs.Levels.{springs, lashes, loads, shifts, mk_load, no_spring, deck, no_shift, spring_pos, spring_nn}
+use Rattle.springs.proofs.Levels.{lashes_nn, balance}
 
-pub no-shift-to-windward : NoShiftToWindward
-no-shift-to-windward ts ls Ds s d loads-nn i =
-    to-⊑ (nat 0) (shift Ds i) (subst (λ z. z ≤ℚ shifts Ds i) (sym (mk-int (pos 0))) (at (dec_le i (length ts))))
+pub no_shift_to_windward : NoShiftToWindward
+no_shift_to_windward ts ls Ds s d loads-nn i =
+    to-⊑ (nat 0) (shift Ds i) (subst (λ z. z ≤ℚ shifts Ds i) (sym (mk_int (pos 0))) (at (dec_le i (length ts))))
   where
-    load-nn : (j : ℕ) → j < length ts → natℚ 0 ≤ℚ loads ts j
-    load-nn j h =
-        subst (λ z. natℚ 0 ≤ℚ z) (mk-load ts j)
-        (subst (λ z. z ≤ℚ mk (loadAt ts j)) (mk-int (pos 0)) (of-⊑ (nat 0) (loadAt ts j) (loads-nn j h)))
+    load_nn : (j : ℕ) → j < length ts → natℚ 0 ≤ℚ loads ts j
+    load_nn j h =
+        subst (λ z. natℚ 0 ≤ℚ z) (mk_load ts j)
+        (subst (λ z. z ≤ℚ mk (load_at ts j)) (mk_int (pos 0)) (of-⊑ (nat 0) (load_at ts j) (loads-nn j h)))
 
     at : Dec (i ≤ length ts) → natℚ 0 ≤ℚ shifts Ds i
     at (yes h) =
-        not-windward (springs ts) (lashes ls) (loads ts) (length ts) (spring-pos ts ls s) (spring-nn ts ls s) (lashes-nn ts ls s)
-        (no-spring ts (length ts) (omega arith)) (shifts Ds) (balance ts ls Ds d) load-nn (deck Ds) i (length ts - i) (omega arith)
-    at (no h) = subst (λ z. natℚ 0 ≤ℚ z) (sym (no_shift Ds i (omega (arith, d.levels)))) (same-le (natℚ 0))
+        not_windward (springs ts) (lashes ls) (loads ts) (length ts) (spring_pos ts ls s) (spring_nn ts ls s) (lashes_nn ts ls s)
+        (no_spring ts (length ts) (omega arith)) (shifts Ds) (balance ts ls Ds d) load_nn (deck Ds) i (length ts - i) (omega arith)
+    at (no h) = subst (λ z. natℚ 0 ≤ℚ z) (sym (no_shift Ds i (omega (arith, d.levels)))) (same_le (natℚ 0))
 
 pub growth : GrowthWithLoads
 growth ts us ls Ds Es s w d e i = to-⊑ (shift Ds i) (shift Es i) (at (dec_le i (length ts)))
@@ -39,20 +39,20 @@ growth ts us ls Ds Es s w d e i = to-⊑ (shift Ds i) (shift Es i) (at (dec_le i
     same = fun_ext (λ j. go j (dec_le (suc j) (length ts)))
       where
         go : (j : ℕ) → Dec (suc j ≤ length ts) → springs us j ≡ springs ts j
-        go j (yes h) = of-≈ (tierAt us j).K (tierAt ts j).K (w.springs j h)
-        go j (no h) = no-spring us j (omega (arith, w.tiers)) ∙ sym (no-spring ts j (omega arith))
+        go j (yes h) = of-≈ (tier_at us j).K (tier_at ts j).K (w.springs j h)
+        go j (no h) = no_spring us j (omega (arith, w.tiers)) ∙ sym (no_spring ts j (omega arith))
 
     more : (j : ℕ) → j < length ts → loads ts j ≤ℚ loads us j
     more j h =
-        subst (λ z. z ≤ℚ loads us j) (mk-load ts j)
-        (subst (λ z. mk (loadAt ts j) ≤ℚ z) (mk-load us j) (of-⊑ (loadAt ts j) (loadAt us j) (w.loads j h)))
+        subst (λ z. z ≤ℚ loads us j) (mk_load ts j)
+        (subst (λ z. mk (load_at ts j) ≤ℚ z) (mk_load us j) (of-⊑ (load_at ts j) (load_at us j) (w.loads j h)))
 
     at : Dec (i ≤ length ts) → shifts Ds i ≤ℚ shifts Es i
     at (yes h) =
-        grows (springs ts) (lashes ls) (loads ts) (loads us) (length ts) (spring-pos ts ls s) (spring-nn ts ls s) (lashes-nn ts ls s)
-        (no-spring ts (length ts) (omega arith)) (shifts Ds) (shifts Es) (balance ts ls Ds d)
+        grows (springs ts) (lashes ls) (loads ts) (loads us) (length ts) (spring_pos ts ls s) (spring_nn ts ls s) (lashes_nn ts ls s)
+        (no_spring ts (length ts) (omega arith)) (shifts Ds) (shifts Es) (balance ts ls Ds d)
         (λ j l. subst (λ K. load K (lashes ls) (shifts Es) j ≡ loads us j) same (balance us ls Es e j (omega (arith, w.tiers)))) more
         (deck Ds) (deck Es) i (length ts - i) (omega arith)
     at (no h) =
         subst (λ z. z ≤ℚ shifts Es i) (sym (no_shift Ds i (omega (arith, d.levels))))
-        (subst (λ z. natℚ 0 ≤ℚ z) (sym (no_shift Es i (omega (arith, e.levels, w.tiers)))) (same-le (natℚ 0)))
+        (subst (λ z. natℚ 0 ≤ℚ z) (sym (no_shift Es i (omega (arith, e.levels, w.tiers)))) (same_le (natℚ 0)))

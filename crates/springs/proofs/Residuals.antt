@@ -5,16 +5,16 @@ use native.Mathlib.Nat.{div-add-mod', mod-lt}
 use native.Mathlib.Omega.{arith}
 use lib.IntN.{pos}
 use Rattle.arith.proofs.Polynomials.{v, kp, kn, ◌⊕◌, ◌⊖◌, ◌⊗◌, ⊖◌}
-use Rattle.arith.proofs.Rings.{∀₂, ∀₁₀, by-cert, over, to, times, num, ◌⊞◌, ◌⊠◌}
-use Rattle.arith.proofs.Rationals.{ℚR, ℚ, ◌+ℚ◌, ◌-ℚ◌, ◌*ℚ◌, negℚ, ◌≤ℚ◌, nn-int, int-plus, int-times}
-use Rattle.arith.proofs.RationalTerms.{qq, q-int-add, q-int-mul}
-use Rattle.arith.proofs.RationalOrder.{lt_not, nat-q, above-0}
-use Rattle.springs.specs.inner.Promise.{stiffnessScale}
-use Rattle.springs.specs.inner.Elimination.{divisor, stiffnessDown, loadDown, shiftUp}
+use Rattle.arith.proofs.Rings.{∀₂, ∀₁₀, by_cert, over, to, times, num, ◌⊞◌, ◌⊠◌}
+use Rattle.arith.proofs.Rationals.{ℚR, ℚ, ◌+ℚ◌, ◌-ℚ◌, ◌*ℚ◌, negℚ, ◌≤ℚ◌, nn_int, int_plus, int_times}
+use Rattle.arith.proofs.RationalTerms.{qq, q_int_add, q_int_mul}
+use Rattle.arith.proofs.RationalOrder.{lt_not, nat_q, above_0}
+use Rattle.springs.specs.Inner.Promise.{stiffness_scale}
+use Rattle.springs.specs.Inner.Elimination.{divisor, stiffness_down, load_down, shift_up}
 use Rattle.springs.proofs.Chain.{natℚ}
 
 abbrev S : ℚ
-S = natℚ stiffnessScale
+S = natℚ stiffness_scale
 
 -- q is X S / c rounded down
 record Divided (q : ℕ) (X c : ℚ) : Type 0 where
@@ -23,15 +23,15 @@ record Divided (q : ℕ) (X c : ℚ) : Type 0 where
   low : natℚ 0 ≤ℚ rest
   high : rest ≤ℚ c
 
-divided : (x k b : ℕ) → 0 < k → Divided (x * stiffnessScale / (k * stiffnessScale + b)) (natℚ x) (natℚ k *ℚ S +ℚ natℚ b)
+divided : (x k b : ℕ) → 0 < k → Divided (x * stiffness_scale / (k * stiffness_scale + b)) (natℚ x) (natℚ k *ℚ S +ℚ natℚ b)
 divided x k b p = record {
-  rest = natℚ (x * stiffnessScale % (k * stiffnessScale + b));
-  whole = simp (q-int-mul, q-int-add) (ap natℚ (div-add-mod' (x * stiffnessScale) (k * stiffnessScale + b)));
-  low = nn-int (x * stiffnessScale % (k * stiffnessScale + b));
+  rest = natℚ (x * stiffness_scale % (k * stiffness_scale + b));
+  whole = simp (q_int_mul, q_int_add) (ap natℚ (div-add-mod' (x * stiffness_scale) (k * stiffness_scale + b)));
+  low = nn_int (x * stiffness_scale % (k * stiffness_scale + b));
   high =
-      simp (q-int-mul, q-int-add)
-      (nat-q (x * stiffnessScale % (k * stiffnessScale + b)) (k * stiffnessScale + b)
-      (omega (arith, mod-lt (x * stiffnessScale) {m = k * stiffnessScale + b} (omega arith))));
+      simp (q_int_mul, q_int_add)
+      (nat_q (x * stiffness_scale % (k * stiffness_scale + b)) (k * stiffness_scale + b)
+      (omega (arith, mod-lt (x * stiffness_scale) {m = k * stiffness_scale + b} (omega arith))));
 }
 
 -- the force F of a spring K over a level of shift p, against the stiffness x and the load y that were handed down to that level
@@ -40,7 +40,7 @@ pub record Handed (F K p x y : ℚ) : Type 0 where
   pub high : S *ℚ F -ℚ S *ℚ y +ℚ x *ℚ p ≤ℚ S
 
 -- with remainders u of x, w of y, r of the shift d over p
-hand-low :
+hand_low :
     (K b a p d x y u w r : ℚ) →
     ¬ (K *ℚ S +ℚ b ≤ℚ natℚ 0) →
     natℚ 0 ≤ℚ K →
@@ -52,18 +52,18 @@ hand-low :
     y *ℚ (K *ℚ S +ℚ b) +ℚ w ≡ K *ℚ a *ℚ S →
     d *ℚ (K *ℚ S +ℚ b) +ℚ r ≡ (a +ℚ K *ℚ p) *ℚ S →
     negℚ (p +ℚ S *ℚ K) ≤ℚ S *ℚ (K *ℚ (d -ℚ p)) -ℚ S *ℚ y +ℚ x *ℚ p
-hand-low =
+hand_low =
     ∀₁₀ ℚR _ λ ρ.
     simp qq λ c hK hp hu hr hw ex ey ed.
-    over (v 0 ⊗ kp stiffnessScale ⊕ v 1) c
-    (num stiffnessScale ⊠ to hw
+    over (v 0 ⊗ kp stiffness_scale ⊕ v 1) c
+    (num stiffness_scale ⊠ to hw
     ⊞ to hu ⊠ to hp
-    ⊞ num stiffnessScale ⊠ to hK ⊠ to hr
+    ⊞ num stiffness_scale ⊠ to hK ⊠ to hr
     ⊞ times (v 3) ex
-    ⊞ times (⊖ kp stiffnessScale) ey
-    ⊞ times (v 0 ⊗ kp stiffnessScale) ed) tt
+    ⊞ times (⊖ kp stiffness_scale) ey
+    ⊞ times (v 0 ⊗ kp stiffness_scale) ed) tt
 
-hand-high :
+hand_high :
     (K b a p d x y u w r : ℚ) →
     ¬ (K *ℚ S +ℚ b ≤ℚ natℚ 0) →
     natℚ 0 ≤ℚ K →
@@ -75,53 +75,53 @@ hand-high :
     y *ℚ (K *ℚ S +ℚ b) +ℚ w ≡ K *ℚ a *ℚ S →
     d *ℚ (K *ℚ S +ℚ b) +ℚ r ≡ (a +ℚ K *ℚ p) *ℚ S →
     S *ℚ (K *ℚ (d -ℚ p)) -ℚ S *ℚ y +ℚ x *ℚ p ≤ℚ S
-hand-high =
+hand_high =
     ∀₁₀ ℚR _ λ ρ.
     simp qq λ c hK hp hu hr hw ex ey ed.
-    over (v 0 ⊗ kp stiffnessScale ⊕ v 1) c
-    (num stiffnessScale ⊠ to hw
+    over (v 0 ⊗ kp stiffness_scale ⊕ v 1) c
+    (num stiffness_scale ⊠ to hw
     ⊞ to hu ⊠ to hp
-    ⊞ num stiffnessScale ⊠ to hK ⊠ to hr
+    ⊞ num stiffness_scale ⊠ to hK ⊠ to hr
     ⊞ times (⊖ v 3) ex
-    ⊞ times (kp stiffnessScale) ey
-    ⊞ times (⊖ (v 0 ⊗ kp stiffnessScale)) ed) tt
+    ⊞ times (kp stiffness_scale) ey
+    ⊞ times (⊖ (v 0 ⊗ kp stiffness_scale)) ed) tt
 
-divisor-pos : (k b : ℕ) → 0 < k → ¬ (natℚ k *ℚ S +ℚ natℚ b ≤ℚ natℚ 0)
-divisor-pos k b p = lt_not (simp (q-int-mul, q-int-add) (above-0 (k * stiffnessScale + b) (omega arith)))
+divisor_pos : (k b : ℕ) → 0 < k → ¬ (natℚ k *ℚ S +ℚ natℚ b ≤ℚ natℚ 0)
+divisor_pos k b p = lt_not (simp (q_int_mul, q_int_add) (above_0 (k * stiffness_scale + b) (omega arith)))
 
 -- one tier of spring k, over it a level of lashes κ and load ω, under it a level of shift p
 module _ (k κ ω x y p : ℕ) (stiff : 0 < k) where
   abbrev c : ℚ
   c = natℚ k *ℚ S +ℚ natℚ (κ + x)
 
-  by-x : Divided (stiffnessDown k κ x) (natℚ k *ℚ natℚ (κ + x)) c
-  unfolding stiffnessDown
-  by-x = subst (λ z. Divided (stiffnessDown k κ x) z c) (int-times (pos k) (pos (κ + x))) (divided (k * (κ + x)) k (κ + x) stiff)
+  by_x : Divided (stiffness_down k κ x) (natℚ k *ℚ natℚ (κ + x)) c
+  unfolding stiffness_down
+  by_x = subst (λ z. Divided (stiffness_down k κ x) z c) (int_times (pos k) (pos (κ + x))) (divided (k * (κ + x)) k (κ + x) stiff)
 
-  by-y : Divided (loadDown k κ ω x y) (natℚ k *ℚ natℚ (ω + y)) c
-  unfolding loadDown
-  by-y = subst (λ z. Divided (loadDown k κ ω x y) z c) (int-times (pos k) (pos (ω + y))) (divided (k * (ω + y)) k (κ + x) stiff)
+  by_y : Divided (load_down k κ ω x y) (natℚ k *ℚ natℚ (ω + y)) c
+  unfolding load_down
+  by_y = subst (λ z. Divided (load_down k κ ω x y) z c) (int_times (pos k) (pos (ω + y))) (divided (k * (ω + y)) k (κ + x) stiff)
 
-  by-d : Divided (shiftUp k κ ω x y p) (natℚ (ω + y) +ℚ natℚ k *ℚ natℚ p) c
-  unfolding shiftUp
-  by-d =
-      subst (λ z. Divided (shiftUp k κ ω x y p) z c)
-      (int-plus (pos (ω + y)) (pos (k * p)) ∙ ap (λ z. natℚ (ω + y) +ℚ z) (int-times (pos k) (pos p)))
+  by_d : Divided (shift_up k κ ω x y p) (natℚ (ω + y) +ℚ natℚ k *ℚ natℚ p) c
+  unfolding shift_up
+  by_d =
+      subst (λ z. Divided (shift_up k κ ω x y p) z c)
+      (int_plus (pos (ω + y)) (pos (k * p)) ∙ ap (λ z. natℚ (ω + y) +ℚ z) (int_times (pos k) (pos p)))
       (divided (ω + y + k * p) k (κ + x) stiff)
 
   abbrev d : ℕ
-  d = shiftUp k κ ω x y p
+  d = shift_up k κ ω x y p
 
-  pub handed : Handed (natℚ k *ℚ (natℚ d -ℚ natℚ p)) (natℚ k) (natℚ p) (natℚ (stiffnessDown k κ x)) (natℚ (loadDown k κ ω x y))
+  pub handed : Handed (natℚ k *ℚ (natℚ d -ℚ natℚ p)) (natℚ k) (natℚ p) (natℚ (stiffness_down k κ x)) (natℚ (load_down k κ ω x y))
   handed = record {
     low =
-        hand-low (natℚ k) (natℚ (κ + x)) (natℚ (ω + y)) (natℚ p) (natℚ d) (natℚ (stiffnessDown k κ x)) (natℚ (loadDown k κ ω x y))
-        by-x.rest by-y.rest by-d.rest (divisor-pos k (κ + x) stiff) (nn-int k) (nn-int p) by-x.high by-d.high by-y.low
-        by-x.whole by-y.whole by-d.whole;
+        hand_low (natℚ k) (natℚ (κ + x)) (natℚ (ω + y)) (natℚ p) (natℚ d) (natℚ (stiffness_down k κ x)) (natℚ (load_down k κ ω x y))
+        by_x.rest by_y.rest by_d.rest (divisor_pos k (κ + x) stiff) (nn_int k) (nn_int p) by_x.high by_d.high by_y.low
+        by_x.whole by_y.whole by_d.whole;
     high =
-        hand-high (natℚ k) (natℚ (κ + x)) (natℚ (ω + y)) (natℚ p) (natℚ d) (natℚ (stiffnessDown k κ x)) (natℚ (loadDown k κ ω x y))
-        by-x.rest by-y.rest by-d.rest (divisor-pos k (κ + x) stiff) (nn-int k) (nn-int p) by-x.low by-d.low by-y.high
-        by-x.whole by-y.whole by-d.whole;
+        hand_high (natℚ k) (natℚ (κ + x)) (natℚ (ω + y)) (natℚ p) (natℚ d) (natℚ (stiffness_down k κ x)) (natℚ (load_down k κ ω x y))
+        by_x.rest by_y.rest by_d.rest (divisor_pos k (κ + x) stiff) (nn_int k) (nn_int p) by_x.low by_d.low by_y.high
+        by_x.whole by_y.whole by_d.whole;
   }
 
   -- F the force of the tier above, of spring L: the level's balance in 2^-50 N
@@ -129,19 +129,19 @@ module _ (k κ ω x y p : ℕ) (stiff : 0 < k) where
     abbrev G : ℚ
     G = S *ℚ (natℚ k *ℚ (natℚ d -ℚ natℚ p)) -ℚ S *ℚ F +ℚ natℚ κ *ℚ natℚ d -ℚ S *ℚ natℚ ω
 
-    whole : natℚ d *ℚ (natℚ k *ℚ S +ℚ (natℚ κ +ℚ natℚ x)) +ℚ by-d.rest ≡ (natℚ ω +ℚ natℚ y +ℚ natℚ k *ℚ natℚ p) *ℚ S
+    whole : natℚ d *ℚ (natℚ k *ℚ S +ℚ (natℚ κ +ℚ natℚ x)) +ℚ by_d.rest ≡ (natℚ ω +ℚ natℚ y +ℚ natℚ k *ℚ natℚ p) *ℚ S
     whole =
-        ap (λ z. natℚ d *ℚ (natℚ k *ℚ S +ℚ z) +ℚ by-d.rest) (sym (int-plus (pos κ) (pos x)))
-        ∙ by-d.whole
-        ∙ ap (λ z. (z +ℚ natℚ k *ℚ natℚ p) *ℚ S) (int-plus (pos ω) (pos y))
+        ap (λ z. natℚ d *ℚ (natℚ k *ℚ S +ℚ z) +ℚ by_d.rest) (sym (int_plus (pos κ) (pos x)))
+        ∙ by_d.whole
+        ∙ ap (λ z. (z +ℚ natℚ k *ℚ natℚ p) *ℚ S) (int_plus (pos ω) (pos y))
 
-    pub balance-low : negℚ (natℚ (divisor k κ x) +ℚ S) ≤ℚ G
-    balance-low =
-        go (natℚ k) (natℚ κ) (natℚ x) (natℚ ω) (natℚ y) (natℚ p) (natℚ d) by-d.rest F (natℚ (divisor k κ x)) whole
-        (subst (λ z. by-d.rest ≤ℚ z) (sym is_c) by-d.high) h.high
+    pub balance_low : negℚ (natℚ (divisor k κ x) +ℚ S) ≤ℚ G
+    balance_low =
+        go (natℚ k) (natℚ κ) (natℚ x) (natℚ ω) (natℚ y) (natℚ p) (natℚ d) by_d.rest F (natℚ (divisor k κ x)) whole
+        (subst (λ z. by_d.rest ≤ℚ z) (sym is_c) by_d.high) h.high
       where
         is_c : natℚ (divisor k κ x) ≡ c
-        is_c = int-plus (pos (k * stiffnessScale)) (pos (κ + x)) ∙ ap (λ z. z +ℚ natℚ (κ + x)) (int-times (pos k) (pos stiffnessScale))
+        is_c = int_plus (pos (k * stiffness_scale)) (pos (κ + x)) ∙ ap (λ z. z +ℚ natℚ (κ + x)) (int_times (pos k) (pos stiffness_scale))
 
         go :
             (K κ x ω y p d r F c : ℚ) →
@@ -149,10 +149,10 @@ module _ (k κ ω x y p : ℕ) (stiff : 0 < k) where
             r ≤ℚ c →
             S *ℚ F -ℚ S *ℚ y +ℚ x *ℚ d ≤ℚ S →
             negℚ (c +ℚ S) ≤ℚ S *ℚ (K *ℚ (d -ℚ p)) -ℚ S *ℚ F +ℚ κ *ℚ d -ℚ S *ℚ ω
-        go = ∀₁₀ ℚR _ λ ρ. simp qq λ e hr hh. by-cert (to hr ⊞ to hh ⊞ times (kp 1) e) tt
+        go = ∀₁₀ ℚR _ λ ρ. simp qq λ e hr hh. by_cert (to hr ⊞ to hh ⊞ times (kp 1) e) tt
 
-    pub balance-high : G ≤ℚ natℚ d +ℚ S *ℚ L
-    balance-high = go (natℚ k) (natℚ κ) (natℚ x) (natℚ ω) (natℚ y) (natℚ p) (natℚ d) by-d.rest F L whole by-d.low h.low
+    pub balance_high : G ≤ℚ natℚ d +ℚ S *ℚ L
+    balance_high = go (natℚ k) (natℚ κ) (natℚ x) (natℚ ω) (natℚ y) (natℚ p) (natℚ d) by_d.rest F L whole by_d.low h.low
       where
         go :
             (K κ x ω y p d r F L : ℚ) →
@@ -160,14 +160,14 @@ module _ (k κ ω x y p : ℕ) (stiff : 0 < k) where
             natℚ 0 ≤ℚ r →
             negℚ (d +ℚ S *ℚ L) ≤ℚ S *ℚ F -ℚ S *ℚ y +ℚ x *ℚ d →
             S *ℚ (K *ℚ (d -ℚ p)) -ℚ S *ℚ F +ℚ κ *ℚ d -ℚ S *ℚ ω ≤ℚ d +ℚ S *ℚ L
-        go = ∀₁₀ ℚR _ λ ρ. simp qq λ e hr hh. by-cert (to hr ⊞ to hh ⊞ times (kn 0) e) tt
+        go = ∀₁₀ ℚR _ λ ρ. simp qq λ e hr hh. by_cert (to hr ⊞ to hh ⊞ times (kn 0) e) tt
 
 -- over the uppermost level there is nothing
-pub handed-none : (p : ℕ) (F : ℚ) → F ≡ natℚ 0 → Handed F (natℚ 0) (natℚ p) (natℚ 0) (natℚ 0)
-handed-none p F z = record { low = low (natℚ p) F z (nn-int p); high = high (natℚ p) F z }
+pub handed_none : (p : ℕ) (F : ℚ) → F ≡ natℚ 0 → Handed F (natℚ 0) (natℚ p) (natℚ 0) (natℚ 0)
+handed_none p F z = record { low = low (natℚ p) F z (nn_int p); high = high (natℚ p) F z }
   where
     low : (p F : ℚ) → F ≡ natℚ 0 → natℚ 0 ≤ℚ p → negℚ (p +ℚ S *ℚ natℚ 0) ≤ℚ S *ℚ F -ℚ S *ℚ natℚ 0 +ℚ natℚ 0 *ℚ p
-    low = ∀₂ ℚR _ λ ρ. simp qq λ e h. by-cert (to h ⊞ times (kp stiffnessScale) e) tt
+    low = ∀₂ ℚR _ λ ρ. simp qq λ e h. by_cert (to h ⊞ times (kp stiffness_scale) e) tt
 
     high : (p F : ℚ) → F ≡ natℚ 0 → S *ℚ F -ℚ S *ℚ natℚ 0 +ℚ natℚ 0 *ℚ p ≤ℚ S
-    high = ∀₂ ℚR _ λ ρ. simp qq λ e. by-cert (times (⊖ kp stiffnessScale) e) tt
+    high = ∀₂ ℚR _ λ ρ. simp qq λ e. by_cert (times (⊖ kp stiffness_scale) e) tt

@@ -6,38 +6,38 @@ use mathlib.Core.List.{List, [], ◌∷◌}
 use Prim.Native.Nat.{ℕ}
 use lib.Ieee.{of_bits, to_bits, add, sub, mul, div, eq, neg}
 use Rattle.arith.specs.Lists.{from}
-use Rattle.floats.specs.inner.Floats.{float_of, nearOf}
-use Rattle.springs.specs.inner.Candidate.{stepDown, chainTo, float_at, candidateAt, candidate}
-use Rattle.springs.specs.inner.Balance.{pulled, pushed, slackAt, inBalanceTo, inBalance}
-use Rattle.springs.specs.inner.Elimination.{solved}
+use Rattle.floats.specs.Inner.Floats.{float_of, near_of}
+use Rattle.springs.specs.Inner.Candidate.{step_down, chain_to, float_at, candidate_at, candidate}
+use Rattle.springs.specs.Inner.Balance.{pulled, pushed, slack_at, in_balance_to, in_balance}
+use Rattle.springs.specs.Inner.Elimination.{solved}
 
 -- rod S, 7,200 N/mm
 abbrev rod : ℕ
 rod = 30198988800
 
 -- 22,072.5 N: D = 22,072.5 / 10,930 mm
-abbrev shift-d : List ℕ
-shift-d = 0 ∷ 542089808 ∷ 0 ∷ 0 ∷ 0 ∷ 0 ∷ 0 ∷ 0 ∷ 0 ∷ 0 ∷ 0 ∷ []
+abbrev shift_d : List ℕ
+shift_d = 0 ∷ 542089808 ∷ 0 ∷ 0 ∷ 0 ∷ 0 ∷ 0 ∷ 0 ∷ 0 ∷ 0 ∷ 0 ∷ []
 
-pub solved-d : solved 1 (3730 ∷ []) (rod ∷ []) (5925041602560 ∷ []) ≡ shift-d
-unfolding solved inBalanceTo pulled pushed slackAt candidate candidateAt float_at chainTo stepDown from nearOf float_of of_bits to_bits add sub mul
+pub solved_d : solved 1 (3730 ∷ []) (rod ∷ []) (5925041602560 ∷ []) ≡ shift_d
+unfolding solved in_balance_to pulled pushed slack_at candidate candidate_at float_at chain_to step_down from near_of float_of of_bits to_bits add sub mul
     div eq neg
-solved-d = refl
+solved_d = refl
 
 -- 24,770.25 N and 2,207.25 N: D of level 2 = 29,184.75 / 18,130 mm
-abbrev shifts-e : List ℕ
-shifts-e = 0 ∷ 1107372321 ∷ 432113716 ∷ 0 ∷ 0 ∷ 0 ∷ 0 ∷ 0 ∷ 0 ∷ 0 ∷ 0 ∷ []
+abbrev shifts_e : List ℕ
+shifts_e = 0 ∷ 1107372321 ∷ 432113716 ∷ 0 ∷ 0 ∷ 0 ∷ 0 ∷ 0 ∷ 0 ∷ 0 ∷ 0 ∷ []
 
-pub solved-e : solved 2 (3730 ∷ 3730 ∷ []) (0 ∷ rod ∷ []) (6649213353984 ∷ 592504160256 ∷ []) ≡ shifts-e
-unfolding solved inBalanceTo pulled pushed slackAt candidate candidateAt float_at chainTo stepDown from nearOf float_of of_bits to_bits add sub mul
+pub solved_e : solved 2 (3730 ∷ 3730 ∷ []) (0 ∷ rod ∷ []) (6649213353984 ∷ 592504160256 ∷ []) ≡ shifts_e
+unfolding solved in_balance_to pulled pushed slack_at candidate candidate_at float_at chain_to step_down from near_of float_of of_bits to_bits add sub mul
     div eq neg
-solved-e = refl
+solved_e = refl
 
 -- the test is near: of (d) a shift of 122 units, 0.0000005 mm, more does not pass
-pub passes-d : inBalance 1 (3730 ∷ []) (rod ∷ []) (5925041602560 ∷ []) (0 ∷ 542089808 ∷ []) ≡ true
-unfolding inBalanceTo pulled pushed slackAt
-passes-d = refl
+pub passes_d : in_balance 1 (3730 ∷ []) (rod ∷ []) (5925041602560 ∷ []) (0 ∷ 542089808 ∷ []) ≡ true
+unfolding in_balance_to pulled pushed slack_at
+passes_d = refl
 
-pub fails-d : inBalance 1 (3730 ∷ []) (rod ∷ []) (5925041602560 ∷ []) (0 ∷ 542089930 ∷ []) ≡ false
-unfolding inBalanceTo pulled pushed slackAt
-fails-d = refl
+pub fails_d : in_balance 1 (3730 ∷ []) (rod ∷ []) (5925041602560 ∷ []) (0 ∷ 542089930 ∷ []) ≡ false
+unfolding in_balance_to pulled pushed slack_at
+fails_d = refl

@@ -3,11 +3,11 @@ use Rattle.std.specs.Prelude.{Bool, true, false, List, ◌≡◌, ℕ, zero, suc
 use Rattle.arith.specs.Fractions.{Frac, nat, ◌-q◌, ◌*q◌, ◌≈◌, ◌⊏◌, sumq}
 
 -- document 01's springs of a tier, in N/mm (class rule, Table 2-4): at the door end, and at the closed end
-abbrev pub doorSpring : ℕ
-doorSpring = 3730
+abbrev pub door_spring : ℕ
+door_spring = 3730
 
-abbrev pub closedSpring : ℕ
-closedSpring = 15690
+abbrev pub closed_spring : ℕ
+closed_spring = 15690
 
 -- a tier: its spring K, in N/mm, and its load Q, in N. Tiers stand bottom first: entry i is tier i + 1, between levels i and i + 1
 pub record Tier : Type 0 where
@@ -19,17 +19,17 @@ pub record Lash : Type 0 where
   pub level : ℕ
   pub stiffness : Frac
 
-abbrev pub noTier : Tier
-noTier = record { K = nat 0; Q = nat 0 }
+abbrev pub no_tier : Tier
+no_tier = record { K = nat 0; Q = nat 0 }
 
-abbrev pub tierAt : List Tier → ℕ → Tier
-tierAt ts i = get_or ts i noTier
+abbrev pub tier_at : List Tier → ℕ → Tier
+tier_at ts i = get_or ts i no_tier
 
-abbrev pub noLash : Lash
-noLash = record { level = 0; stiffness = nat 0 }
+abbrev pub no_lash : Lash
+no_lash = record { level = 0; stiffness = nat 0 }
 
-abbrev pub lashAt : List Lash → ℕ → Lash
-lashAt ls j = get_or ls j noLash
+abbrev pub lash_at : List Lash → ℕ → Lash
+lash_at ls j = get_or ls j no_lash
 
 -- D of a level, in mm to leeward: zero at the deck, level 0; entry i of the list is level i + 1
 unfoldable pub shift : List Frac → ℕ → Frac
@@ -46,27 +46,27 @@ abbrev pub athwart : List Frac → Lash → Frac
 athwart Ds l = l.stiffness *q shift Ds l.level
 
 -- the athwart parts of all lashes at level i or above
-abbrev pub athwartFrom : List Lash → List Frac → ℕ → Frac
-athwartFrom ls Ds i = sumq (λ l. given (leb i l.level) (athwart Ds l)) ls
+abbrev pub athwart_from : List Lash → List Frac → ℕ → Frac
+athwart_from ls Ds i = sumq (λ l. given (leb i l.level) (athwart Ds l)) ls
 
 -- the stiffness of all lashes at level i together
-abbrev pub stiffnessAt : List Lash → ℕ → Frac
-stiffnessAt ls i = sumq (λ l. given (eqb i l.level) l.stiffness) ls
+abbrev pub stiffness_at : List Lash → ℕ → Frac
+stiffness_at ls i = sumq (λ l. given (eqb i l.level) l.stiffness) ls
 
 -- the load on level i + 1: Q of the tier under it less Q of the tier over it
-abbrev pub loadAt : List Tier → ℕ → Frac
-loadAt ts i = (tierAt ts i).Q -q (tierAt ts (suc i)).Q
+abbrev pub load_at : List Tier → ℕ → Frac
+load_at ts i = (tier_at ts i).Q -q (tier_at ts (suc i)).Q
 
 -- R of the tier between levels i and i + 1: K × (D of the level over it − D of the level under it)
 abbrev pub racking : List Tier → List Frac → ℕ → Frac
-racking ts Ds i = (tierAt ts i).K *q (shift Ds (suc i) -q shift Ds i)
+racking ts Ds i = (tier_at ts i).K *q (shift Ds (suc i) -q shift Ds i)
 
 -- the equations: for each tier, R = Q − the athwart parts of all lashes at its upper level or above. The unknowns are D of levels 1 to n
 pub record Solves (ts : List Tier) (ls : List Lash) (Ds : List Frac) : Type 0 where
   pub levels : length Ds ≡ length ts
-  pub balance : (i : ℕ) → i < length ts → racking ts Ds i ≈ (tierAt ts i).Q -q athwartFrom ls Ds (suc i)
+  pub balance : (i : ℕ) → i < length ts → racking ts Ds i ≈ (tier_at ts i).Q -q athwart_from ls Ds (suc i)
 
 -- every spring and every lash is stiffer than zero
 pub record Stiff (ts : List Tier) (ls : List Lash) : Type 0 where
-  pub springs : (i : ℕ) → i < length ts → nat 0 ⊏ (tierAt ts i).K
-  pub lashes : (j : ℕ) → j < length ls → nat 0 ⊏ (lashAt ls j).stiffness
+  pub springs : (i : ℕ) → i < length ts → nat 0 ⊏ (tier_at ts i).K
+  pub lashes : (j : ℕ) → j < length ls → nat 0 ⊏ (lash_at ls j).stiffness

@@ -3,7 +3,7 @@
 use Rattle.std.specs.Prelude.{List, ◌≡◌, ℕ, suc, ◌<◌, length}
 use Rattle.arith.specs.Fractions.{Frac, nat, ◌+q◌, ◌-q◌, ◌*q◌, absq, ◌≈◌, ◌⊑◌, sumq}
 use Rattle.arith.specs.Lists.{below}
-use Rattle.springs.specs.Equations.{Tier, Lash, tierAt, shift, stiffnessAt, loadAt, racking, Solves, Stiff}
+use Rattle.springs.specs.Equations.{Tier, Lash, tier_at, shift, stiffness_at, load_at, racking, Solves, Stiff}
 
 -- two lists of shifts agree: at every level, by cross products
 pub record Agree (Ds Es : List Frac) : Type 0 where
@@ -25,15 +25,15 @@ NoShiftToWindward =
     (ts : List Tier) (ls : List Lash) (Ds : List Frac) →
     Stiff ts ls →
     Solves ts ls Ds →
-    ((i : ℕ) → i < length ts → nat 0 ⊑ loadAt ts i) →
+    ((i : ℕ) → i < length ts → nat 0 ⊑ load_at ts i) →
     (i : ℕ) →
     nat 0 ⊑ shift Ds i
 
 -- us are ts under level loads no smaller
 pub record Heavier (ts us : List Tier) : Type 0 where
   pub tiers : length us ≡ length ts
-  pub springs : (i : ℕ) → i < length ts → (tierAt us i).K ≈ (tierAt ts i).K
-  pub loads : (i : ℕ) → i < length ts → loadAt ts i ⊑ loadAt us i
+  pub springs : (i : ℕ) → i < length ts → (tier_at us i).K ≈ (tier_at ts i).K
+  pub loads : (i : ℕ) → i < length ts → load_at ts i ⊑ load_at us i
 
 -- growth with the loads: then no level shifts less
 abbrev pub GrowthWithLoads : Type 0
@@ -49,7 +49,7 @@ GrowthWithLoads =
 -- what level i + 1 is out of balance by under any shifts ds of levels 1 to n, in N; and all levels together
 abbrev pub residual : List Tier → List Lash → List Frac → ℕ → Frac
 residual ts ls ds i =
-    racking ts ds i -q racking ts ds (suc i) +q stiffnessAt ls (suc i) *q shift ds (suc i) -q loadAt ts i
+    racking ts ds i -q racking ts ds (suc i) +q stiffness_at ls (suc i) *q shift ds (suc i) -q load_at ts i
 
 abbrev pub residuals : List Tier → List Lash → List Frac → Frac
 residuals ts ls ds = sumq (λ i. absq (residual ts ls ds i)) (below (length ts))

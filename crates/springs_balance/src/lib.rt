@@ -1,10 +1,10 @@
 // Whether each level of an end is in balance under given shifts, in whole numbers: the test that a candidate found in floats must pass.
 ghost use Rattle.std.specs.Prelude.{◌≡◌, ℕ, ◌+◌, ◌*◌, ◌/◌, ◌<◌, ◌≤◌, ◌^◌, leb, pos, nat_abs, ◌+ℤ◌, ◌-ℤ◌, length, get_or};
-ghost use Rattle.arith.specs.inner.Sizes.{Small};
-ghost use Rattle.arith.specs.inner.Rounding.{scaledDown};
-ghost use Rattle.springs.specs.inner.Promise.{stiffnessScale, mostHeld, mostLoaded, farthest, Solvable};
-ghost use Rattle.springs.specs.Equations.{closedSpring};
-ghost use Rattle.springs.specs.inner.Balance.{allowed, inBalance, mostForce};
+ghost use Rattle.arith.specs.Inner.Sizes.{Small};
+ghost use Rattle.arith.specs.Inner.Rounding.{scaled_down};
+ghost use Rattle.springs.specs.Inner.Promise.{stiffness_scale, most_held, most_loaded, farthest, Solvable};
+ghost use Rattle.springs.specs.Equations.{closed_spring};
+ghost use Rattle.springs.specs.Inner.Balance.{allowed, in_balance, most_force};
 
 use arith::rounding::split_product;
 
@@ -16,16 +16,16 @@ const ALLOWED: u64 = 1326000;
 
 // What a level's lashes hold it with at the shift d, in 2^-28 N.
 fn held_by(kappa: u64, d: u64) -> u64
-    requires { (kappa ≤ mostHeld) × (d ≤ farthest) }
-    ensures { (result ≡ scaledDown kappa d stiffnessScale) × (result ≤ 620000 * farthest) }
+    requires { (kappa ≤ most_held) × (d ≤ farthest) }
+    ensures { (result ≡ scaled_down kappa d stiffness_scale) × (result ≤ 620000 * farthest) }
 {
     split_product(kappa, d, SCALE, 1)
 }
 
 // The force of a tier's spring, from the shifts of the levels over and under it, in 2^-28 N.
 fn force_of(k: u64, upper: u64, lower: u64) -> i64
-    requires { (k ≤ closedSpring) × (upper ≤ farthest) × (lower ≤ farthest) }
-    ensures { (result ≡ pos (k * upper) -ℤ pos (k * lower)) × Small (2 * mostForce) result }
+    requires { (k ≤ closed_spring) × (upper ≤ farthest) × (lower ≤ farthest) }
+    ensures { (result ≡ pos (k * upper) -ℤ pos (k * lower)) × Small (2 * most_force) result }
 {
     (k * upper) as i64 - (k * lower) as i64
 }
@@ -43,9 +43,9 @@ fn size(x: i64) -> u64
 
 // Whether a level of shift d is in balance: the spring under it and its lashes hold it, the spring over it and its load push it.
 fn in_balance(under: i64, over: i64, kappa: u64, omega: u64, d: u64) -> bool
-    requires small { Small (2 * mostForce) under × Small (2 * mostForce) over }
-    requires kappa_le_most_held { (kappa ≤ mostHeld) × (omega ≤ mostLoaded) × (d ≤ farthest) }
-    ensures { result ≡ leb (nat_abs (under -ℤ over +ℤ pos (scaledDown kappa d stiffnessScale) -ℤ pos omega) + d / 2 ^ 20) allowed }
+    requires small { Small (2 * most_force) under × Small (2 * most_force) over }
+    requires kappa_le_most_held { (kappa ≤ most_held) × (omega ≤ most_loaded) × (d ≤ farthest) }
+    ensures { result ≡ leb (nat_abs (under -ℤ over +ℤ pos (scaled_down kappa d stiffness_scale) -ℤ pos omega) + d / 2 ^ 20) allowed }
 {
     let left = under - over + (held_by(kappa, d) as i64) - (omega as i64);
     size(left) + d / 1048576 <= ALLOWED
@@ -55,7 +55,7 @@ fn in_balance(under: i64, over: i64, kappa: u64, omega: u64, d: u64) -> bool
 pub fn balanced(n: usize, k: &[u64], kappa: &[u64], omega: &[u64], d: &[u64]) -> bool
     requires solvable { Solvable n k.now kappa.now omega.now × (n ≤ length k.now) × (n ≤ length kappa.now) × (n ≤ length omega.now) }
     requires by_index { ((i : ℕ) → get_or d.now i 0 ≤ farthest) × (n < length d.now) }
-    ensures { result ≡ inBalance n k.now kappa.now omega.now d.now }
+    ensures { result ≡ in_balance n k.now kappa.now omega.now d.now }
 {
     let mut over = 0;
     let mut i = n;

@@ -6,10 +6,10 @@ use native.Mathlib.Omega.{arith}
 use native.Mathlib.Decide.{ℕ_discrete, dec_le}
 use lib.ListN.{get_or, length, set, replicate, length-set}
 use lib.Seq.{get_or-set_same, get_or-set_other}
-use Rattle.springs.specs.inner.Promise.{farthest, Solvable}
-use Rattle.springs.specs.inner.Elimination.{stiffnessDown, loadDown, shiftUp, eliminated, InRange, mostLoadTogether, HandedDown}
+use Rattle.springs.specs.Inner.Promise.{farthest, Solvable}
+use Rattle.springs.specs.Inner.Elimination.{stiffness_down, load_down, shift_up, eliminated, InRange, most_load_together, HandedDown}
 use Rattle.springs.proofs.Recursion as R
-use Rattle.springs.proofs.Ranges.{in-range, load-in-range, far_at}
+use Rattle.springs.proofs.Ranges.{in_range, load_in_range, far_at}
 
 -- a new array holds zeros
 pub zeros : (m j : ℕ) → ◌≡◌ {A = ℕ} (get_or (replicate m 0) j 0) 0
@@ -24,50 +24,50 @@ later i j n k κ ω x y l h = record { stiffness = λ m b. h.stiffness m (omega 
 -- from the top down: levels i and above are done
 pub record Down (n : ℕ) (k κ ω x y : List ℕ) (i : ℕ) : Type 0 where
   pub within : i ≤ n
-  pub long-x : length x ≡ 11
-  pub long-y : length y ≡ 11
+  pub long_x : length x ≡ 11
+  pub long_y : length y ≡ 11
   pub done : HandedDown i n k κ ω x y
 
-pub down-start :
+pub down_start :
     (n : ℕ) (k κ ω x y : List ℕ) →
     length x ≡ 11 →
     length y ≡ 11 →
     get_or x n 0 ≡ 0 →
     get_or y n 0 ≡ 0 →
     Down n k κ ω x y n
-down-start n k κ ω x y lx ly x0 y0 = record {
+down_start n k κ ω x y lx ly x0 y0 = record {
   within = omega arith;
-  long-x = lx;
-  long-y = ly;
+  long_x = lx;
+  long_y = ly;
   done = record {
-    stiffness = λ j h l. subst (λ (z : ℕ). get_or x z 0 ≡ R.x n k κ ω z) {x = n} {y = j} (omega arith) (x0 ∙ sym (R.stiffness-top n k κ ω));
-    load = λ j h l. subst (λ (z : ℕ). get_or y z 0 ≡ R.y n k κ ω z) {x = n} {y = j} (omega arith) (y0 ∙ sym (R.load-top n k κ ω));
+    stiffness = λ j h l. subst (λ (z : ℕ). get_or x z 0 ≡ R.x n k κ ω z) {x = n} {y = j} (omega arith) (x0 ∙ sym (R.stiffness_top n k κ ω));
+    load = λ j h l. subst (λ (z : ℕ). get_or y z 0 ≡ R.y n k κ ω z) {x = n} {y = j} (omega arith) (y0 ∙ sym (R.load_top n k κ ω));
   };
 }
 
 -- a turn at tier i, of the entry j
 module _ (n : ℕ) (k κ ω x y : List ℕ) (i j : ℕ) (next : i ≡ suc j) (s : Solvable n k κ ω) (d : Down n k κ ω x y i) where
   -- what is handed down to level i
-  given-x : get_or x i 0 ≡ R.x n k κ ω (suc j)
-  given-x = d.done.stiffness i (omega arith) d.within ∙ ap (R.x n k κ ω) next
+  given_x : get_or x i 0 ≡ R.x n k κ ω (suc j)
+  given_x = d.done.stiffness i (omega arith) d.within ∙ ap (R.x n k κ ω) next
 
-  given-y : get_or y i 0 ≡ R.y n k κ ω (suc j)
-  given-y = d.done.load i (omega arith) d.within ∙ ap (R.y n k κ ω) next
+  given_y : get_or y i 0 ≡ R.y n k κ ω (suc j)
+  given_y = d.done.load i (omega arith) d.within ∙ ap (R.y n k κ ω) next
 
-  pub down-ready : InRange (get_or k j 0) (get_or κ j 0) (get_or x i 0) × (get_or ω j 0 + get_or y i 0 ≤ mostLoadTogether)
-  down-ready =
+  pub down_ready : InRange (get_or k j 0) (get_or κ j 0) (get_or x i 0) × (get_or ω j 0 + get_or y i 0 ≤ most_load_together)
+  down_ready =
       let l : j < n = omega (arith, d.within) in
-      rw (given-x, given-y) (in-range n k κ ω s j l, load-in-range n k κ ω s j l)
+      rw (given_x, given_y) (in_range n k κ ω s j l, load_in_range n k κ ω s j l)
 
-  pub down-next :
+  pub down_next :
       (u w : ℕ) →
-      u ≡ stiffnessDown (get_or k j 0) (get_or κ j 0) (get_or x i 0) →
-      w ≡ loadDown (get_or k j 0) (get_or κ j 0) (get_or ω j 0) (get_or x i 0) (get_or y i 0) →
+      u ≡ stiffness_down (get_or k j 0) (get_or κ j 0) (get_or x i 0) →
+      w ≡ load_down (get_or k j 0) (get_or κ j 0) (get_or ω j 0) (get_or x i 0) (get_or y i 0) →
       Down n k κ ω (set x j u) (set y j w) j
-  down-next u w eu ew = record {
+  down_next u w eu ew = record {
     within = omega (arith, d.within);
-    long-x = length-set x j u ∙ d.long-x;
-    long-y = length-set y j w ∙ d.long-y;
+    long_x = length-set x j u ∙ d.long_x;
+    long_y = length-set y j w ∙ d.long_y;
     done = record { stiffness = λ m h l. stiffness m h l (ℕ_discrete m j); load = λ m h l. load m h l (ℕ_discrete m j) };
   }
     where
@@ -77,18 +77,18 @@ module _ (n : ℕ) (k κ ω x y : List ℕ) (i j : ℕ) (next : i ≡ suc j) (s 
       stiffness : (m : ℕ) → j ≤ m → m ≤ n → Dec (m ≡ j) → get_or (set x j u) m 0 ≡ R.x n k κ ω m
       stiffness m h l (yes e) =
           subst (λ (z : ℕ). get_or (set x j u) z 0 ≡ R.x n k κ ω z) (sym e)
-          (get_or-set_same x j u 0 (omega (arith, d.long-x, d.within, s.few))
+          (get_or-set_same x j u 0 (omega (arith, d.long_x, d.within, s.few))
           ∙ eu
-          ∙ ap (stiffnessDown (get_or k j 0) (get_or κ j 0)) given-x
-          ∙ sym (R.stiffness-step n k κ ω j inside))
+          ∙ ap (stiffness_down (get_or k j 0) (get_or κ j 0)) given_x
+          ∙ sym (R.stiffness_step n k κ ω j inside))
       stiffness m h l (no e) = get_or-set_other x j m u 0 e ∙ d.done.stiffness m (omega arith) l
 
       load : (m : ℕ) → j ≤ m → m ≤ n → Dec (m ≡ j) → get_or (set y j w) m 0 ≡ R.y n k κ ω m
       load m h l (yes e) =
           subst (λ (z : ℕ). get_or (set y j w) z 0 ≡ R.y n k κ ω z) (sym e)
-          (get_or-set_same y j w 0 (omega (arith, d.long-y, d.within, s.few))
+          (get_or-set_same y j w 0 (omega (arith, d.long_y, d.within, s.few))
           ∙ ew
-          ∙ ap₂ (loadDown (get_or k j 0) (get_or κ j 0) (get_or ω j 0)) given-x given-y
+          ∙ ap₂ (load_down (get_or k j 0) (get_or κ j 0) (get_or ω j 0)) given_x given_y
           ∙ sym (R.load_step n k κ ω j inside))
       load m h l (no e) = get_or-set_other y j m w 0 e ∙ d.done.load m (omega arith) l
 
@@ -108,7 +108,7 @@ pub up_start :
 up_start n k κ ω d e z b = record {
   within = omega arith;
   long = e;
-  done = λ j h. subst (λ (m : ℕ). get_or d m 0 ≡ R.d n k κ ω m) {x = 0} {y = j} (omega arith) (z ∙ sym (R.shift-deck n k κ ω));
+  done = λ j h. subst (λ (m : ℕ). get_or d m 0 ≡ R.d n k κ ω m) {x = 0} {y = j} (omega arith) (z ∙ sym (R.shift_deck n k κ ω));
   rest = b;
 }
 
@@ -123,21 +123,21 @@ module _
     (h : HandedDown 1 n k κ ω x y)
     (t : Up n k κ ω d i)
   where
-    taken-x : get_or x j 0 ≡ R.x n k κ ω (suc i)
-    taken-x = h.stiffness j (omega arith) (omega arith) ∙ ap (R.x n k κ ω) next
+    taken_x : get_or x j 0 ≡ R.x n k κ ω (suc i)
+    taken_x = h.stiffness j (omega arith) (omega arith) ∙ ap (R.x n k κ ω) next
 
-    taken-y : get_or y j 0 ≡ R.y n k κ ω (suc i)
-    taken-y = h.load j (omega arith) (omega arith) ∙ ap (R.y n k κ ω) next
+    taken_y : get_or y j 0 ≡ R.y n k κ ω (suc i)
+    taken_y = h.load j (omega arith) (omega arith) ∙ ap (R.y n k κ ω) next
 
     under : get_or d i 0 ≡ R.d n k κ ω i
     under = t.done i (omega arith)
 
-    pub up-ready : InRange (get_or k i 0) (get_or κ i 0) (get_or x j 0) × (get_or ω i 0 + get_or y j 0 ≤ mostLoadTogether) × (get_or d i 0 ≤ farthest)
-    up-ready = rw (taken-x, taken-y, under) (in-range n k κ ω s i inside, load-in-range n k κ ω s i inside, far_at n k κ ω s i)
+    pub up_ready : InRange (get_or k i 0) (get_or κ i 0) (get_or x j 0) × (get_or ω i 0 + get_or y j 0 ≤ most_load_together) × (get_or d i 0 ≤ farthest)
+    up_ready = rw (taken_x, taken_y, under) (in_range n k κ ω s i inside, load_in_range n k κ ω s i inside, far_at n k κ ω s i)
 
     pub up_next :
         (u : ℕ) →
-        u ≡ shiftUp (get_or k i 0) (get_or κ i 0) (get_or ω i 0) (get_or x j 0) (get_or y j 0) (get_or d i 0) →
+        u ≡ shift_up (get_or k i 0) (get_or κ i 0) (get_or ω i 0) (get_or x j 0) (get_or y j 0) (get_or d i 0) →
         Up n k κ ω (set d j u) j
     up_next u e = record {
       within = omega arith;
@@ -149,7 +149,7 @@ module _
         here : u ≡ R.d n k κ ω j
         here =
             e
-            ∙ rw (taken-x, taken-y, under) (sym (R.shift-step n k κ ω i inside))
+            ∙ rw (taken_x, taken_y, under) (sym (R.shift_step n k κ ω i inside))
             ∙ ap (R.d n k κ ω) (sym next)
 
         done : (m : ℕ) → m ≤ j → Dec (m ≡ j) → get_or (set d j u) m 0 ≡ R.d n k κ ω m
@@ -159,7 +159,7 @@ module _
 
 -- after the last turn
 pub up_done : (n : ℕ) (k κ ω d : List ℕ) (i : ℕ) → i ≡ n → Up n k κ ω d i → d ≡ eliminated n k κ ω
-up_done n k κ ω d i e t = R.is-eliminated n k κ ω d t.long (λ j. go j (dec_le j i))
+up_done n k κ ω d i e t = R.is_eliminated n k κ ω d t.long (λ j. go j (dec_le j i))
   where
     go : (j : ℕ) → Dec (j ≤ i) → get_or d j 0 ≡ R.d n k κ ω j
     go j (yes h) = t.done j h

@@ -2,8 +2,8 @@
 // over it hand down to it; then, from the deck up, each level's shift follows from the one under it.
 // Arrays are lent as slices, so that no call copies them.
 ghost use Rattle.std.specs.Prelude.{◌≡◌, ℕ, ◌<◌, ◌≤◌, length, get_or};
-ghost use Rattle.springs.specs.inner.Promise.{Solvable};
-ghost use Rattle.springs.specs.inner.Elimination.{eliminated, HandedDown};
+ghost use Rattle.springs.specs.Inner.Promise.{Solvable};
+ghost use Rattle.springs.specs.Inner.Elimination.{eliminated, HandedDown};
 
 use springs_steps::{load_down, shift_up, stiffness_down};
 

@@ -7,11 +7,11 @@ use native.Mathlib.Decide.{ℕ_discrete, dec_le}
 use lib.Ieee.{Float, nan, binary64, add, mul}
 use lib.ListN.{get_or, length, set, replicate, length-set}
 use lib.Seq.{get_or-set_same, get_or-set_other}
-use Rattle.floats.specs.inner.Floats.{nearOf}
+use Rattle.floats.specs.Inner.Floats.{near_of}
 use Rattle.springs.specs.declared.UpperChain.{UpperChain}
-use Rattle.springs.specs.inner.Candidate.{none, top, stepDown, Sloped, float_in, risenAt, risen, byLevel}
+use Rattle.springs.specs.Inner.Candidate.{none, top, step_down, Sloped, float_in, risen_at, risen, by_level}
 use Rattle.springs.proofs.Candidates as C
-use Rattle.springs.proofs.Candidates.{float-in-step, risen-step, risen-behind, is-risen}
+use Rattle.springs.proofs.Candidates.{float_in_step, risen_step, risen_behind, is_risen}
 
 -- a new array holds zeros
 pub zeros : (m j : ℕ) → ◌≡◌ {A = ℕ} (get_or (replicate m 0) j 0) 0
@@ -25,10 +25,10 @@ pub record Down (n : ℕ) (k κ ω : List ℕ) (a w : ℕ → Float) (upper : Up
   pub here : upper ≡ C.above n k κ ω i
   pub done : Sloped i n k κ ω a w
 
-pub down-start : (n : ℕ) (k κ ω : List ℕ) (a w : ℕ → Float) → Down n k κ ω a w top n
-down-start n k κ ω a w = record {
+pub down_start : (n : ℕ) (k κ ω : List ℕ) (a w : ℕ → Float) → Down n k κ ω a w top n
+down_start n k κ ω a w = record {
   within = omega arith;
-  here = sym (C.above-top n k κ ω);
+  here = sym (C.above_top n k κ ω);
   done = record { own = λ j h l. absurd (omega arith); share = λ j h l. absurd (omega arith) };
 }
 
@@ -38,16 +38,16 @@ pub record Stored (a a' : ℕ → Float) (j : ℕ) (x : Float) : Type 0 where
   pub others : (m : ℕ) → j < m → a' m ≡ a m
 
 -- a turn at level i, over the tier of entry j
-pub down-next :
+pub down_next :
     (n : ℕ) (k κ ω : List ℕ) (a w a' w' : ℕ → Float) (upper : UpperChain) (i j : ℕ) →
     i ≡ suc j →
     Down n k κ ω a w upper i →
     (next : UpperChain) →
-    next ≡ stepDown upper (get_or k j 0) (get_or κ j 0) (get_or ω j 0) →
+    next ≡ step_down upper (get_or k j 0) (get_or κ j 0) (get_or ω j 0) →
     Stored a a' j next.a →
     Stored w w' j next.w →
     Down n k κ ω a' w' next j
-down-next n k κ ω a w a' w' upper i j e t next en sa sw = record {
+down_next n k κ ω a w a' w' upper i j e t next en sa sw = record {
   within = omega (arith, t.within);
   here = now;
   done = record { own = λ m h l. own m h l (ℕ_discrete m j); share = λ m h l. share m h l (ℕ_discrete m j) };
@@ -56,7 +56,7 @@ down-next n k κ ω a w a' w' upper i j e t next en sa sw = record {
     now : next ≡ C.above n k κ ω j
     now =
         en
-        ∙ ap (λ (z : UpperChain). stepDown z (get_or k j 0) (get_or κ j 0) (get_or ω j 0)) (t.here ∙ ap (C.above n k κ ω) e)
+        ∙ ap (λ (z : UpperChain). step_down z (get_or k j 0) (get_or κ j 0) (get_or ω j 0)) (t.here ∙ ap (C.above n k κ ω) e)
         ∙ sym (C.above_step n k κ ω j (omega (arith, t.within)))
 
     own : (m : ℕ) → j ≤ m → m < n → Dec (m ≡ j) → a' m ≡ (C.above n k κ ω m).a
@@ -72,18 +72,18 @@ down-next n k κ ω a w a' w' upper i j e t next en sa sw = record {
         sw.others m more ∙ t.done.share m (omega arith) l
 
 -- after the last turn
-pub down-done :
+pub down_done :
     (n : ℕ) (k κ ω : List ℕ) (a w : ℕ → Float) (upper : UpperChain) (i : ℕ) →
     i ≤ 0 →
     Down n k κ ω a w upper i →
     Sloped 0 n k κ ω a w
-down-done n k κ ω a w upper i h t = record {
+down_done n k κ ω a w upper i h t = record {
   own = λ j b l. t.done.own j (omega arith) l;
   share = λ j b l. t.done.share j (omega arith) l;
 }
 
 -- in an array of an end's own, at the level's number
-pub stored : (l : List Float) (i j : ℕ) (x : Float) → i ≡ suc j → i < length l → Stored (byLevel l) (byLevel (set l i x)) j x
+pub stored : (l : List Float) (i j : ℕ) (x : Float) → i ≡ suc j → i < length l → Stored (by_level l) (by_level (set l i x)) j x
 stored l i j x e room = record {
   same = ap (λ (q : ℕ). get_or (set l i x) q nan) (sym e) ∙ get_or-set_same l i x nan room;
   others = λ m h. get_or-set_other l i (suc m) x nan (λ q. omega arith);
@@ -94,16 +94,16 @@ pub record Up (n : ℕ) (a w : ℕ → Float) (d : List ℕ) (x : Float) (i : �
   pub within : i ≤ n
   pub long : length d ≡ 11
   pub here : x ≡ float_in a w i
-  pub done : (j : ℕ) → j ≤ i → get_or d j 0 ≡ risenAt n a w j
+  pub done : (j : ℕ) → j ≤ i → get_or d j 0 ≡ risen_at n a w j
   pub rest : (j : ℕ) → i < j → get_or d j 0 ≡ 0
 
 pub up_start : (n : ℕ) (a w : ℕ → Float) (d : List ℕ) → d ≡ replicate 11 0 → Up n a w d none 0
-unfolding float_in risenAt
+unfolding float_in risen_at
 up_start n a w d e = record {
   within = omega arith;
   long = ap length e;
   here = refl;
-  done = λ j h. empty j ∙ sym (ap (risenAt n a w) {x = j} {y = 0} (omega arith));
+  done = λ j h. empty j ∙ sym (ap (risen_at n a w) {x = j} {y = 0} (omega arith));
   rest = λ j h. empty j;
 }
   where
@@ -121,7 +121,7 @@ pub up_next :
     own ≡ a i →
     share ≡ w i →
     (r : ℕ) →
-    r ≡ nearOf (add binary64 own (mul binary64 share x)) →
+    r ≡ near_of (add binary64 own (mul binary64 share x)) →
     Up n a w (set d j (r % 1099511627776)) (add binary64 own (mul binary64 share x)) j
 up_next n a w d x i j e inside few t own share eo es r er = record {
   within = omega arith;
@@ -134,26 +134,26 @@ up_next n a w d x i j e inside few t own share eo es r er = record {
     now : add binary64 own (mul binary64 share x) ≡ float_in a w j
     now =
         ap₂ (λ (q : Float) (z : Float). add binary64 q z) eo (ap₂ (mul binary64) es t.here)
-        ∙ sym (float-in-step a w i)
+        ∙ sym (float_in_step a w i)
         ∙ ap (float_in a w) (sym e)
 
-    value : r % 1099511627776 ≡ risenAt n a w j
+    value : r % 1099511627776 ≡ risen_at n a w j
     value =
-        ap (λ (z : ℕ). z % 1099511627776) (er ∙ ap nearOf now)
-        ∙ ap (λ (z : ℕ). nearOf (float_in a w z) % 1099511627776) e
-        ∙ sym (risen-step n a w i inside)
-        ∙ ap (risenAt n a w) (sym e)
+        ap (λ (z : ℕ). z % 1099511627776) (er ∙ ap near_of now)
+        ∙ ap (λ (z : ℕ). near_of (float_in a w z) % 1099511627776) e
+        ∙ sym (risen_step n a w i inside)
+        ∙ ap (risen_at n a w) (sym e)
 
-    done : (m : ℕ) → m ≤ j → Dec (m ≡ j) → get_or (set d j (r % 1099511627776)) m 0 ≡ risenAt n a w m
+    done : (m : ℕ) → m ≤ j → Dec (m ≡ j) → get_or (set d j (r % 1099511627776)) m 0 ≡ risen_at n a w m
     done m b (yes z) =
-        subst (λ (q : ℕ). get_or (set d j (r % 1099511627776)) q 0 ≡ risenAt n a w q) (sym z)
+        subst (λ (q : ℕ). get_or (set d j (r % 1099511627776)) q 0 ≡ risen_at n a w q) (sym z)
         (get_or-set_same d j (r % 1099511627776) 0 (omega (arith, t.long)) ∙ value)
     done m b (no z) = get_or-set_other d j m (r % 1099511627776) 0 z ∙ t.done m (omega arith)
 
 -- after the last turn
 pub up_done : (n : ℕ) (a w : ℕ → Float) (d : List ℕ) (x : Float) (i : ℕ) → i ≡ n → Up n a w d x i → d ≡ risen n a w
-up_done n a w d x i e t = is-risen n a w d t.long (λ j. go j (dec_le j i))
+up_done n a w d x i e t = is_risen n a w d t.long (λ j. go j (dec_le j i))
   where
-    go : (j : ℕ) → Dec (j ≤ i) → get_or d j 0 ≡ risenAt n a w j
+    go : (j : ℕ) → Dec (j ≤ i) → get_or d j 0 ≡ risen_at n a w j
     go j (yes h) = t.done j h
-    go j (no h) = t.rest j (omega arith) ∙ sym (risen-behind n a w j (omega arith))
+    go j (no h) = t.rest j (omega arith) ∙ sym (risen_behind n a w j (omega arith))

@@ -1,16 +1,16 @@
 // Shifts of an end's levels found in floats: a candidate by name, of which nothing is claimed.
 ghost use Rattle.std.specs.Prelude.{◌≡◌, ◌<◌, ◌≤◌, length, replicate};
-ghost use Rattle.springs.specs.inner.Promise.{mostHeld, mostLoaded, Solvable};
-ghost use Rattle.springs.specs.inner.Candidate.{stepDown, candidate, Sloped, risen, byLevel};
-ghost use Rattle.springs.specs.Equations.{closedSpring};
+ghost use Rattle.springs.specs.Inner.Promise.{most_held, most_loaded, Solvable};
+ghost use Rattle.springs.specs.Inner.Candidate.{step_down, candidate, Sloped, risen, by_level};
+ghost use Rattle.springs.specs.Equations.{closed_spring};
 
 use floats::{float_of, near};
 use springs::UpperChain;
 
 // From the levels over a tier to the level under it: k its spring, kappa and omega the lashes and the load of the level over it.
 pub fn step(over: UpperChain, k: u64, kappa: u64, omega: u64) -> UpperChain
-    requires { (k ≤ closedSpring) × (kappa ≤ mostHeld) × (omega ≤ mostLoaded) }
-    ensures { result ≡ stepDown over k kappa omega }
+    requires { (k ≤ closed_spring) × (kappa ≤ most_held) × (omega ≤ most_loaded) }
+    ensures { result ≡ step_down over k kappa omega }
 {
     let spring = float_of(k);
     let p = float_of(kappa) * 0.0000002384185791015625 * over.s + over.p;
@@ -31,8 +31,8 @@ pub fn step(over: UpperChain, k: u64, kappa: u64, omega: u64) -> UpperChain
 fn slope(n: usize, k: &[u64], kappa: &[u64], omega: &[u64], a: &mut [f64], w: &mut [f64])
     requires solvable { Solvable n k.now kappa.now omega.now × (n ≤ length k.now) × (n ≤ length kappa.now) × (n ≤ length omega.now) }
     requires a_len { (length a.old ≡ 11) × (length w.old ≡ 11) }
-    ensures { Sloped 0 n k.now kappa.now omega.now (byLevel a.new)
-        (byLevel w.new) }
+    ensures { Sloped 0 n k.now kappa.now omega.now (by_level a.new)
+        (by_level w.new) }
 {
     let mut over = UpperChain {
         s: 1.0,
@@ -54,7 +54,7 @@ fn slope(n: usize, k: &[u64], kappa: &[u64], omega: &[u64], a: &mut [f64], w: &m
 // From the deck up, in whole numbers.
 fn rise(n: usize, a: &[f64], w: &[f64], d: &mut [u64])
     requires { (n ≤ 10) × (length a.now ≡ 11) × (length w.now ≡ 11) × (d.old ≡ replicate 11 0) }
-    ensures { d.new ≡ risen n (byLevel a.now) (byLevel w.now) }
+    ensures { d.new ≡ risen n (by_level a.now) (by_level w.now) }
 {
     let mut x = 0.0;
     let mut i = 0;

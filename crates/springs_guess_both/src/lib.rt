@@ -1,8 +1,8 @@
 // Shifts of both ends' levels found in floats, in step, since then one end's divisions run beside the other's: a candidate of each end by
 // name, of which nothing is claimed.
 ghost use Rattle.std.specs.Prelude.{◌≡◌, ◌≤◌, length, replicate};
-ghost use Rattle.springs.specs.inner.Promise.{Solvable};
-ghost use Rattle.springs.specs.inner.Candidate.{candidate, Sloped, risen, everyFourth};
+ghost use Rattle.springs.specs.Inner.Promise.{Solvable};
+ghost use Rattle.springs.specs.Inner.Candidate.{candidate, Sloped, risen, every_fourth};
 
 use floats::near;
 use springs::UpperChain;
@@ -23,10 +23,10 @@ fn slope_both(
     requires solvable { Solvable n k.now kappa.now omega.now × (n ≤ length k.now) × (n ≤ length kappa.now) × (n ≤ length omega.now) }
     requires solvable_2 { Solvable n h.now eta.now omega.now × (n ≤ length h.now) × (n ≤ length eta.now) }
     requires slopes_len { length slopes.old ≡ 40 }
-    ensures sloped { Sloped 0 n k.now kappa.now omega.now (everyFourth 0 slopes.new)
-        (everyFourth 2 slopes.new) }
-    ensures sloped_2 { Sloped 0 n h.now eta.now omega.now (everyFourth 1 slopes.new)
-        (everyFourth 3 slopes.new) }
+    ensures sloped { Sloped 0 n k.now kappa.now omega.now (every_fourth 0 slopes.new)
+        (every_fourth 2 slopes.new) }
+    ensures sloped_2 { Sloped 0 n h.now eta.now omega.now (every_fourth 1 slopes.new)
+        (every_fourth 3 slopes.new) }
 {
     let mut door = UpperChain {
         s: 1.0,
@@ -58,8 +58,8 @@ fn slope_both(
 // From the deck up, in whole numbers.
 fn rise_both(n: usize, slopes: &[f64], d: &mut [u64], e: &mut [u64])
     requires { (n ≤ 10) × (length slopes.now ≡ 40) × (d.old ≡ replicate 11 0) × (e.old ≡ replicate 11 0) }
-    ensures d_after { d.new ≡ risen n (everyFourth 0 slopes.now) (everyFourth 2 slopes.now) }
-    ensures e_after { e.new ≡ risen n (everyFourth 1 slopes.now) (everyFourth 3 slopes.now) }
+    ensures d_after { d.new ≡ risen n (every_fourth 0 slopes.now) (every_fourth 2 slopes.now) }
+    ensures e_after { e.new ≡ risen n (every_fourth 1 slopes.now) (every_fourth 3 slopes.now) }
 {
     let mut x = 0.0;
     let mut y = 0.0;

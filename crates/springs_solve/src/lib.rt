@@ -2,9 +2,9 @@
 // numbers; where a level is out of balance under them, they are found by elimination, which takes longer.
 // Arrays are lent as slices, so that no call copies them.
 ghost use Rattle.std.specs.Prelude.{◌≡◌, ◌≤◌, length, replicate};
-ghost use Rattle.springs.specs.inner.Promise.{Solvable, Promised};
-ghost use Rattle.springs.specs.inner.Candidate.{candidate};
-ghost use Rattle.springs.specs.inner.Elimination.{solved};
+ghost use Rattle.springs.specs.Inner.Promise.{Solvable, Promised};
+ghost use Rattle.springs.specs.Inner.Candidate.{candidate};
+ghost use Rattle.springs.specs.Inner.Elimination.{solved};
 
 use springs_balance::balanced;
 use springs_eliminate::eliminate;

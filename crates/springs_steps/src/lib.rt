@@ -1,7 +1,7 @@
 // One step of the chain of springs, in whole numbers: what a level hands down, and its shift from the one under it.
 ghost use Rattle.std.specs.Prelude.{◌≡◌, ◌+◌, ◌≤◌};
-ghost use Rattle.springs.specs.inner.Promise.{farthest};
-ghost use Rattle.springs.specs.inner.Elimination.{stiffnessDown, loadDown, shiftUp, InRange, mostLoadTogether};
+ghost use Rattle.springs.specs.Inner.Promise.{farthest};
+ghost use Rattle.springs.specs.Inner.Elimination.{stiffness_down, load_down, shift_up, InRange, most_load_together};
 
 use arith::rounding::scaled;
 
@@ -11,7 +11,7 @@ const SCALE: u64 = 4194304;
 // The stiffness that a level hands down by the spring k under it, of its lashes kappa and the stiffness x handed to it.
 pub fn stiffness_down(k: u64, kappa: u64, x: u64) -> u64
     requires { InRange k kappa x }
-    ensures { result ≡ stiffnessDown k kappa x }
+    ensures { result ≡ stiffness_down k kappa x }
 {
     let stiffness = kappa + x;
     if stiffness == 0 {
@@ -22,8 +22,8 @@ pub fn stiffness_down(k: u64, kappa: u64, x: u64) -> u64
 
 // The load that it hands down, of its own, omega, and the load y handed to it.
 pub fn load_down(k: u64, kappa: u64, omega: u64, x: u64, y: u64) -> u64
-    requires { InRange k kappa x × (omega + y ≤ mostLoadTogether) }
-    ensures { result ≡ loadDown k kappa omega x y }
+    requires { InRange k kappa x × (omega + y ≤ most_load_together) }
+    ensures { result ≡ load_down k kappa omega x y }
 {
     let stiffness = kappa + x;
     let load = omega + y;
@@ -35,8 +35,8 @@ pub fn load_down(k: u64, kappa: u64, omega: u64, x: u64, y: u64) -> u64
 
 // Its shift, where the level under it has the shift p.
 pub fn shift_up(k: u64, kappa: u64, omega: u64, x: u64, y: u64, p: u64) -> u64
-    requires { InRange k kappa x × (omega + y ≤ mostLoadTogether) × (p ≤ farthest) }
-    ensures { result ≡ shiftUp k kappa omega x y p }
+    requires { InRange k kappa x × (omega + y ≤ most_load_together) × (p ≤ farthest) }
+    ensures { result ≡ shift_up k kappa omega x y p }
 {
     let stiffness = kappa + x;
     let load = omega + y;

@@ -8,42 +8,42 @@ use Rattle.sheet.specs.declared.Reading.{Reading}
 use Rattle.sheet.specs.declared.Reading.TheVariants.{Taken, Refused}
 use Rattle.sheet.specs.declared.Sheet.{Sheet}
 use Rattle.sheet.specs.declared.Tier.{Tier}
-use Rattle.sheet.specs.Layout.{sheetOf}
-use Rattle.sheet.specs.Refusals.{first, sheetRows, refusal}
+use Rattle.sheet.specs.Layout.{sheet_of}
+use Rattle.sheet.specs.Refusals.{first, sheet_rows, refusal}
 use Rattle.sheet.specs.Fits.{Fits}
-use Rattle.sheet.specs.inner.Changed.{withTiers}
-use Rattle.sheet.proofs.Refusal.{decoded-reading, sheet-refused, room-last}
+use Rattle.sheet.specs.Inner.Changed.{with_tiers}
+use Rattle.sheet.proofs.Refusal.{decoded_reading, sheet_refused, room_last}
 use Rattle.statics.specs.declared.LoadRule.{LoadRule}
 use Rattle.statics.specs.declared.EndFigures.{EndFigures}
 use Rattle.statics.specs.declared.Figures.{Figures}
-use Rattle.statics.specs.inner.Computed.{figuresBy, loadRuleOf}
+use Rattle.statics.specs.Inner.Computed.{figures_by, load_rule_of}
 use Rattle.answer.specs.declared.Outcome.{Outcome}
 use Rattle.answer.specs.declared.Outcome.TheVariants as O
 use Rattle.answer.specs.Answers.{answerBytes}
 use Rattle.answer.specs.Checked.{AnsweredBy, room_for, Checked, kept}
-use Rattle.answer.specs.inner.Named.{answerBy, checkBytes, returnedAs, writtenAs, returned, written}
-use Rattle.answer.proofs.Named.{answer-by-named, check-named}
+use Rattle.answer.specs.Inner.Named.{answer_by, check_bytes, returned_as, written_as, returned, written}
+use Rattle.answer.proofs.Named.{answer_by_named, check_named}
 
 -- the figures of a sheet, end by end, are its figures
-module _ (c : LoadRule) (t : Sheet) {d e : EndFigures} (p : d ≡ (figuresBy c t).door) (q : e ≡ (figuresBy c t).closed) where
-  pub both_ends : ◌≡◌ {A = Figures} (record { door = d; closed = e }) (figuresBy c t)
+module _ (c : LoadRule) (t : Sheet) {d e : EndFigures} (p : d ≡ (figures_by c t).door) (q : e ≡ (figures_by c t).closed) where
+  pub both_ends : ◌≡◌ {A = Figures} (record { door = d; closed = e }) (figures_by c t)
   both_ends = λ i. record { door = p i; closed = q i }
 
 -- a decoded sheet
 module _ (c : LoadRule) (t : Sheet) (before : List ℕ) where
   abbrev ByName : List ℕ → Outcome → Type 0
   ByName after r =
-      (r ≡ returnedAs (room_for (length before)) (answerBy c t))
-      × (after ≡ writtenAs (room_for (length before)) (answerBy c t) before)
+      (r ≡ returned_as (room_for (length before)) (answer_by c t))
+      × (after ≡ written_as (room_for (length before)) (answer_by c t) before)
 
-  pub short-room : length before < 834 → ByName before (O.Refused 13 834)
+  pub short_room : length before < 834 → ByName before (O.Refused 13 834)
   unfolding first
-  short-room h = simp (lt-ltb (length before) 834 h) (refl, refl)
+  short_room h = simp (lt-ltb (length before) 834 h) (refl, refl)
 
   pub answered :
       {f : Figures} {n : ℕ} {after : List ℕ} →
       834 ≤ length before →
-      f ≡ figuresBy c t →
+      f ≡ figures_by c t →
       n ≡ length (answerBytes t f) →
       after ≡ answerBytes t f ++ drop (length (answerBytes t f)) before →
       ByName after (O.Taken n)
@@ -54,8 +54,8 @@ module _ (c : LoadRule) (t : Sheet) (before : List ℕ) where
         stored ∙ ap (λ (g : Figures). answerBytes t g ++ drop (length (answerBytes t g)) before) e,
       )
 
-  pub by-rule : {after : List ℕ} {r : Outcome} → Fits t → ByName after r → AnsweredBy kept c t before after r
-  by-rule f (e, g) = record { holds = λ rule stands. rw (e, g) (answer-by-named stands f before) }
+  pub by_rule : {after : List ℕ} {r : Outcome} → Fits t → ByName after r → AnsweredBy kept c t before after r
+  by_rule f (e, g) = record { holds = λ rule stands. rw (e, g) (answer_by_named stands f before) }
 
 -- a sheet's bytes
 module _ (s before : List ℕ) where
@@ -64,33 +64,33 @@ module _ (s before : List ℕ) where
       Checked kept s before after r × ((r ≡ returned s (length before)) × (after ≡ written s before))
 
   by_name : {after : List ℕ} {r : Outcome} → r ≡ returned s (length before) → after ≡ written s before → Checks after r
-  by_name e g = (rw (e, g) (check-named s before), (e, g))
+  by_name e g = (rw (e, g) (check_named s before), (e, g))
 
-  by-refusal :
+  by_refusal :
       (q : Reading) {after : List ℕ} {r : Outcome} →
       refusal s (length before) ≡ q →
-      r ≡ returnedAs q (checkBytes s) →
-      after ≡ writtenAs q (checkBytes s) before →
+      r ≡ returned_as q (check_bytes s) →
+      after ≡ written_as q (check_bytes s) before →
       Checks after r
   unfolding returned written
-  by-refusal q e g h =
+  by_refusal q e g h =
       by_name
-      (g ∙ ap (λ (q : Reading). returnedAs q (checkBytes s)) (sym e))
-      (h ∙ ap (λ (q : Reading). writtenAs q (checkBytes s) before) (sym e))
+      (g ∙ ap (λ (q : Reading). returned_as q (check_bytes s)) (sym e))
+      (h ∙ ap (λ (q : Reading). written_as q (check_bytes s) before) (sym e))
 
-  pub refused : {n p : ℕ} → first (sheetRows s) ≡ Refused n p → Checks before (O.Refused n p)
-  refused {n} {p} e = by-refusal (Refused n p) (sheet-refused s (length before) (decoded-reading s ∙ e)) refl refl
+  pub refused : {n p : ℕ} → first (sheet_rows s) ≡ Refused n p → Checks before (O.Refused n p)
+  refused {n} {p} e = by_refusal (Refused n p) (sheet_refused s (length before) (decoded_reading s ∙ e)) refl refl
 
   pub taken :
-      first (sheetRows s) ≡ Taken →
+      first (sheet_rows s) ≡ Taken →
       {c : LoadRule} {tiers : List Tier} {after : List ℕ} {r : Outcome} →
-      c ≡ loadRuleOf (sheetOf s) →
-      tiers ≡ (sheetOf s).tiers →
-      ByName c (withTiers tiers (sheetOf s)) before after r →
+      c ≡ load_rule_of (sheet_of s) →
+      tiers ≡ (sheet_of s).tiers →
+      ByName c (with_tiers tiers (sheet_of s)) before after r →
       Checks after r
   taken e {c} {tiers} rule same (g, h) =
-      let bytes : answerBy c (withTiers tiers (sheetOf s)) ≡ checkBytes s =
-      ap₂ (λ (c : LoadRule) (ts : List Tier). answerBy c (withTiers ts (sheetOf s))) rule same in
-      by-refusal (room_for (length before)) (room-last s (length before) (decoded-reading s ∙ e))
-      (g ∙ ap (λ (b : List ℕ). returnedAs (room_for (length before)) b) bytes)
-      (h ∙ ap (λ (b : List ℕ). writtenAs (room_for (length before)) b before) bytes)
+      let bytes : answer_by c (with_tiers tiers (sheet_of s)) ≡ check_bytes s =
+      ap₂ (λ (c : LoadRule) (ts : List Tier). answer_by c (with_tiers ts (sheet_of s))) rule same in
+      by_refusal (room_for (length before)) (room_last s (length before) (decoded_reading s ∙ e))
+      (g ∙ ap (λ (b : List ℕ). returned_as (room_for (length before)) b) bytes)
+      (h ∙ ap (λ (b : List ℕ). written_as (room_for (length before)) b before) bytes)

@@ -4,11 +4,11 @@
 ghost use Rattle.std.specs.Prelude.{◌≡◌, ◌≤◌, length};
 ghost use Rattle.sheet.specs.declared.Reading.TheVariants.{Taken};
 ghost use Rattle.sheet.specs.Fits.{Fits};
-ghost use Rattle.sheet.specs.Layout.{sheetOf};
-ghost use Rattle.sheet.specs.Refusals.{first, sheetRows};
-ghost use Rattle.sheet.specs.inner.Changed.{withTiers};
+ghost use Rattle.sheet.specs.Layout.{sheet_of};
+ghost use Rattle.sheet.specs.Refusals.{first, sheet_rows};
+ghost use Rattle.sheet.specs.Inner.Changed.{with_tiers};
 ghost use Rattle.answer.specs.Checked.{Checked, AnsweredBy, room_for, kept};
-ghost use Rattle.answer.specs.inner.Named.{answerBy, returnedAs, writtenAs, returned, written};
+ghost use Rattle.answer.specs.Inner.Named.{answer_by, returned_as, written_as, returned, written};
 
 use answer::Outcome;
 use answer_encode::write_answer;
@@ -22,8 +22,8 @@ const LONGEST: usize = 834;
 fn answer_to(t: Sheet, rule: LoadRule, answer: &mut [u8]) -> Outcome
     requires { Fits t × (rule.share ≤ 20) × (rule.factor ≤ 1000) }
     ensures answered { AnsweredBy kept rule t answer.old answer.new result }
-    ensures named { (result ≡ returnedAs (room_for (length answer.old)) (answerBy rule t))
-        × (answer.new ≡ writtenAs (room_for (length answer.old)) (answerBy rule t) answer.old) }
+    ensures named { (result ≡ returned_as (room_for (length answer.old)) (answer_by rule t))
+        × (answer.new ≡ written_as (room_for (length answer.old)) (answer_by rule t) answer.old) }
 {
     if answer.len() < LONGEST {
         return Outcome::Refused(13, LONGEST);
@@ -59,14 +59,14 @@ fn answer_to(t: Sheet, rule: LoadRule, answer: &mut [u8]) -> Outcome
 
 // The same for a taken sheet with these tiers in place of its own, from its bytes.
 pub fn answer_with(s: &[u8], tiers: [Tier; 10], rule: LoadRule, answer: &mut [u8]) -> Outcome
-    requires { (first (sheetRows s.now) ≡ Taken) × Fits (withTiers tiers (sheetOf s.now)) × (rule.share ≤ 20)
+    requires { (first (sheet_rows s.now) ≡ Taken) × Fits (with_tiers tiers (sheet_of s.now)) × (rule.share ≤ 20)
         × (rule.factor ≤ 1000) }
-    ensures answered { AnsweredBy kept rule (withTiers tiers (sheetOf s.now)) answer.old answer.new
+    ensures answered { AnsweredBy kept rule (with_tiers tiers (sheet_of s.now)) answer.old answer.new
         result }
-    ensures named { (result ≡ returnedAs (room_for (length answer.old))
-        (answerBy rule (withTiers tiers (sheetOf s.now))))
-        × (answer.new ≡ writtenAs (room_for (length answer.old))
-        (answerBy rule (withTiers tiers (sheetOf s.now))) answer.old) }
+    ensures named { (result ≡ returned_as (room_for (length answer.old))
+        (answer_by rule (with_tiers tiers (sheet_of s.now))))
+        × (answer.new ≡ written_as (room_for (length answer.old))
+        (answer_by rule (with_tiers tiers (sheet_of s.now))) answer.old) }
 {
     answer_to(sheet_fields::sheet_with(s, tiers), rule, answer)
 }

@@ -8,24 +8,24 @@ use native.Mathlib.Omega.{arith}
 use lib.ListN.{get_or}
 use lib.IntN.{pos}
 use Rattle.arith.specs.Fractions.{nat, ◌*q◌, ◌⊑◌}
-use Rattle.arith.proofs.Rings.{∀₂, ∀₅, ∀₆, ∀₈, by-cert, part, to, times, num, ◌⊞◌, ◌⊠◌}
+use Rattle.arith.proofs.Rings.{∀₂, ∀₅, ∀₆, ∀₈, by_cert, part, to, times, num, ◌⊞◌, ◌⊠◌}
 use Rattle.arith.proofs.Polynomials.{v, kp, kn, ◌⊖◌, ⊖◌}
-use Rattle.arith.proofs.Rationals.{ℚR, ℚ, mk, ◌+ℚ◌, ◌-ℚ◌, ◌*ℚ◌, ◌≤ℚ◌, nn-int, to-⊑, of-⊑}
+use Rattle.arith.proofs.Rationals.{ℚR, ℚ, mk, ◌+ℚ◌, ◌-ℚ◌, ◌*ℚ◌, ◌≤ℚ◌, nn_int, to-⊑, of-⊑}
 use Rattle.arith.proofs.RationalTerms.{qq}
-use Rattle.arith.proofs.RationalOrder.{nat-q}
-use Rattle.arith.proofs.FractionsInRationals.{mk-int}
-use Rattle.springs.specs.Equations.{loadAt}
+use Rattle.arith.proofs.RationalOrder.{nat_q}
+use Rattle.arith.proofs.FractionsInRationals.{mk_int}
+use Rattle.springs.specs.Equations.{load_at}
 use Rattle.springs.proofs.Chain.{natℚ}
 use Rattle.sheet.specs.declared.Tier.{Tier}
-use Rattle.sheet.specs.Layout.{blankTier}
+use Rattle.sheet.specs.Layout.{blank_tier}
 use Rattle.statics.specs.declared.LoadRule.{LoadRule}
-use Rattle.statics.specs.Loads.{StandsFor, half, weight, thousandths, transverse, boxLength, wind, Rule}
-use Rattle.statics.specs.Ends.{chainTiers}
+use Rattle.statics.specs.Loads.{StandsFor, half, weight, thousandths, transverse, box_length, wind, Rule}
+use Rattle.statics.specs.Ends.{chain_tiers}
 use Rattle.sheet.specs.Ends.{End}
 use Rattle.statics.specs.Theorems.{Proper, HeavierTier, HeavierTiers, NoWindwardLoad, LoadsGrow}
-use Rattle.statics.specs.inner.WholeNumbers.{windUnits}
-use Rattle.statics.proofs.WholeNumbers.{times-q}
-use Rattle.statics.proofs.LevelLoads.{half-weight-times, transverse-mk, wind-times, between, load_between, half-times}
+use Rattle.statics.specs.Inner.WholeNumbers.{wind_units}
+use Rattle.statics.proofs.WholeNumbers.{times_q}
+use Rattle.statics.proofs.LevelLoads.{half_weight_times, transverse_mk, wind_times, between, load_between, half_times}
 
 module _ (rule : Rule) (p : Proper rule) where
   abbrev S : ℚ
@@ -34,42 +34,42 @@ module _ (rule : Rule) (p : Proper rule) where
   abbrev F : Tier → ℚ
   F t = mk (transverse rule.factor t)
 
-  share-least : natℚ 0 ≤ℚ S
-  share-least = rw (mk-int (pos 0)) at (of-⊑ (nat 0) rule.share p.share-least)
+  share_least : natℚ 0 ≤ℚ S
+  share_least = rw (mk_int (pos 0)) at (of-⊑ (nat 0) rule.share p.share_least)
 
-  share-most : S ≤ℚ natℚ 1
-  share-most = rw (mk-int (pos 1)) at (of-⊑ rule.share (nat 1) p.share-most)
+  share_most : S ≤ℚ natℚ 1
+  share_most = rw (mk_int (pos 1)) at (of-⊑ rule.share (nat 1) p.share_most)
 
-  factor-least : natℚ 0 ≤ℚ mk rule.factor
-  factor-least = rw (mk-int (pos 0)) at (of-⊑ (nat 0) rule.factor p.factor-least)
+  factor_least : natℚ 0 ≤ℚ mk rule.factor
+  factor_least = rw (mk_int (pos 0)) at (of-⊑ (nat 0) rule.factor p.factor_least)
 
   -- F grows with the mass, and is not below zero
   abbrev base : Tier → ℚ
   base t = mk (half *q weight t *q thousandths t.aT)
 
-  base-least : (t : Tier) → natℚ 0 ≤ℚ base t
-  base-least t = go (base t) (natℚ (981 * (t.mass * t.aT))) (half-weight-times t t.aT) (nn-int (981 * (t.mass * t.aT)))
+  base_least : (t : Tier) → natℚ 0 ≤ℚ base t
+  base_least t = go (base t) (natℚ (981 * (t.mass * t.aT))) (half_weight_times t t.aT) (nn_int (981 * (t.mass * t.aT)))
     where
       go : (x y : ℚ) → natℚ 200000 *ℚ x ≡ y → natℚ 0 ≤ℚ y → natℚ 0 ≤ℚ x
       go = ∀₂ ℚR _ λ ρ. simp qq λ e h. part 199999 (to h ⊞ times (kp 1) e) tt
 
-  force-least : (t : Tier) → natℚ 0 ≤ℚ F t
-  force-least t = rw (transverse-mk rule.factor t) (go (base t) (mk rule.factor) (base-least t) factor-least)
+  force_least : (t : Tier) → natℚ 0 ≤ℚ F t
+  force_least t = rw (transverse_mk rule.factor t) (go (base t) (mk rule.factor) (base_least t) factor_least)
     where
       go : (x y : ℚ) → natℚ 0 ≤ℚ x → natℚ 0 ≤ℚ y → natℚ 0 ≤ℚ x *ℚ y
-      go = ∀₂ ℚR _ λ ρ. simp qq λ h l. by-cert (to h ⊠ to l) tt
+      go = ∀₂ ℚR _ λ ρ. simp qq λ h l. by_cert (to h ⊠ to l) tt
 
-  wind-least : (t : Tier) → natℚ 0 ≤ℚ mk (wind t)
-  wind-least t = go (mk (wind t)) (natℚ (windUnits t)) (wind-times t) (nn-int (windUnits t))
+  wind_least : (t : Tier) → natℚ 0 ≤ℚ mk (wind t)
+  wind_least t = go (mk (wind t)) (natℚ (wind_units t)) (wind_times t) (nn_int (wind_units t))
     where
       go : (x y : ℚ) → natℚ 50000 *ℚ x ≡ y → natℚ 0 ≤ℚ y → natℚ 0 ≤ℚ x
       go = ∀₂ ℚR _ λ ρ. simp qq λ e h. part 49999 (to h ⊞ times (kp 1) e) tt
 
-  between-least : (t u : Tier) → natℚ 0 ≤ℚ between rule t u
+  between_least : (t u : Tier) → natℚ 0 ≤ℚ between rule t u
   unfolding between
-  between-least t u =
-      go S (mk half) (F t) (mk (wind t)) (F u) (mk (wind u)) share-least share-most half-times (force-least t) (wind-least t)
-      (force-least u) (wind-least u)
+  between_least t u =
+      go S (mk half) (F t) (mk (wind t)) (F u) (mk (wind u)) share_least share_most half_times (force_least t) (wind_least t)
+      (force_least u) (wind_least u)
     where
       go : (S h F P G O : ℚ) →
           natℚ 0 ≤ℚ S →
@@ -84,18 +84,18 @@ module _ (rule : Rule) (p : Proper rule) where
           ∀₆ ℚR _ λ ρ. simp qq λ s l e f p g o.
           part 1 (num 2 ⊠ to s ⊠ to f ⊞ to p ⊞ num 2 ⊠ to l ⊠ to g ⊞ to o ⊞ times (v 3 ⊖ v 5) e) tt
 
-  pub loads-leeward : (e : End) (ts : List Tier) → NoWindwardLoad rule e ts
-  loads-leeward e ts i =
-      to-⊑ (nat 0) (loadAt (chainTiers rule e ts) i)
-      (rw (mk-int (pos 0), load_between rule e ts i) (between-least (get_or ts i blankTier) (get_or ts (suc i) blankTier)))
+  pub loads_leeward : (e : End) (ts : List Tier) → NoWindwardLoad rule e ts
+  loads_leeward e ts i =
+      to-⊑ (nat 0) (load_at (chain_tiers rule e ts) i)
+      (rw (mk_int (pos 0), load_between rule e ts i) (between_least (get_or ts i blank_tier) (get_or ts (suc i) blank_tier)))
 
   -- a heavier tier: more F, the same P
-  force-grows : {t u : Tier} → HeavierTier t u → F t ≤ℚ F u
-  force-grows {t} {u} h =
-      rw (transverse-mk rule.factor t, transverse-mk rule.factor u)
+  force_grows : {t u : Tier} → HeavierTier t u → F t ≤ℚ F u
+  force_grows {t} {u} h =
+      rw (transverse_mk rule.factor t, transverse_mk rule.factor u)
       (go (base t) (base u) (mk rule.factor) (natℚ (981 * (t.mass * t.aT))) (natℚ (981 * (u.mass * u.aT)))
-      (half-weight-times t t.aT) (half-weight-times u u.aT)
-      (nat-q (981 * (t.mass * t.aT)) (981 * (u.mass * u.aT)) more) factor-least)
+      (half_weight_times t t.aT) (half_weight_times u u.aT)
+      (nat_q (981 * (t.mass * t.aT)) (981 * (u.mass * u.aT)) more) factor_least)
     where
       same : t.aT ≡ u.aT
       same = sym (ap (λ (x : Tier). x.aT) h.same)
@@ -106,15 +106,15 @@ module _ (rule : Rule) (p : Proper rule) where
       go : (x y f a b : ℚ) → natℚ 200000 *ℚ x ≡ a → natℚ 200000 *ℚ y ≡ b → a ≤ℚ b → natℚ 0 ≤ℚ f → x *ℚ f ≤ℚ y *ℚ f
       go = ∀₅ ℚR _ λ ρ. simp qq λ d e h l. part 199999 (to h ⊠ to l ⊞ times (⊖ v 2) d ⊞ times (v 2) e) tt
 
-  wind-same : {t u : Tier} → HeavierTier t u → mk (wind u) ≡ mk (wind t)
-  unfolding wind boxLength
-  wind-same {t} {u} h = ap (λ (x : Tier). mk (wind x)) h.same
+  wind_same : {t u : Tier} → HeavierTier t u → mk (wind u) ≡ mk (wind t)
+  unfolding wind box_length
+  wind_same {t} {u} h = ap (λ (x : Tier). mk (wind x)) h.same
 
-  between-grows : {t u t' u' : Tier} → HeavierTier t t' → HeavierTier u u' → between rule t u ≤ℚ between rule t' u'
+  between_grows : {t u t' u' : Tier} → HeavierTier t t' → HeavierTier u u' → between rule t u ≤ℚ between rule t' u'
   unfolding between
-  between-grows {t} {u} {t'} {u'} h l =
-      rw (wind-same h, wind-same l)
-      (go S (mk half) (F t) (mk (wind t)) (F u) (mk (wind u)) (F t') (F u') share-least share-most (force-grows h) (force-grows l))
+  between_grows {t} {u} {t'} {u'} h l =
+      rw (wind_same h, wind_same l)
+      (go S (mk half) (F t) (mk (wind t)) (F u) (mk (wind u)) (F t') (F u') share_least share_most (force_grows h) (force_grows l))
     where
       go : (S h F P G O A B : ℚ) →
           natℚ 0 ≤ℚ S →
@@ -122,33 +122,33 @@ module _ (rule : Rule) (p : Proper rule) where
           F ≤ℚ A →
           G ≤ℚ B →
           S *ℚ F +ℚ h *ℚ P +ℚ (G +ℚ O -ℚ (S *ℚ G +ℚ h *ℚ O)) ≤ℚ S *ℚ A +ℚ h *ℚ P +ℚ (B +ℚ O -ℚ (S *ℚ B +ℚ h *ℚ O))
-      go = ∀₈ ℚR _ λ ρ. simp qq λ s l f g. by-cert (to s ⊠ to f ⊞ to l ⊠ to g) tt
+      go = ∀₈ ℚR _ λ ρ. simp qq λ s l f g. by_cert (to s ⊠ to f ⊞ to l ⊠ to g) tt
 
-  pub loads-grow : (e : End) (ts us : List Tier) → HeavierTiers ts us → LoadsGrow rule e ts us
-  loads-grow e ts us h i =
-      to-⊑ (loadAt (chainTiers rule e ts) i) (loadAt (chainTiers rule e us) i)
-      (rw (load_between rule e ts i, load_between rule e us i) (between-grows (h i) (h (suc i))))
+  pub loads_grow : (e : End) (ts us : List Tier) → HeavierTiers ts us → LoadsGrow rule e ts us
+  loads_grow e ts us h i =
+      to-⊑ (load_at (chain_tiers rule e ts) i) (load_at (chain_tiers rule e us) i)
+      (rw (load_between rule e ts i, load_between rule e us i) (between_grows (h i) (h (suc i))))
 
 -- a rule that whole numbers stand for is proper
-pub stands-proper : {c : LoadRule} {rule : Rule} → StandsFor c rule → Proper rule
-stands-proper {c} {rule} s =
-    let share = times-q 20 c.share rule.share s.share in
-    let factor = times-q 1000 c.factor rule.factor s.factor in
+pub stands_proper : {c : LoadRule} {rule : Rule} → StandsFor c rule → Proper rule
+stands_proper {c} {rule} s =
+    let share = times_q 20 c.share rule.share s.share in
+    let factor = times_q 1000 c.factor rule.factor s.factor in
     record {
-      share-least =
-          to-⊑ (nat 0) rule.share (rw (mk-int (pos 0)) (least-20 (mk rule.share) (natℚ c.share) share (nn-int c.share)));
-      share-most =
+      share_least =
+          to-⊑ (nat 0) rule.share (rw (mk_int (pos 0)) (least_20 (mk rule.share) (natℚ c.share) share (nn_int c.share)));
+      share_most =
           to-⊑ rule.share (nat 1)
-          (rw (mk-int (pos 1)) (most (mk rule.share) (natℚ c.share) share (nat-q c.share 20 s.share-most)));
-      factor-least =
-          to-⊑ (nat 0) rule.factor (rw (mk-int (pos 0)) (least-1000 (mk rule.factor) (natℚ c.factor) factor (nn-int c.factor)));
+          (rw (mk_int (pos 1)) (most (mk rule.share) (natℚ c.share) share (nat_q c.share 20 s.share_most)));
+      factor_least =
+          to-⊑ (nat 0) rule.factor (rw (mk_int (pos 0)) (least_1000 (mk rule.factor) (natℚ c.factor) factor (nn_int c.factor)));
     }
   where
-    least-20 : (x y : ℚ) → natℚ 20 *ℚ x ≡ y → natℚ 0 ≤ℚ y → natℚ 0 ≤ℚ x
-    least-20 = ∀₂ ℚR _ λ ρ. simp qq λ e h. part 19 (to h ⊞ times (kp 1) e) tt
+    least_20 : (x y : ℚ) → natℚ 20 *ℚ x ≡ y → natℚ 0 ≤ℚ y → natℚ 0 ≤ℚ x
+    least_20 = ∀₂ ℚR _ λ ρ. simp qq λ e h. part 19 (to h ⊞ times (kp 1) e) tt
 
-    least-1000 : (x y : ℚ) → natℚ 1000 *ℚ x ≡ y → natℚ 0 ≤ℚ y → natℚ 0 ≤ℚ x
-    least-1000 = ∀₂ ℚR _ λ ρ. simp qq λ e h. part 999 (to h ⊞ times (kp 1) e) tt
+    least_1000 : (x y : ℚ) → natℚ 1000 *ℚ x ≡ y → natℚ 0 ≤ℚ y → natℚ 0 ≤ℚ x
+    least_1000 = ∀₂ ℚR _ λ ρ. simp qq λ e h. part 999 (to h ⊞ times (kp 1) e) tt
 
     most : (x y : ℚ) → natℚ 20 *ℚ x ≡ y → y ≤ℚ natℚ 20 → x ≤ℚ natℚ 1
     most = ∀₂ ℚR _ λ ρ. simp qq λ e h. part 19 (to h ⊞ times (kn 0) e) tt

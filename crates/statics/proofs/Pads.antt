@@ -4,89 +4,89 @@ use lib.IntN.{pos}
 use Rattle.arith.specs.Fractions.{recip}
 use Rattle.arith.proofs.Rationals.{ℚ, int, ◌+ℚ◌, ◌*ℚ◌, recipℚ, ◌≤ℚ◌, leℚ}
 use Rattle.springs.proofs.Chain.{natℚ}
-use Rattle.statics.specs.Posts.{postSpacing}
-use Rattle.statics.specs.inner.WholeNumbers.{lashPad, alongPad, alongMiddle, rackingPad, postPad}
+use Rattle.statics.specs.Posts.{post_spacing}
+use Rattle.statics.specs.Inner.WholeNumbers.{lash_pad, along_pad, along_middle, racking_pad, post_pad}
 use Rattle.statics.proofs.Scales.{cent, newtons}
 
 -- the bounds on the shifts found: stiffness × shift error, summed over the lashes; and the error of a racking
-abbrev pub shiftErrorBound : ℚ
-shiftErrorBound = cent 5
+abbrev pub shift_error_bound : ℚ
+shift_error_bound = cent 5
 
-abbrev pub forceBound : ℚ
-forceBound = cent 5
+abbrev pub force_bound : ℚ
+force_bound = cent 5
 
 -- what no lash holds more than, N: the load of the lowest tier (Bounds)
-abbrev pub mostHeld : ℕ
-mostHeld = 2440000
+abbrev pub most_held : ℕ
+most_held = 2440000
 
 -- a lash's athwart part, for its shift error s: stiffness, shift and product are rounded
-abbrev pub partError : ℚ → ℚ
-partError s = s +ℚ newtons (pos 257)
+abbrev pub part_error : ℚ → ℚ
+part_error s = s +ℚ newtons (pos 257)
 
 -- its vertical part, LZ being at most 40 LY, by a reciprocal of LY
-abbrev pub verticalError : ℚ → ℚ
-verticalError s = natℚ 40 *ℚ partError s +ℚ newtons (pos alongMiddle)
+abbrev pub vertical_error : ℚ → ℚ
+vertical_error s = natℚ 40 *ℚ part_error s +ℚ newtons (pos along_middle)
 
 -- a racking rounded to 2^-18 N, and what a tier of 2,896 mm adds to the moment
-abbrev pub roundedRackingError : ℚ
-roundedRackingError = cent 6
+abbrev pub rounded_racking_error : ℚ
+rounded_racking_error = cent 6
 
-abbrev pub tierError : ℚ
-tierError = natℚ 2896 *ℚ roundedRackingError
+abbrev pub tier_error : ℚ
+tier_error = natℚ 2896 *ℚ rounded_racking_error
 
 -- the vertical parts of 8 lashes
-abbrev pub verticalsError : ℚ
-verticalsError = cent 264
+abbrev pub verticals_error : ℚ
+verticals_error = cent 264
 
 -- a post sum of n tiers: half the weight, the moment over the post spacing, the vertical parts
-abbrev pub sumError : ℚ → ℚ
-sumError n =
-    newtons (pos 1) +ℚ (recipℚ (natℚ postSpacing) *ℚ (n *ℚ tierError) +ℚ newtons (pos 1)) +ℚ verticalsError
+abbrev pub sum_error : ℚ → ℚ
+sum_error n =
+    newtons (pos 1) +ℚ (recipℚ (natℚ post_spacing) *ℚ (n *ℚ tier_error) +ℚ newtons (pos 1)) +ℚ verticals_error
 
-abbrev pub postError : ℚ
-postError = cent 341
+abbrev pub post_error : ℚ
+post_error = cent 341
 
-pub racking-room : newtons (pos 1) +ℚ forceBound ≤ℚ roundedRackingError
+pub racking_room : newtons (pos 1) +ℚ force_bound ≤ℚ rounded_racking_error
 unfolding leℚ ◌+ℚ◌ ◌*ℚ◌ recipℚ recip int
-racking-room = record { le = tt }
+racking_room = record { le = tt }
 
-pub verticals-room : natℚ 40 *ℚ shiftErrorBound +ℚ natℚ 8 *ℚ verticalError (natℚ 0) ≤ℚ verticalsError
+pub verticals_room : natℚ 40 *ℚ shift_error_bound +ℚ natℚ 8 *ℚ vertical_error (natℚ 0) ≤ℚ verticals_error
 unfolding leℚ ◌+ℚ◌ ◌*ℚ◌ recipℚ recip int
-verticals-room = record { le = tt }
+verticals_room = record { le = tt }
 
-pub post-room : sumError (natℚ 10) ≤ℚ postError
+pub post_room : sum_error (natℚ 10) ≤ℚ post_error
 unfolding leℚ ◌+ℚ◌ ◌*ℚ◌ recipℚ recip int
-post-room = record { le = tt }
+post_room = record { le = tt }
 
 -- the pads cover the errors, and lift a figure by little
-pub lash-pad : partError shiftErrorBound ≤ℚ newtons (pos lashPad)
+pub lash_pad_lem : part_error shift_error_bound ≤ℚ newtons (pos lash_pad)
 unfolding leℚ ◌+ℚ◌ ◌*ℚ◌ recipℚ recip int
-lash-pad = record { le = tt }
+lash_pad_lem = record { le = tt }
 
-pub part_room : newtons (pos lashPad) ≤ℚ natℚ 1
+pub part_room : newtons (pos lash_pad) ≤ℚ natℚ 1
 unfolding leℚ ◌*ℚ◌ recipℚ recip int
 part_room = record { le = tt }
 
-pub lash-over : partError shiftErrorBound +ℚ newtons (pos lashPad) ≤ℚ natℚ 1
+pub lash_over : part_error shift_error_bound +ℚ newtons (pos lash_pad) ≤ℚ natℚ 1
 unfolding leℚ ◌+ℚ◌ ◌*ℚ◌ recipℚ recip int
-lash-over = record { le = tt }
+lash_over = record { le = tt }
 
-pub turned-over : natℚ 42 *ℚ (partError shiftErrorBound +ℚ newtons (pos lashPad)) +ℚ newtons (pos alongPad) ≤ℚ natℚ 5
+pub turned_over : natℚ 42 *ℚ (part_error shift_error_bound +ℚ newtons (pos lash_pad)) +ℚ newtons (pos along_pad) ≤ℚ natℚ 5
 unfolding leℚ ◌+ℚ◌ ◌*ℚ◌ recipℚ recip int
-turned-over = record { le = tt }
+turned_over = record { le = tt }
 
-pub racking-pad : roundedRackingError ≤ℚ newtons (pos rackingPad)
+pub racking_pad_lem : rounded_racking_error ≤ℚ newtons (pos racking_pad)
 unfolding leℚ ◌*ℚ◌ recipℚ recip int
-racking-pad = record { le = tt }
+racking_pad_lem = record { le = tt }
 
-pub racking-over : roundedRackingError +ℚ newtons (pos rackingPad) ≤ℚ natℚ 1
+pub racking_over : rounded_racking_error +ℚ newtons (pos racking_pad) ≤ℚ natℚ 1
 unfolding leℚ ◌+ℚ◌ ◌*ℚ◌ recipℚ recip int
-racking-over = record { le = tt }
+racking_over = record { le = tt }
 
-pub post-pad : postError ≤ℚ newtons (pos postPad)
+pub post_pad_lem : post_error ≤ℚ newtons (pos post_pad)
 unfolding leℚ ◌*ℚ◌ recipℚ recip int
-post-pad = record { le = tt }
+post_pad_lem = record { le = tt }
 
-pub post-over : postError +ℚ newtons (pos postPad) ≤ℚ natℚ 7
+pub post_over : post_error +ℚ newtons (pos post_pad) ≤ℚ natℚ 7
 unfolding leℚ ◌+ℚ◌ ◌*ℚ◌ recipℚ recip int
-post-over = record { le = tt }
+post_over = record { le = tt }

@@ -5,4 +5,4 @@ pub mod Posts
 pub mod Forces
 pub mod Reported
 pub mod Theorems
-pub mod inner
+pub mod Inner

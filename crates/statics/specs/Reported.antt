@@ -6,7 +6,7 @@ use Rattle.statics.specs.declared.EndFigures.{EndFigures}
 use Rattle.statics.specs.Loads.{Rule}
 use Rattle.statics.specs.Ends.{EndSolved}
 use Rattle.sheet.specs.Ends.{End}
-use Rattle.statics.specs.Forces.{Force, racking, compression, tension, lashTension, lashAthwart, lashVertical, entryCount, exactForce}
+use Rattle.statics.specs.Forces.{Force, racking, compression, tension, lash_tension, lash_athwart, lash_vertical, entry_count, exact_force}
 
 -- at least the exact force in size, and less than `margin` N above it
 pub record Reported (margin : ℕ) (exact : Frac) (size : ℕ) : Type 0 where
@@ -19,25 +19,25 @@ pub record Directed (margin : ℕ) (exact : Frac) (shown : ℤ) : Type 0 where
   pub windward : exact ⊑ negq (nat margin) → shown <ℤ pos 0
 
 -- the reported number at an entry, and its size: its value without the sign
-abbrev pub reportedNumber : Force → EndFigures → ℕ → ℤ
-reportedNumber racking f i = get_or f.racking i (pos 0)
-reportedNumber compression f i = pos (get_or f.compression i 0)
-reportedNumber tension f i = pos (get_or f.tension i 0)
-reportedNumber lashTension f j = pos (get_or f.pull j 0)
-reportedNumber lashAthwart f j = pos (get_or f.athwart j 0)
-reportedNumber lashVertical f j = pos (get_or f.vertical j 0)
+abbrev pub reported_number : Force → EndFigures → ℕ → ℤ
+reported_number racking f i = get_or f.racking i (pos 0)
+reported_number compression f i = pos (get_or f.compression i 0)
+reported_number tension f i = pos (get_or f.tension i 0)
+reported_number lash_tension f j = pos (get_or f.pull j 0)
+reported_number lash_athwart f j = pos (get_or f.athwart j 0)
+reported_number lash_vertical f j = pos (get_or f.vertical j 0)
 
-abbrev pub reportedSize : Force → EndFigures → ℕ → ℕ
-reportedSize x f i = nat_abs (reportedNumber x f i)
+abbrev pub reported_size : Force → EndFigures → ℕ → ℕ
+reported_size x f i = nat_abs (reported_number x f i)
 
 -- every force of an end, at shifts Ds of its levels
 pub record EndReported (margin : ℕ) (rule : Rule) (e : End) (t : Sheet) (Ds : List Frac) (f : EndFigures) : Type 0 where
-  pub forces : (x : Force) (i : ℕ) → i < entryCount x e t → Reported margin (exactForce x rule e t Ds i) (reportedSize x f i)
-  pub ways : (i : ℕ) → i < t.ntiers → Directed margin (exactForce racking rule e t Ds i) (reportedNumber racking f i)
+  pub forces : (x : Force) (i : ℕ) → i < entry_count x e t → Reported margin (exact_force x rule e t Ds i) (reported_size x f i)
+  pub ways : (i : ℕ) → i < t.ntiers → Directed margin (exact_force racking rule e t Ds i) (reported_number racking f i)
 
 -- the figures fit the answer's four bytes, signed or not
 pub record Fitting (f : EndFigures) : Type 0 where
-  pub small : (x : Force) (i : ℕ) → reportedSize x f i < 2 ^ 31
+  pub small : (x : Force) (i : ℕ) → reported_size x f i < 2 ^ 31
 
 -- the figures of an end report its forces at every solution of its equations
 pub record EndFigured (margin : ℕ) (rule : Rule) (e : End) (t : Sheet) (f : EndFigures) : Type 0 where

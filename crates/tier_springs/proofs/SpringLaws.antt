@@ -8,32 +8,32 @@ use native.Mathlib.Omega.{arith}
 use lib.ListN.{length, get_or, set, replicate, get_or-eq_default}
 use lib.Seq.{ext_get_or}
 use Rattle.arith.specs.Lists.{below}
-use Rattle.arith.proofs.Arrays.{length-entries}
+use Rattle.arith.proofs.Arrays.{length_entries}
 use Rattle.sheet.specs.declared.Tier.{Tier}
-use Rattle.sheet.specs.Layout.{turned, blankTier}
-use Rattle.statics.proofs.Arrays.{Between, between_none, fill-above, entry_at}
+use Rattle.sheet.specs.Layout.{turned, blank_tier}
+use Rattle.statics.proofs.Arrays.{Between, between_none, fill_above, entry_at}
 
 module _ (own other : ℕ) (ts : List Tier) where
   abbrev pub spring : ℕ → ℕ
-  spring j = cond (turned (get_or ts j blankTier)) other own
+  spring j = cond (turned (get_or ts j blank_tier)) other own
 
   -- the springs of the first i tiers, and the end's own behind them
   abbrev pub Springs : ℕ → List ℕ → Type 0
   Springs i k = Between own (λ j x. x ≡ spring j) 10 0 i k
 
-  pub springs-none : Springs 0 (replicate 10 own)
-  springs-none = between_none own _ 10 0
+  pub springs_none : Springs 0 (replicate 10 own)
+  springs_none = between_none own _ 10 0
 
-  pub springs-more : {i x : ℕ} {k : List ℕ} → i < 10 → x ≡ spring i → Springs i k → Springs (suc i) (set k i x)
-  springs-more {i} {x} {k} room e b = fill-above own (λ j x. x ≡ spring j) 10 0 i k x room e b
+  pub springs_more : {i x : ℕ} {k : List ℕ} → i < 10 → x ≡ spring i → Springs i k → Springs (suc i) (set k i x)
+  springs_more {i} {x} {k} room e b = fill_above own (λ j x. x ≡ spring j) 10 0 i k x room e b
 
-  pub springs-all : {i : ℕ} {k : List ℕ} → length ts ≤ i → Springs i k → k ≡ map spring (below 10)
-  springs-all {i} {k} all b =
-      ext_get_or own k (map spring (below 10)) (b.long ∙ sym (length-entries spring own 10))
+  pub springs_all : {i : ℕ} {k : List ℕ} → length ts ≤ i → Springs i k → k ≡ map spring (below 10)
+  springs_all {i} {k} all b =
+      ext_get_or own k (map spring (below 10)) (b.long ∙ sym (length_entries spring own 10))
       (λ j h. elim (dec_lt j i) [
         | yes l ↦ b.each j zero-le l ∙ sym (entry_at spring own 10 j (omega (arith, b.long)))
         | no l ↦ b.rest j (omega arith) ∙ sym (entry_at spring own 10 j (omega (arith, b.long)) ∙ behind j (omega arith))
       ])
     where
       behind : (j : ℕ) → length ts ≤ j → spring j ≡ own
-      behind j h = rw (get_or-eq_default ts blankTier h) refl
+      behind j h = rw (get_or-eq_default ts blank_tier h) refl

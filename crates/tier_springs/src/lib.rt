@@ -3,7 +3,7 @@
 ghost use Rattle.std.specs.Prelude.{cond, ◌≡◌, ◌≤◌, take, replicate};
 ghost use Rattle.sheet.specs.Ends.{door, closed};
 ghost use Rattle.sheet.specs.Layout.{turned};
-ghost use Rattle.statics.specs.inner.Computed.{springsOf};
+ghost use Rattle.statics.specs.Inner.Computed.{springs_of};
 
 use sheet::Tier;
 
@@ -25,7 +25,7 @@ fn spring_of(t: Tier, own: u64, other: u64) -> u64
 // Behind the count they are the end's own.
 pub fn springs_of(n: usize, tiers: [Tier; 10], k: &mut [u64], h: &mut [u64])
     requires { (n ≤ 10) × (k.old ≡ replicate 10 3730) × (h.old ≡ replicate 10 15690) }
-    ensures { (k.new ≡ springsOf door (take n tiers)) × (h.new ≡ springsOf closed (take n tiers)) }
+    ensures { (k.new ≡ springs_of door (take n tiers)) × (h.new ≡ springs_of closed (take n tiers)) }
 {
     let mut i = 0;
     while i < n {

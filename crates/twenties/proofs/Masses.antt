@@ -7,26 +7,26 @@ use native.Mathlib.Numerals.{add-one}
 use lib.ListN.{length, get_or, drop, drop_of_length-le}
 use lib.Seq.{drop-cons}
 use Rattle.sheet.specs.Layout.{within}
-use Rattle.sheet.proofs.Bools.{not-true, not-false}
+use Rattle.sheet.proofs.Bools.{not_true, not_false}
 use Rattle.twenties.specs.Judgements.{sum, all_fit}
 
 module _ (l : List ℕ) (i : ℕ) where
-  pub fit-here : i < length l → not (within 1 30480 (get_or l i 0)) ≡ false → all_fit (drop i l) ≡ all_fit (drop (i + 1) l)
+  pub fit_here : i < length l → not (within 1 30480 (get_or l i 0)) ≡ false → all_fit (drop i l) ≡ all_fit (drop (i + 1) l)
   unfolding all_fit
-  fit-here h e = rw (drop-cons l i 0 h, not-false (within 1 30480 (get_or l i 0)) e, add-one i) refl
+  fit_here h e = rw (drop-cons l i 0 h, not_false (within 1 30480 (get_or l i 0)) e, add-one i) refl
 
-  pub fit-not : i < length l → not (within 1 30480 (get_or l i 0)) ≡ true → all_fit (drop i l) ≡ false
+  pub fit_not : i < length l → not (within 1 30480 (get_or l i 0)) ≡ true → all_fit (drop i l) ≡ false
   unfolding all_fit
-  fit-not h e = rw (drop-cons l i 0 h, not-true (within 1 30480 (get_or l i 0)) e) refl
+  fit_not h e = rw (drop-cons l i 0 h, not_true (within 1 30480 (get_or l i 0)) e) refl
 
-  pub fit-end : length l ≤ i → all_fit (drop i l) ≡ true
+  pub fit_end : length l ≤ i → all_fit (drop i l) ≡ true
   unfolding all_fit
-  fit-end h = rw (drop_of_length-le l h) refl
+  fit_end h = rw (drop_of_length-le l h) refl
 
-  pub sum-here : i < length l → sum (drop i l) ≡ get_or l i 0 + sum (drop (i + 1) l)
+  pub sum_here : i < length l → sum (drop i l) ≡ get_or l i 0 + sum (drop (i + 1) l)
   unfolding sum
-  sum-here h = rw (drop-cons l i 0 h, add-one i) refl
+  sum_here h = rw (drop-cons l i 0 h, add-one i) refl
 
-  pub sum-end : length l ≤ i → sum (drop i l) ≡ 0
+  pub sum_end : length l ≤ i → sum (drop i l) ≡ 0
   unfolding sum
-  sum-end h = rw (drop_of_length-le l h) refl
+  sum_end h = rw (drop_of_length-le l h) refl

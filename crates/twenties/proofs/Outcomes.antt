@@ -9,30 +9,30 @@ use borrow.Author.Tests.{leb-true}
 use lib.Dec.{leb}
 use lib.ListN.{length}
 use Rattle.sheet.specs.Layout.{◌above◌, within}
-use Rattle.sheet.proofs.Bools.{and-true, or-false, not-false}
-use Rattle.sheet.proofs.Rows.{no_rows, row-holds, row-passed}
+use Rattle.sheet.proofs.Bools.{and_true, or_false, not_false}
+use Rattle.sheet.proofs.Rows.{no_rows, row_holds, row_passed}
 use Rattle.twenties.specs.declared.Judgement.{Judgement}
 use Rattle.twenties.specs.declared.Judgement.TheVariants.{Given, Refused}
-use Rattle.twenties.specs.Judgements.{sum, total, all_fit, verdict, row22, unlessRefused, judgement}
-use Rattle.twenties.proofs.Rows.{permitted-most}
+use Rattle.twenties.specs.Judgements.{sum, total, all_fit, verdict, row22, unless_refused, judgement}
+use Rattle.twenties.proofs.Rows.{permitted_most}
 
-from-to : (lo hi x : ℕ) → not (within lo hi x) ≡ false → (lo ≤ x) × (x ≤ hi)
-from-to lo hi x e =
-    let p = and-true (leb lo x) (leb x hi) (not-false _ e) in
+from_to : (lo hi x : ℕ) → not (within lo hi x) ≡ false → (lo ≤ x) × (x ≤ hi)
+from_to lo hi x e =
+    let p = and_true (leb lo x) (leb x hi) (not_false _ e) in
     (leb-true lo x p.0, leb-true x hi p.1)
 
 -- boxes that fit weigh at most 30,480 kg each
-sum-most : (masses : List ℕ) → all_fit masses ≡ true → sum masses ≤ 30480 * length masses
+sum_most : (masses : List ℕ) → all_fit masses ≡ true → sum masses ≤ 30480 * length masses
 unfolding sum all_fit
-sum-most [] e = omega arith
-sum-most (m ∷ ms) e =
-    let p = and-true (within 1 30480 m) (all_fit ms) e in
-    omega (arith, sum-most ms p.1, leb-true m 30480 (and-true (leb 1 m) (leb m 30480) p.0).1)
+sum_most [] e = omega arith
+sum_most (m ∷ ms) e =
+    let p = and_true (within 1 30480 m) (all_fit ms) e in
+    omega (arith, sum_most ms p.1, leb-true m 30480 (and_true (leb 1 m) (leb m 30480) p.0).1)
 
-above-lowest : (masses : List ℕ) → total masses ≤ sum masses
+above_lowest : (masses : List ℕ) → total masses ≤ sum masses
 unfolding sum
-above-lowest [] = omega arith
-above-lowest (m ∷ ms) = omega arith
+above_lowest [] = omega arith
+above_lowest (m ∷ ms) = omega arith
 
 -- both masses of a verdict fit 24 bits, the first number of a refusal 8 and the second 56
 abbrev pub Numbers : Judgement → Type 0
@@ -43,28 +43,28 @@ module _ (table acceleration : ℕ) (masses : List ℕ) where
   abbrev outside : Bool
   outside = (row22 table acceleration (length masses)).holds
 
-  pub refused-22 : outside ≡ true → judgement table acceleration masses ≡ Refused 22 0
+  pub refused_22 : outside ≡ true → judgement table acceleration masses ≡ Refused 22 0
   unfolding judgement
-  refused-22 e = ap (λ r. unlessRefused r (verdict table acceleration masses)) (row-holds _ _ e)
+  refused_22 e = ap (λ r. unless_refused r (verdict table acceleration masses)) (row_holds _ _ e)
 
-  pub refused-23 : outside ≡ false → not (all_fit masses) ≡ true → judgement table acceleration masses ≡ Refused 23 0
+  pub refused_23 : outside ≡ false → not (all_fit masses) ≡ true → judgement table acceleration masses ≡ Refused 23 0
   unfolding judgement
-  refused-23 e f = ap (λ r. unlessRefused r (verdict table acceleration masses)) (row-passed _ _ e ∙ row-holds _ _ f)
+  refused_23 e f = ap (λ r. unless_refused r (verdict table acceleration masses)) (row_passed _ _ e ∙ row_holds _ _ f)
 
   pub given :
       outside ≡ false → not (all_fit masses) ≡ false → judgement table acceleration masses ≡ Given (verdict table acceleration masses)
   unfolding judgement
   given e f =
       ap
-      (λ r. unlessRefused r (verdict table acceleration masses))
-      (row-passed _ _ e ∙ row-passed _ _ f ∙ no_rows)
+      (λ r. unless_refused r (verdict table acceleration masses))
+      (row_passed _ _ e ∙ row_passed _ _ f ∙ no_rows)
 
   pub ranges :
       outside ≡ false → (350 ≤ acceleration) × (acceleration ≤ 650) × (3 ≤ length masses) × (length masses ≤ 11)
   ranges e =
-      let p = or-false (table above 1 || not (within 350 650 acceleration)) (not (within 3 11 (length masses))) e in
-      let a = from-to 350 650 acceleration (or-false (table above 1) (not (within 350 650 acceleration)) p.0).1 in
-      let n = from-to 3 11 (length masses) p.1 in
+      let p = or_false (table above 1 || not (within 350 650 acceleration)) (not (within 3 11 (length masses))) e in
+      let a = from_to 350 650 acceleration (or_false (table above 1) (not (within 350 650 acceleration)) p.0).1 in
+      let n = from_to 3 11 (length masses) p.1 in
       (a.0, a.1, n.0, n.1)
 
   pub numbers : Numbers (judgement table acceleration masses)
@@ -72,11 +72,11 @@ module _ (table acceleration : ℕ) (masses : List ℕ) where
   numbers = go outside (not (all_fit masses)) refl refl
     where
       go : (a b : Bool) → outside ≡ a → not (all_fit masses) ≡ b → Numbers (judgement table acceleration masses)
-      go true b e f = subst Numbers (sym (refused-22 e)) (omega arith, omega arith)
-      go false true e f = subst Numbers (sym (refused-23 e f)) (omega arith, omega arith)
+      go true b e f = subst Numbers (sym (refused_22 e)) (omega arith, omega arith)
+      go false true e f = subst Numbers (sym (refused_23 e f)) (omega arith, omega arith)
       go false false e f =
           let n = (ranges e).3 in
           subst Numbers (sym (given e f)) (
-            omega (arith, above-lowest masses, sum-most masses (not-false _ f)),
-            omega (arith, permitted-most table acceleration (length masses) n),
+            omega (arith, above_lowest masses, sum_most masses (not_false _ f)),
+            omega (arith, permitted_most table acceleration (length masses) n),
           )

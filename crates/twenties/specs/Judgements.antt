@@ -11,8 +11,8 @@ use Rattle.twenties.specs.declared.Judgement.TheVariants.{Given, Refused}
 use Rattle.twenties.specs.Tables.{table52, table53}
 
 -- between two rows the one of higher acceleration is taken: row 0 is that of 350, each further row 10 higher; so rounded up (RowsTaken)
-abbrev pub rowTaken : ℕ → ℕ
-rowTaken acceleration = (acceleration - 350 + 9) / 10
+abbrev pub row_taken : ℕ → ℕ
+row_taken acceleration = (acceleration - 350 + 9) / 10
 
 -- a table's entry at a row and a tier count, in tenths of a tonne; a count under 3 reads as 3, past the table's end it is 0
 unfoldable pub entry : ℕ → ℕ → ℕ → ℕ
@@ -20,7 +20,7 @@ entry table row tiers = get_or (get_or (cond (table is 0) table52 table53) row [
 
 -- that total may be at most the entry in tonnes × the number of those tiers, all but the lowest
 abbrev pub permitted : ℕ → ℕ → ℕ → ℕ
-permitted table acceleration tiers = entry table (rowTaken acceleration) tiers * 100 * (tiers - 1)
+permitted table acceleration tiers = entry table (row_taken acceleration) tiers * 100 * (tiers - 1)
 
 unfoldable pub sum : List ℕ → ℕ
 sum [] = 0
@@ -49,12 +49,12 @@ abbrev pub row23 : List ℕ → Row
 row23 masses = row 23 0 (not (all_fit masses))
 
 -- the first row that holds turns the question back, 22 before 23; where none does, the verdict is given
-abbrev pub unlessRefused : Reading → Verdict → Judgement
-unlessRefused reading.Taken v = Given v
-unlessRefused (reading.Refused number second) v = Refused number second
+abbrev pub unless_refused : Reading → Verdict → Judgement
+unless_refused reading.Taken v = Given v
+unless_refused (reading.Refused number second) v = Refused number second
 
 unfoldable pub judgement : ℕ → ℕ → List ℕ → Judgement
 judgement table acceleration masses =
-    unlessRefused
+    unless_refused
     (first (row22 table acceleration (length masses) ∷ row23 masses ∷ []))
     (verdict table acceleration masses)

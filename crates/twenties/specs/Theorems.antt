@@ -1,6 +1,6 @@
 -- What is proved of CR Tables 5-2 and 5-3 as they are used, and of the row that is taken.
 use Rattle.std.specs.Prelude.{ℕ, ◌+◌, ◌*◌, ◌≤◌, ◌<◌, ◌≡◌}
-use Rattle.twenties.specs.Judgements.{rowTaken, entry, permitted}
+use Rattle.twenties.specs.Judgements.{row_taken, entry, permitted}
 
 -- no entry of either table rises as acceleration or tier count grows; past a table's end it reads 0 (proofs/Falling)
 abbrev pub Falling : Type 0
@@ -8,9 +8,9 @@ Falling = (table row later tiers more : ℕ) → row ≤ later → tiers ≤ mor
 
 -- the row taken is the first that does not lie below the acceleration, and the tables have it (proofs/Rows)
 pub record RowTaken (acceleration : ℕ) : Type 0 where
-  pub notBelow : acceleration ≤ 350 + 10 * rowTaken acceleration
-  pub first : 350 + 10 * rowTaken acceleration < acceleration + 10
-  pub there : rowTaken acceleration < 31
+  pub not_below : acceleration ≤ 350 + 10 * row_taken acceleration
+  pub first : 350 + 10 * row_taken acceleration < acceleration + 10
+  pub there : row_taken acceleration < 31
 
 abbrev pub RowsTaken : Type 0
 RowsTaken = (acceleration : ℕ) → 350 ≤ acceleration → acceleration ≤ 650 → RowTaken acceleration

@@ -3,7 +3,7 @@ use mathlib.Core.Path.{◌∙◌}
 use Prim.Native.Nat.{◌≤◌}
 use native.Mathlib.Nat.{zero-add, le_trans}
 use native.Mathlib.Omega.{arith}
-use Rattle.answer_findings.specs.inner.Findings.{bothIn}
+use Rattle.answer_findings.specs.Inner.Findings.{both_in}
 use Rattle.answer_write.proofs.Stores.{from_start}
 use Rattle.answer_encode.proofs.AnswerLaws.{whole}
 use borrow.Author.Rules.{rules}
@@ -88,12 +88,12 @@ returns c =
     let x = s.args in
     let z = s.pre.0 in
     let f =
-    bothIn x.doorRacking.now x.doorLevels.now x.doorForces.now x.closedRacking.now x.closedLevels.now
+    both_in x.doorRacking.now x.doorLevels.now x.doorForces.now x.closedRacking.now x.closedLevels.now
     x.closedForces.now in
     let found = g.put-findings.ensures in
     let r = v.write-found.ensures in
     let h : v.write-found.result ≤ 834 =
-    omega (arith, found.few, r.1, b.write-end2.ensures.1, a.write-end.ensures.1, z.tiers, z.door-few, z.closed-few) in
+    omega (arith, found.few, r.1, b.write-end2.ensures.1, a.write-end.ensures.1, z.tiers, z.door_few, z.closed_few) in
     let p =
     whole x.t f z found w.write1.ensures w.before.verdict-of.ensures.0 a.write-end.ensures.0
     b.write-end2.ensures.0 d.write12.ensures r.0 in

@@ -1,8 +1,8 @@
 -- `answer_findings::put_end`: the seven kinds are put one behind another.
 use mathlib.Core.Path.{sym}
 use native.Mathlib.Omega.{arith}
-use Rattle.statics.proofs.Sections.{rest-length, sections}
-use Rattle.answer_findings.proofs.EndPut.{end-put}
+use Rattle.statics.proofs.Sections.{rest_length, sections}
+use Rattle.answer_findings.proofs.EndPut.{end_put}
 use borrow.Author.Rules.{rules}
 use Rattle.answer_findings.proofs.put_end.Statement.{statement}
 use Rattle.answer_findings.proofs.put_end.Tie as tie
@@ -82,7 +82,7 @@ put-over-requires-2 c κs =
     let a2 = c.before.before.before in
     let a1 = racked a2 in
     let s = entered a1 in
-    (omega arith, omega arith, omega (arith, rest-length 11 s.args.levels.now, s.pre.3.of-levels), omega arith)
+    (omega arith, omega arith, omega (arith, rest_length 11 s.args.levels.now, s.pre.3.of_levels), omega arith)
 
 put-pulls-requires : tie.Need-put-pulls-requires
 put-pulls-requires c κs =
@@ -99,7 +99,7 @@ put-over-requires-3 c κs =
     let a2 = pressed a3 in
     let a1 = racked a2 in
     let s = entered a1 in
-    (omega arith, omega arith, omega (arith, rest-length 16 s.args.forces.now, s.pre.3.of-forces), omega arith)
+    (omega arith, omega arith, omega (arith, rest_length 16 s.args.forces.now, s.pre.3.of_forces), omega arith)
 
 put-over-requires-4 : tie.Need-put-over-requires-4
 put-over-requires-4 c κs =
@@ -131,7 +131,7 @@ returns c =
     let a1 = racked a2 in
     let s = entered a1 in
     let x = s.args in (
-      end-put x.end x.n x.m x.pull x.lashes x.racking.now x.levels.now x.forces.now
+      end_put x.end x.n x.m x.pull x.lashes x.racking.now x.levels.now x.forces.now
           a1.put-rackings.ensures.0 a2.put-over.ensures.0 a3.put-over2.ensures.0 a4.put-pulls.ensures.0
           a5.put-over3.ensures.0 a6.put-over4.ensures.0,
       omega arith,

@@ -1,8 +1,8 @@
 -- `answer_findings::put_findings`: the two ends' findings are put one behind the other.
 use mathlib.Core.Path.{ap, ◌∙◌}
 use native.Mathlib.Omega.{arith}
-use Rattle.limits.specs.inner.LowerOf.{lowerOf}
-use Rattle.answer_findings.specs.inner.Findings.{bothIn}
+use Rattle.limits.specs.Inner.LowerOf.{lower_of}
+use Rattle.answer_findings.specs.Inner.Findings.{both_in}
 use Rattle.answer_findings.proofs.FindingLaws.{put_both}
 use borrow.Author.Rules.{rules}
 use Rattle.answer_findings.proofs.put_findings.Statement.{statement}
@@ -31,9 +31,9 @@ returns c =
     let l = k.before in
     let s = l.before.before.before.before.before.before.before in
     let x = s.args in
-    let lower = k.lower_of.ensures ∙ ap lowerOf l.safe-load.ensures in
+    let lower = k.lower_of.ensures ∙ ap lower_of l.safe-load.ensures in
     let f =
-    bothIn x.doorRacking.now x.doorLevels.now x.doorForces.now x.closedRacking.now x.closedLevels.now
+    both_in x.doorRacking.now x.doorLevels.now x.doorForces.now x.closedRacking.now x.closedLevels.now
     x.closedForces.now in
     put_both x.t f s.requires.0 k.lower_of.result lower p.put-end.ensures.0 q.put-end2.ensures.0 (omega arith)
 

@@ -2,15 +2,15 @@
 use Prim.Native.Nat.{◌+◌, ◌*◌, ◌≤◌, ◌-◌}
 use native.Mathlib.Omega.{arith}
 use lib.ListN.{get_or}
-use Rattle.answer_put.specs.inner.Puts.{Put, lashLimit, findingsOver}
-use Rattle.answer_put.proofs.Puts.{over_none, over-more, over-all}
+use Rattle.answer_put.specs.Inner.Puts.{Put, lash_limit, findings_over}
+use Rattle.answer_put.proofs.Puts.{over_none, over_more, over_all}
 use borrow.Author.Rules.{rules}
 use Rattle.answer_put.proofs.put_pulls.Statement.{statement}
 use Rattle.answer_put.proofs.put_pulls.Tie as tie
 
 abbrev invariant-loop : tie.invariant-loop
 invariant-loop found₀ at end xs m lashes next₀ j₀ found next j =
-    (j ≤ m) × (next ≤ at + j) × Put found₀ at (findingsOver end 5 0 (λ k. get_or xs k 0) (lashLimit lashes) j) found next
+    (j ≤ m) × (next ≤ at + j) × Put found₀ at (findings_over end 5 0 (λ k. get_or xs k 0) (lash_limit lashes) j) found next
 
 abbrev decreases-loop : tie.decreases-loop
 decreases-loop found₀ at end xs m lashes next₀ j₀ found next j = m - j
@@ -47,7 +47,7 @@ loop-again c =
     let w = c.before.before in
     let l = w.before.before.before.before.before.before.loop in
     let v = rw w.before.before.before.safe-load.ensures at w.put-where.ensures.0.0 in
-    (omega arith, omega arith, over-more _ _ _ _ _ l.j l.invariant.2 (omega arith) v)
+    (omega arith, omega arith, over_more _ _ _ _ _ l.j l.invariant.2 (omega arith) v)
 
 same_length : tie.Need-same-length invariant-loop decreases-loop
 same_length c = search rules
@@ -55,7 +55,7 @@ same_length c = search rules
 returns : tie.Need-returns invariant-loop decreases-loop
 returns c =
     let l = c.before.loop in
-    (over-all _ _ _ _ _ l.j l.invariant.2 _ (omega arith) (omega arith), omega arith)
+    (over_all _ _ _ _ _ l.j l.invariant.2 _ (omega arith) (omega arith), omega arith)
 
 pub put-pulls-spec : {M : Type 1} → statement M
 put-pulls-spec =

@@ -8,9 +8,9 @@ use lib.IntN.{pos, nat_abs}
 use mir.Syntax.{w32}
 use mir.Val.{SFits}
 use mir.ValLaws.{to_z-of_z}
-use Rattle.answer.specs.Limits.{rackingLimit}
-use Rattle.answer_put.specs.inner.Puts.{Put, findingsOver}
-use Rattle.answer_put.proofs.Puts.{over_none, over-more, over-all}
+use Rattle.answer.specs.Limits.{racking_limit}
+use Rattle.answer_put.specs.Inner.Puts.{Put, findings_over}
+use Rattle.answer_put.proofs.Puts.{over_none, over_more, over_all}
 use borrow.Author.Rules.{rules}
 use Rattle.answer_put.proofs.put_rackings.Statement.{statement}
 use Rattle.answer_put.proofs.put_rackings.Tie as tie
@@ -18,7 +18,7 @@ use Rattle.answer_put.proofs.put_rackings.Tie as tie
 abbrev invariant-loop : tie.invariant-loop
 invariant-loop found₀ at end xs n next₀ k₀ found next k =
     (k ≤ n) × (next ≤ at + k) × Put found₀ at
-    (findingsOver end 1 1 (λ i. nat_abs (get_or xs (i - 1) (pos 0))) (λ i. rackingLimit) k) found next
+    (findings_over end 1 1 (λ i. nat_abs (get_or xs (i - 1) (pos 0))) (λ i. racking_limit) k) found next
 
 abbrev decreases-loop : tie.decreases-loop
 decreases-loop found₀ at end xs n next₀ k₀ found next k = n - k
@@ -55,8 +55,8 @@ loop-again c =
     let g : SFits w32 (get_or xs l.k (pos 0)) = search rules in
     let b : l.k ≡ 1 + l.k - 1 = omega arith in
     let e =
-    (rw (to_z-of_z w32 _ g) at w.before.racking-over.ensures) ∙ ap (λ (i : ℕ). ltb rackingLimit (nat_abs (get_or xs i (pos 0)))) b in
-    (omega arith, omega arith, over-more _ _ _ _ _ l.k l.invariant.2 refl (rw e at w.put-where.ensures.0.0))
+    (rw (to_z-of_z w32 _ g) at w.before.racking_over.ensures) ∙ ap (λ (i : ℕ). ltb racking_limit (nat_abs (get_or xs i (pos 0)))) b in
+    (omega arith, omega arith, over_more _ _ _ _ _ l.k l.invariant.2 refl (rw e at w.put-where.ensures.0.0))
 
 same_length : tie.Need-same-length invariant-loop decreases-loop
 same_length c = search rules
@@ -64,7 +64,7 @@ same_length c = search rules
 returns : tie.Need-returns invariant-loop decreases-loop
 returns c =
     let l = c.before.loop in
-    (over-all _ _ _ _ _ l.k l.invariant.2 _ (omega arith) (omega arith), omega arith)
+    (over_all _ _ _ _ _ l.k l.invariant.2 _ (omega arith) (omega arith), omega arith)
 
 pub put-rackings-spec : {M : Type 1} → statement M
 put-rackings-spec =

@@ -2,7 +2,7 @@
 use native.Mathlib.Omega.{arith}
 use mathlib.Core.Path.{refl}
 use borrow.Author.Rules.{rules}
-use Rattle.answer_put.proofs.Puts.{small, stored-where}
+use Rattle.answer_put.proofs.Puts.{small, stored_where}
 use Rattle.answer_put.proofs.put_where.Statement.{statement}
 use Rattle.answer_put.proofs.put_where.Tie as tie
 
@@ -40,7 +40,7 @@ returns : tie.Need-returns
 returns c =
     let a = c.args in (
       (
-        stored-where _ a.at _ _ _ c.requires.0 c.ranges.end.fits c.ranges.kind.fits c.requires.1 a.over,
+        stored_where _ a.at _ _ _ c.requires.0 c.ranges.end.fits c.ranges.kind.fits c.requires.1 a.over,
         omega (arith, small a.over),
       ),
       refl,

@@ -2,7 +2,7 @@
 use mathlib.Core.Path.{sym}
 use native.Mathlib.Omega.{arith}
 use Rattle.statics.proofs.Sections.{rest, sections}
-use Rattle.answer_write.proofs.Figures.{end-written}
+use Rattle.answer_write.proofs.Figures.{end_written}
 use borrow.Author.Rules.{rules}
 use Rattle.answer_write.proofs.write_end.Statement.{statement}
 use Rattle.answer_write.proofs.write_end.Tie as tie
@@ -106,7 +106,7 @@ returns c =
     let p = pressed t in
     let r = racked p in
     let x = (entered r).args in (
-      end-written x.n x.m x.racking.now x.levels.now x.forces.now r.write-rackings.ensures.0
+      end_written x.n x.m x.racking.now x.levels.now x.forces.now r.write-rackings.ensures.0
           p.write-figures.ensures.0 t.write-figures2.ensures.0 l.write-lashes.ensures.0,
       omega arith,
     )

@@ -6,8 +6,8 @@ use native.Mathlib.Omega.{arith}
 use lib.ListN.{get_or}
 use Rattle.arith.specs.Bytes.{bytes4}
 use Rattle.arith.specs.Lists.{below}
-use Rattle.answer_write.specs.inner.Encoding.{Wrote}
-use Rattle.answer_write.proofs.Stores.{run, entries_none, entries-more, counted-all}
+use Rattle.answer_write.specs.Inner.Encoding.{Wrote}
+use Rattle.answer_write.proofs.Stores.{run, entries_none, entries_more, counted_all}
 use borrow.Author.Rules.{rules}
 use Rattle.answer_write.proofs.write_figures.Statement.{statement}
 use Rattle.answer_write.proofs.write_figures.Tie as tie
@@ -49,7 +49,7 @@ loop-less c = search rules
 loop-again : tie.Need-loop-preserved invariant-loop decreases-loop
 loop-again c =
     let l = c.before.before.before.before.before.before in
-    (search rules, omega arith, entries-more _ l.loop.i l.loop.invariant.2 (run c.before.before.write-figure.ensures refl))
+    (search rules, omega arith, entries_more _ l.loop.i l.loop.invariant.2 (run c.before.before.write-figure.ensures refl))
 
 same_length : tie.Need-same-length invariant-loop decreases-loop
 same_length c = search rules
@@ -58,7 +58,7 @@ returns : tie.Need-returns invariant-loop decreases-loop
 returns c =
     let l = c.before in
     let w = l.before.before.before in (
-      counted-all _ l.loop.i l.before.before.before.before.before.before.before.args.n w.write1.ensures
+      counted_all _ l.loop.i l.before.before.before.before.before.before.before.args.n w.write1.ensures
           l.loop.invariant.2 (omega arith) (omega arith),
       omega arith,
     )

@@ -4,7 +4,7 @@ use mathlib.Core.Path.{◌≡◌, refl}
 use native.Mathlib.Omega.{arith}
 use lib.ListN.{length-set}
 use borrow.Author.Rules.{rules}
-use Rattle.answer_put.specs.inner.Puts.{word_bytes}
+use Rattle.answer_put.specs.Inner.Puts.{word_bytes}
 use Rattle.answer_write.proofs.Stores.{run}
 use Rattle.answer_write.proofs.write_finding.Statement.{statement}
 use Rattle.answer_write.proofs.write_finding.Tie as tie

@@ -4,9 +4,9 @@ use mathlib.Core.Path.{◌≡◌}
 use mathlib.Core.List.{flat_map}
 use native.Mathlib.Omega.{arith}
 use lib.ListN.{take}
-use Rattle.answer_put.specs.inner.Puts.{word_bytes}
-use Rattle.answer_write.specs.inner.Encoding.{Wrote}
-use Rattle.answer_write.proofs.Stores.{words-none, words_more, words-all}
+use Rattle.answer_put.specs.Inner.Puts.{word_bytes}
+use Rattle.answer_write.specs.Inner.Encoding.{Wrote}
+use Rattle.answer_write.proofs.Stores.{words_none, words_more, words_all}
 use borrow.Author.Rules.{rules}
 use Rattle.answer_write.proofs.write_found.Statement.{statement}
 use Rattle.answer_write.proofs.write_found.Tie as tie
@@ -19,7 +19,7 @@ abbrev decreases-loop : tie.decreases-loop
 decreases-loop answer₀ at found n next₀ i₀ answer next i = n - i
 
 loop-holds : tie.Need-loop-init invariant-loop decreases-loop
-loop-holds c = (omega arith, omega arith, words-none c.before.before.args.found.now _ _)
+loop-holds c = (omega arith, omega arith, words_none c.before.before.args.found.now _ _)
 
 mul-write-finding : tie.Need-overflow-mul-write-finding invariant-loop decreases-loop
 mul-write-finding c = search rules
@@ -49,7 +49,7 @@ returns : tie.Need-returns invariant-loop decreases-loop
 returns c =
     let l = c.before in
     let a = l.before.before.before.args in
-    (words-all _ l.loop.i l.loop.invariant.2 a.n (omega arith) (omega arith), omega arith)
+    (words_all _ l.loop.i l.loop.invariant.2 a.n (omega arith) (omega arith), omega arith)
 
 pub write-found-spec : {M : Type 1} → statement M
 write-found-spec =

@@ -5,8 +5,8 @@ use mathlib.Core.List.{flat_map}
 use native.Mathlib.Omega.{arith}
 use lib.ListN.{get_or}
 use Rattle.arith.specs.Lists.{below}
-use Rattle.answer_write.specs.inner.Encoding.{Wrote, lashBytes}
-use Rattle.answer_write.proofs.Stores.{entries_none, entries-more, counted-all}
+use Rattle.answer_write.specs.Inner.Encoding.{Wrote, lash_bytes}
+use Rattle.answer_write.proofs.Stores.{entries_none, entries_more, counted_all}
 use borrow.Author.Rules.{rules}
 use Rattle.answer_write.proofs.write_lashes.Statement.{statement}
 use Rattle.answer_write.proofs.write_lashes.Tie as tie
@@ -14,7 +14,7 @@ use Rattle.answer_write.proofs.write_lashes.Tie as tie
 abbrev invariant-loop : tie.invariant-loop
 invariant-loop answer₀ at pull athwart vertical m next₀ j₀ answer next j =
     (j ≤ m) × (next ≡ next₀ + 12 * j) × Wrote answer₀ next₀
-    (flat_map (λ k. lashBytes (get_or pull k 0) (get_or athwart k 0) (get_or vertical k 0)) (below j)) answer next
+    (flat_map (λ k. lash_bytes (get_or pull k 0) (get_or athwart k 0) (get_or vertical k 0)) (below j)) answer next
 
 abbrev decreases-loop : tie.decreases-loop
 decreases-loop answer₀ at pull athwart vertical m next₀ j₀ answer next j = m - j
@@ -58,7 +58,7 @@ loop-less c = search rules
 loop-again : tie.Need-loop-preserved invariant-loop decreases-loop
 loop-again c =
     let l = c.before.before.before.before.before.before.before.before.loop in
-    (search rules, omega arith, entries-more _ l.j l.invariant.2 c.before.before.write-lash.ensures.0)
+    (search rules, omega arith, entries_more _ l.j l.invariant.2 c.before.before.write-lash.ensures.0)
 
 same_length : tie.Need-same-length invariant-loop decreases-loop
 same_length c = search rules
@@ -67,7 +67,7 @@ returns : tie.Need-returns invariant-loop decreases-loop
 returns c =
     let l = c.before in
     let w = l.before.before.before in (
-      counted-all _ l.loop.j l.before.before.before.before.before.before.before.before.before.args.m
+      counted_all _ l.loop.j l.before.before.before.before.before.before.before.before.before.args.m
           w.write1.ensures l.loop.invariant.2 (omega arith) (omega arith),
       omega arith,
     )

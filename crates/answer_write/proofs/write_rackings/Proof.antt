@@ -10,8 +10,8 @@ use mir.Val.{SFits}
 use mir.ValLaws.{to_z-of_z}
 use Rattle.arith.specs.Bytes.{bytes4, twos}
 use Rattle.arith.specs.Lists.{below}
-use Rattle.answer_write.specs.inner.Encoding.{Wrote}
-use Rattle.answer_write.proofs.Stores.{run, entries_none, entries-more, counted-all}
+use Rattle.answer_write.specs.Inner.Encoding.{Wrote}
+use Rattle.answer_write.proofs.Stores.{run, entries_none, entries_more, counted_all}
 use borrow.Author.Rules.{rules}
 use Rattle.answer_write.proofs.write_rackings.Statement.{statement}
 use Rattle.answer_write.proofs.write_rackings.Tie as tie
@@ -56,7 +56,7 @@ loop-again c =
     let xs = l.before.before.before.before.before.before.args.xs.now in
     let g : SFits w32 (get_or xs l.loop.i (pos 0)) = search rules in
     let e = rw (to_z-of_z w32 _ g) at c.before.before.write-signed.ensures in
-    (search rules, omega arith, entries-more _ l.loop.i l.loop.invariant.2 (run e refl))
+    (search rules, omega arith, entries_more _ l.loop.i l.loop.invariant.2 (run e refl))
 
 same_length : tie.Need-same-length invariant-loop decreases-loop
 same_length c = search rules
@@ -65,7 +65,7 @@ returns : tie.Need-returns invariant-loop decreases-loop
 returns c =
     let l = c.before in
     let w = l.before.before.before in (
-      counted-all _ l.loop.i l.before.before.before.before.before.before.args.n w.write1.ensures l.loop.invariant.2
+      counted_all _ l.loop.i l.before.before.before.before.before.before.args.n w.write1.ensures l.loop.invariant.2
           (omega arith) (omega arith),
       omega arith,
     )

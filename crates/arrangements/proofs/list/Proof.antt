@@ -1,5 +1,5 @@
 -- `arrangements::list`: the sheet's own refusals, then what `list_gear` says of a taken one (Named).
-use Rattle.arrangements.proofs.Named.{sheet-refused, sheet-fits, sheet-taken}
+use Rattle.arrangements.proofs.Named.{sheet_refused, sheet_fits, sheet_taken}
 use borrow.Author.Rules.{rules}
 use Rattle.arrangements.proofs.list.Statement.{statement}
 use Rattle.arrangements.proofs.list.Tie as tie
@@ -22,13 +22,13 @@ list-gear-requires c κs =
     let m = c.before in
     let d = m.before.before in
     let a = (start d).args in
-    sheet-fits a.sheet.now a.gear.now a.list.now d.decode.result d.decode.ensures m.enum_told.given.1
+    sheet_fits a.sheet.now a.gear.now a.list.now d.decode.result d.decode.ensures m.enum_told.given.1
 
 returns : tie.Need-returns
 returns c =
     let d = c.before.before.before in
     let a = (start d).args in
-    sheet-refused a.sheet.now a.gear.now a.list.now d.decode.result d.decode.ensures c.before.reading.given.1
+    sheet_refused a.sheet.now a.gear.now a.list.now d.decode.result d.decode.ensures c.before.reading.given.1
 
 same_length : tie.Need-same-length
 same_length c = search rules
@@ -39,7 +39,7 @@ returns-2 c =
     let m = w.before.before in
     let d = m.before.before in
     let a = (start d).args in
-    sheet-taken a.sheet.now a.gear.now a.list.now d.decode.result d.decode.ensures m.enum_told.given.1
+    sheet_taken a.sheet.now a.gear.now a.list.now d.decode.result d.decode.ensures m.enum_told.given.1
     w.list-gear.ensures
 
 pub list-spec : {M : Type 1} → statement M

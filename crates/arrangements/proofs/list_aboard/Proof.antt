@@ -1,6 +1,6 @@
 -- `arrangements::list_aboard`: a short buffer, or the list (Refusals).
 use Rattle.arrangements.proofs.Refusals.{short, listed}
-use Rattle.arrangements.specs.inner.Named.{listFor}
+use Rattle.arrangements.specs.Inner.Named.{list_for}
 use lib.ListN.{take}
 use borrow.Author.Rules.{rules}
 use Rattle.arrangements.proofs.list_aboard.Statement.{statement}
@@ -9,7 +9,7 @@ use Rattle.arrangements.proofs.list_aboard.Tie as tie
 returns : tie.Need-returns
 returns c =
     let a = c.before.before.args in
-    short (listFor a.t (take a.m a.lashes)) a.list.now c.if1.true
+    short (list_for a.t (take a.m a.lashes)) a.list.now c.if1.true
 
 write-list-requires : tie.Need-write-list-requires
 write-list-requires c κs = search rules
@@ -23,7 +23,7 @@ returns-2 c =
     let b = w.before.before in
     let a = b.before.before.args in
     let e = w.write-list.ensures in
-    listed (listFor a.t (take a.m a.lashes)) a.list.now b.if1.false e.0 e.1
+    listed (list_for a.t (take a.m a.lashes)) a.list.now b.if1.false e.0 e.1
 
 pub list-aboard-spec : {M : Type 1} → statement M
 list-aboard-spec = tie.close (tie.spec returns write-list-requires same_length returns-2)

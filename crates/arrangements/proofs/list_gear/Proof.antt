@@ -1,5 +1,5 @@
 -- `arrangements::list_gear`: a sheet that holds a lash, a gear section turned back, or the list (Refusals).
-use Rattle.arrangements.proofs.Refusals.{lash-held, gear-refused, gear-aboard, gear-taken}
+use Rattle.arrangements.proofs.Refusals.{lash_held, gear_refused, gear_aboard, gear_taken}
 use borrow.Author.Rules.{rules}
 use Rattle.arrangements.proofs.list_gear.Statement.{statement}
 use Rattle.arrangements.proofs.list_gear.Tie as tie
@@ -11,7 +11,7 @@ start c = c.before.before.before.before
 returns : tie.Need-returns
 returns c =
     let a = (start c.before).args in
-    lash-held a.t a.gear.now a.list.now c.if1.true
+    lash_held a.t a.gear.now a.list.now c.if1.true
 
 decode-requires : tie.Need-decode-requires
 decode-requires c κs = search rules
@@ -28,7 +28,7 @@ list-aboard-requires c κs =
     let d = m.before.before in
     let b = start d.before.before in (
       b.pre,
-      gear-aboard b.args.t b.args.gear.now b.args.list.now d.before.if1.false d.decode.ensures
+      gear_aboard b.args.t b.args.gear.now b.args.list.now d.before.if1.false d.decode.ensures
           m.enum_told.given.1 b.pre,
     )
 
@@ -36,7 +36,7 @@ returns-2 : tie.Need-returns-2
 returns-2 c =
     let d = c.before.before.before in
     let a = (start d.before.before).args in
-    gear-refused a.t a.gear.now a.list.now d.before.if1.false d.decode.ensures c.before.reading.given.1
+    gear_refused a.t a.gear.now a.list.now d.before.if1.false d.decode.ensures c.before.reading.given.1
 
 same_length : tie.Need-same-length
 same_length c = search rules
@@ -47,7 +47,7 @@ returns-3 c =
     let m = w.before.before.before in
     let d = m.before.before in
     let a = (start d.before.before).args in
-    gear-taken a.t a.gear.now a.list.now d.before.if1.false d.decode.ensures m.enum_told.given.1
+    gear_taken a.t a.gear.now a.list.now d.before.if1.false d.decode.ensures m.enum_told.given.1
     w.list-aboard.ensures
 
 pub list-gear-spec : {M : Type 1} → statement M

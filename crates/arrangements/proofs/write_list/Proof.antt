@@ -2,8 +2,8 @@
 use mathlib.Core.Path.{refl, sym, ap, ◌∙◌}
 use native.Mathlib.Omega.{arith}
 use lib.ListN.{take}
-use Rattle.sheet.proofs.SheetLimits.{sheet-limits}
-use Rattle.limits.specs.inner.LowerOf.{lowerOf}
+use Rattle.sheet.proofs.SheetLimits.{sheet_limits}
+use Rattle.limits.specs.Inner.LowerOf.{lower_of}
 use Rattle.arrangements.proofs.Bytes.{whole}
 use borrow.Author.Rules.{rules}
 use Rattle.arrangements.proofs.write_list.Statement.{statement}
@@ -39,7 +39,7 @@ loads-of-requires c κs =
     let r = c.before.before.before in
     let p = r.before.before.before.before.requires in
     let e = r.rule-of.ensures in
-    ((p.0.few, e.1, e.2), ((sheet-limits p.0).each, (refl, refl, refl)))
+    ((p.0.few, e.1, e.2), ((sheet_limits p.0).each, (refl, refl, refl)))
 
 slice-aggregate-springs-of : tie.Need-slice-aggregate-springs-of
 slice-aggregate-springs-of c = search rules
@@ -80,9 +80,9 @@ put-choices-requires c κs =
     let rule = l.before.before.before.before.rule-of.ensures.0 in
     let p = b.pre.1 in (
       record {
-        lower = w.lower_of.ensures ∙ ap lowerOf w.before.safe-load.ensures;
-        door-springs = k.springs-of.ensures.0;
-        closed-springs = k.springs-of.ensures.1;
+        lower = w.lower_of.ensures ∙ ap lower_of w.before.safe-load.ensures;
+        door_springs = k.springs-of.ensures.0;
+        closed_springs = k.springs-of.ensures.1;
         loaded = rw (sym rule) l.loads-of.ensures.0;
         measured = l.loads-of.ensures.1;
         long = (long.1.1.0, long.0, long.1.0);

@@ -7,9 +7,9 @@ use lib.ListN.{take}
 use Rattle.sheet.specs.declared.Lash.{Lash}
 use Rattle.sheet.specs.Fits.{Fits}
 use Rattle.choices.specs.Choices.{chosen}
-use Rattle.gear.specs.Gear.{withLashes}
-use Rattle.arrangements_judge.specs.inner.Judged.{acceptedWith}
-use Rattle.arrangements_list.proofs.Walk.{held_back, held-by-name}
+use Rattle.gear.specs.Gear.{with_lashes}
+use Rattle.arrangements_judge.specs.Inner.Judged.{accepted_with}
+use Rattle.arrangements_list.proofs.Walk.{held_back, held_by_name}
 use borrow.Author.Rules.{rules}
 use Rattle.arrangements_list.proofs.judge.Statement.{statement}
 use Rattle.arrangements_list.proofs.judge.Tie as tie
@@ -47,7 +47,7 @@ accepts-requires c κs =
     let ls = chosen b.args.choice (take b.args.m b.args.lashes) in
     let e = g.gather.ensures in
     let fits = b.pre.1.fits b.args.choice in
-    (b.pre.0, (held-by-name ls e, subst (λ (l : List Lash). Fits (withLashes l b.args.t)) (sym (held_back ls e)) fits))
+    (b.pre.0, (held_by_name ls e, subst (λ (l : List Lash). Fits (with_lashes l b.args.t)) (sym (held_back ls e)) fits))
 
 returns-2 : tie.Need-returns-2
 returns-2 c =
@@ -56,7 +56,7 @@ returns-2 c =
     let a = b.before.args in
     let ls = chosen a.choice (take a.m a.lashes) in
     rw (lt-ltb a.choice a.all (omega (arith, b.if1.left)))
-    (c.accepts.ensures ∙ ap (λ (l : List Lash). acceptedWith l a.t) (held_back ls g.gather.ensures))
+    (c.accepts.ensures ∙ ap (λ (l : List Lash). accepted_with l a.t) (held_back ls g.gather.ensures))
 
 pub judge-spec : {M : Type 1} → statement M
 judge-spec =

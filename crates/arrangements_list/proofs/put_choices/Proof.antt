@@ -3,8 +3,8 @@ use Prim.Native.Nat.{◌+◌, ◌-◌, ◌≤◌}
 use native.Mathlib.Omega.{arith}
 use lib.ListN.{take}
 use borrow.Author.Rules.{rules}
-use Rattle.answer_write.specs.inner.Encoding.{Wrote}
-use Rattle.arrangements_list.proofs.Walk.{up_to, none-listed, one-listed, all-passed}
+use Rattle.answer_write.specs.Inner.Encoding.{Wrote}
+use Rattle.arrangements_list.proofs.Walk.{up_to, none_listed, one_listed, all_passed}
 use Rattle.arrangements_list.proofs.put_choices.Statement.{statement}
 use Rattle.arrangements_list.proofs.put_choices.Tie as tie
 
@@ -26,7 +26,7 @@ choices-of-requires : tie.Need-choices-of-requires invariant-loop decreases-loop
 choices-of-requires c κs = search rules
 
 loop-holds : tie.Need-loop-init invariant-loop decreases-loop
-loop-holds c = (omega arith, omega arith, none-listed _ _ _ _)
+loop-holds c = (omega arith, omega arith, none_listed _ _ _ _)
 
 choice-at-requires : tie.Need-choice-at-requires invariant-loop decreases-loop
 choice-at-requires c κs = search rules
@@ -52,7 +52,7 @@ loop-again c =
     let s = start k.before.before in (
       omega arith,
       omega (arith, p.put-choice.ensures.1),
-      one-listed _ _ _ l.i (omega (arith, k.before.loop-test.true)) l.invariant.2
+      one_listed _ _ _ l.i (omega (arith, k.before.loop-test.true)) l.invariant.2
           k.choice-at.ensures (entered k.before.before).choices-of.ensures j.judge.ensures p.put-choice.ensures.0,
     )
 
@@ -64,7 +64,7 @@ returns c =
     let l = c.before.loop in
     let s = start c.before in
     let a = s.args in (
-      rw (all-passed a.t (take a.m a.lashes) a.m l.i (omega (arith, c.loop-test.false)) s.pre.1.0.few) at l.invariant.2,
+      rw (all_passed a.t (take a.m a.lashes) a.m l.i (omega (arith, c.loop-test.false)) s.pre.1.0.few) at l.invariant.2,
       omega arith,
     )
 

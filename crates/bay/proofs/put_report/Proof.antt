@@ -2,7 +2,7 @@
 use Prim.Native.Nat.{◌≤◌}
 use borrow.Author.Rules.{rules}
 use Rattle.bay_rows.proofs.Readings.{sound}
-use Rattle.bay.proofs.Whole.{report-length, report-stored}
+use Rattle.bay.proofs.Whole.{report_length, report_stored}
 use Rattle.bay.proofs.put_report.Statement.{statement}
 use Rattle.bay.proofs.put_report.Tie as tie
 
@@ -37,10 +37,10 @@ returns c =
     let n = p.before.before in
     let b = n.before.before.before in
     let bay = b.args.bay.now in
-    let few : n.byte-at.result ≤ 24 = rw n.byte-at.ensures.0 (sound bay b.requires.0).few in
+    let few : n.byte_at_lem.result ≤ 24 = rw n.byte_at_lem.ensures.0 (sound bay b.requires.0).few in
     let stored = h.put-totals.ensures in (
-      report-length bay b.args.report.now n.byte-at.result b.requires.1 n.byte-at.ensures.0 p.put-rows.ensures few stored,
-      report-stored bay b.args.report.now n.byte-at.result b.requires.1 n.byte-at.ensures.0 p.put-rows.ensures few stored,
+      report_length bay b.args.report.now n.byte_at_lem.result b.requires.1 n.byte_at_lem.ensures.0 p.put-rows.ensures few stored,
+      report_stored bay b.args.report.now n.byte_at_lem.result b.requires.1 n.byte_at_lem.ensures.0 p.put-rows.ensures few stored,
     )
 
 pub put-report-spec : {M : Type 1} → statement M

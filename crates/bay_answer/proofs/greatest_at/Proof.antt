@@ -5,23 +5,23 @@ use native.Mathlib.Omega.{arith}
 use borrow.Author.Rules.{rules}
 use lib.IntN.{nat_abs}
 use Rattle.arith.specs.Bytes.{signed4}
-use Rattle.answer.specs.Places.{entryPlace}
+use Rattle.answer.specs.Places.{entry_place}
 use Rattle.bay_wind.specs.Sums.{larger}
-use Rattle.bay_wind.proofs.Sums.{greatest-none, greatest-more}
-use Rattle.bay_answer.specs.inner.Totalled.{greatestAt}
-use Rattle.bay_answer.proofs.Sizes.{left-larger, larger-most, larger-crossed}
+use Rattle.bay_wind.proofs.Sums.{greatest_none, greatest_more}
+use Rattle.bay_answer.specs.Inner.Totalled.{greatest_at}
+use Rattle.bay_answer.proofs.Sizes.{left_larger, larger_most, larger_crossed}
 use Rattle.bay_answer.proofs.greatest_at.Statement.{statement}
 use Rattle.bay_answer.proofs.greatest_at.Tie as tie
 
 abbrev invariant-loop : tie.invariant-loop
 invariant-loop answer door closed n greatest₀ i₀ greatest i =
-    (i ≤ n) × (greatest ≡ larger (greatestAt answer door i) (greatestAt answer closed i)) × (greatest ≤ 2 ^ 31)
+    (i ≤ n) × (greatest ≡ larger (greatest_at answer door i) (greatest_at answer closed i)) × (greatest ≤ 2 ^ 31)
 
 abbrev decreases-loop : tie.decreases-loop
 decreases-loop answer door closed n greatest₀ i₀ greatest i = n - i
 
 loop-holds : tie.Need-loop-init invariant-loop decreases-loop
-loop-holds c = (search rules, rw (greatest-none _, greatest-none _) (left-larger 0 0 (omega arith)), search rules)
+loop-holds c = (search rules, rw (greatest_none _, greatest_none _) (left_larger 0 0 (omega arith)), search rules)
 
 add-size-at : tie.Need-overflow-add-size-at invariant-loop decreases-loop
 add-size-at c = search rules
@@ -67,19 +67,19 @@ loop-again c =
     let l = d.before.before in
     let a = l.before.before.args in
     let i = l.loop.i in
-    let x = d.size-at in
+    let x = d.size_at_lem in
     let y = e.size-at2 in
-    let sizes : ℕ → ℕ → ℕ = λ at j. nat_abs (signed4 a.answer.now (entryPlace at 4 j)) in
+    let sizes : ℕ → ℕ → ℕ = λ at j. nat_abs (signed4 a.answer.now (entry_place at 4 j)) in
     let both = m.larger-of.ensures ∙ ap₂ larger x.ensures.0 y.ensures.0 in
-    let most = larger-most x.result y.result (2 ^ 31) x.ensures.1 y.ensures.1 in (
+    let most = larger_most x.result y.result (2 ^ 31) x.ensures.1 y.ensures.1 in (
       search rules,
       c.larger-of2.ensures
           ∙ ap₂ larger l.loop.invariant.1 both
-          ∙ larger-crossed (greatestAt a.answer.now a.door i) (greatestAt a.answer.now a.closed i)
+          ∙ larger_crossed (greatest_at a.answer.now a.door i) (greatest_at a.answer.now a.closed i)
           (sizes a.door i) (sizes a.closed i)
-          ∙ sym (ap₂ larger (greatest-more (sizes a.door) i) (greatest-more (sizes a.closed) i)),
+          ∙ sym (ap₂ larger (greatest_more (sizes a.door) i) (greatest_more (sizes a.closed) i)),
       rw c.larger-of2.ensures
-          (larger-most l.loop.greatest m.larger-of.result (2 ^ 31) l.loop.invariant.2 (rw m.larger-of.ensures most)),
+          (larger_most l.loop.greatest m.larger-of.result (2 ^ 31) l.loop.invariant.2 (rw m.larger-of.ensures most)),
     )
 
 returns : tie.Need-returns invariant-loop decreases-loop
@@ -87,7 +87,7 @@ returns c =
     let l = c.before in
     let a = l.before.before.args in
     let answer = a.answer.now in (
-      l.loop.invariant.1 ∙ ap (λ n. larger (greatestAt answer a.door n) (greatestAt answer a.closed n)) (omega arith),
+      l.loop.invariant.1 ∙ ap (λ n. larger (greatest_at answer a.door n) (greatest_at answer a.closed n)) (omega arith),
       l.loop.invariant.2,
     )
 

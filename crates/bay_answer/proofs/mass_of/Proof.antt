@@ -4,21 +4,21 @@ use mathlib.Core.Path.{◌≡◌, sym, ap, ◌∙◌}
 use native.Mathlib.Omega.{arith}
 use borrow.Author.Rules.{rules}
 use Rattle.sheet.specs.declared.Tier.{Tier}
-use Rattle.sheet.specs.Layout.{tiersIn}
-use Rattle.sheet.specs.Fits.{tierAt}
+use Rattle.sheet.specs.Layout.{tiers_in}
+use Rattle.sheet.specs.Fits.{tier_at}
 use Rattle.bay_wind.specs.Sums.{sum_of}
-use Rattle.bay_wind.proofs.Sums.{sum-none, tiers-more}
+use Rattle.bay_wind.proofs.Sums.{sum_none, tiers_more}
 use Rattle.bay_answer.proofs.mass_of.Statement.{statement}
 use Rattle.bay_answer.proofs.mass_of.Tie as tie
 
 abbrev invariant-loop : tie.invariant-loop
-invariant-loop row n mass₀ k₀ mass k = (k ≤ n) × (mass ≡ sum_of (λ j. (tierAt (tiersIn row n) j).mass) k) × (mass ≤ 65535 * k)
+invariant-loop row n mass₀ k₀ mass k = (k ≤ n) × (mass ≡ sum_of (λ j. (tier_at (tiers_in row n) j).mass) k) × (mass ≤ 65535 * k)
 
 abbrev decreases-loop : tie.decreases-loop
 decreases-loop row n mass₀ k₀ mass k = n - k
 
 loop-holds : tie.Need-loop-init invariant-loop decreases-loop
-loop-holds c = (search rules, sym (sum-none _), search rules)
+loop-holds c = (search rules, sym (sum_none _), search rules)
 
 mul-tier-of : tie.Need-overflow-mul-tier-of invariant-loop decreases-loop
 mul-tier-of c = search rules
@@ -47,8 +47,8 @@ loop-again c =
     let l = i.before in
     let b = l.before.before in (
       search rules,
-      tiers-more (λ (t : Tier). t.mass) b.args.row.now b.args.n l.loop.k i.loop-test.true l.loop.invariant.1
-          c.before.tier-of.ensures,
+      tiers_more (λ (t : Tier). t.mass) b.args.row.now b.args.n l.loop.k i.loop-test.true l.loop.invariant.1
+          c.before.tier_of.ensures,
       omega (arith, l.loop.invariant.2, c.struct_known.given),
     )
 
@@ -56,7 +56,7 @@ returns : tie.Need-returns invariant-loop decreases-loop
 returns c =
     let l = c.before in
     let b = l.before.before in (
-      l.loop.invariant.1 ∙ ap (sum_of (λ j. (tierAt (tiersIn b.args.row.now b.args.n) j).mass)) (omega arith),
+      l.loop.invariant.1 ∙ ap (sum_of (λ j. (tier_at (tiers_in b.args.row.now b.args.n) j).mass)) (omega arith),
       omega (arith, l.loop.invariant.2, b.requires.0),
     )
 

@@ -3,8 +3,8 @@ use mathlib.Core.Path.{ap, ◌∙◌}
 use native.Mathlib.Omega.{arith}
 use borrow.Author.Rules.{rules}
 use lib.IntN.{nat_abs}
-use Rattle.arith.specs.Bytes.{ofTwos}
-use Rattle.bay_answer.proofs.Sizes.{size-as-is, size-reversed}
+use Rattle.arith.specs.Bytes.{of_twos}
+use Rattle.bay_answer.proofs.Sizes.{size_as_is, size_reversed}
 use Rattle.bay_answer.proofs.size_at.Statement.{statement}
 use Rattle.bay_answer.proofs.size_at.Tie as tie
 
@@ -17,7 +17,7 @@ cast-bits c = omega (arith, c.read4.ensures.1)
 returns : tie.Need-returns
 returns c =
     let r = c.before.read4 in
-    (size-as-is r.result c.if1.true ∙ ap (λ v. nat_abs (ofTwos v)) r.ensures.0, omega (arith, c.if1.true))
+    (size_as_is r.result c.if1.true ∙ ap (λ v. nat_abs (of_twos v)) r.ensures.0, omega (arith, c.if1.true))
 
 sub-result : tie.Need-overflow-sub-result
 sub-result c = search rules
@@ -28,7 +28,7 @@ add-result c = search rules
 returns-2 : tie.Need-returns-2
 returns-2 c =
     let r = c.before.read4 in (
-      size-reversed r.result c.if1.false r.ensures.1 ∙ ap (λ v. nat_abs (ofTwos v)) r.ensures.0,
+      size_reversed r.result c.if1.false r.ensures.1 ∙ ap (λ v. nat_abs (of_twos v)) r.ensures.0,
       omega (arith, c.if1.false),
     )
 

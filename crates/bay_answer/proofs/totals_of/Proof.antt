@@ -4,7 +4,7 @@ use mathlib.Core.Path.{◌∙◌}
 use native.Mathlib.Omega.{arith}
 use borrow.Author.Rules.{rules}
 use lib.ListN.{length}
-use Rattle.bay_answer.proofs.Sizes.{accepted-is}
+use Rattle.bay_answer.proofs.Sizes.{accepted_is}
 use Rattle.bay_answer.proofs.totals_of.Statement.{statement}
 use Rattle.bay_answer.proofs.totals_of.Tie as tie
 
@@ -25,7 +25,7 @@ returns c =
     let k = c.before.accepted-by in
     let r = c.racking-in in
     let b = c.before.before.before.before in
-    let accepted = k.ensures.0 ∙ accepted-is b.args.answer.now (omega (arith, b.requires.2)) in (
+    let accepted = k.ensures.0 ∙ accepted_is b.args.answer.now (omega (arith, b.requires.2)) in (
       λ i. record {
         length = 2 + length b.args.answer.now;
         accepted = accepted i;

@@ -1,7 +1,7 @@
 -- `bay_cover::cover_of`: the smaller of both sides.
 use mathlib.Core.Path.{ap₂, ◌∙◌}
 use borrow.Author.Rules.{rules}
-use Rattle.bay_cover.specs.inner.Covers.{smaller}
+use Rattle.bay_cover.specs.Inner.Covers.{smaller}
 use Rattle.bay_cover.proofs.cover_of.Statement.{statement}
 use Rattle.bay_cover.proofs.cover_of.Tie as tie
 

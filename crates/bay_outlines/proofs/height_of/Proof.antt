@@ -4,20 +4,20 @@ use mathlib.Core.Path.{◌≡◌, sym, ap, ◌∙◌}
 use native.Mathlib.Omega.{arith}
 use borrow.Author.Rules.{rules}
 use Rattle.sheet.specs.declared.Tier.{Tier}
-use Rattle.sheet.specs.Layout.{tiersIn}
-use Rattle.bay_wind.specs.Exposure.{heightOf}
-use Rattle.bay_wind.proofs.Sums.{sum-none, tiers-more}
+use Rattle.sheet.specs.Layout.{tiers_in}
+use Rattle.bay_wind.specs.Exposure.{height_of}
+use Rattle.bay_wind.proofs.Sums.{sum_none, tiers_more}
 use Rattle.bay_outlines.proofs.height_of.Statement.{statement}
 use Rattle.bay_outlines.proofs.height_of.Tie as tie
 
 abbrev invariant-loop : tie.invariant-loop
-invariant-loop row n height₀ k₀ height k = (k ≤ n) × (height ≡ heightOf (tiersIn row n) k) × (height ≤ 65535 * k)
+invariant-loop row n height₀ k₀ height k = (k ≤ n) × (height ≡ height_of (tiers_in row n) k) × (height ≤ 65535 * k)
 
 abbrev decreases-loop : tie.decreases-loop
 decreases-loop row n height₀ k₀ height k = n - k
 
 loop-holds : tie.Need-loop-init invariant-loop decreases-loop
-loop-holds c = (search rules, sym (sum-none _), search rules)
+loop-holds c = (search rules, sym (sum_none _), search rules)
 
 mul-tier-of : tie.Need-overflow-mul-tier-of invariant-loop decreases-loop
 mul-tier-of c = search rules
@@ -46,8 +46,8 @@ loop-again c =
     let l = i.before in
     let b = l.before.before in (
       search rules,
-      tiers-more (λ (t : Tier). t.height) b.args.row.now b.args.n l.loop.k i.loop-test.true l.loop.invariant.1
-          c.before.tier-of.ensures,
+      tiers_more (λ (t : Tier). t.height) b.args.row.now b.args.n l.loop.k i.loop-test.true l.loop.invariant.1
+          c.before.tier_of.ensures,
       omega (arith, l.loop.invariant.2, c.struct_known.given),
     )
 
@@ -55,7 +55,7 @@ returns : tie.Need-returns invariant-loop decreases-loop
 returns c =
     let l = c.before in
     let a = l.before.before.args in
-    l.loop.invariant.1 ∙ ap (heightOf (tiersIn a.row.now a.n)) (omega arith)
+    l.loop.invariant.1 ∙ ap (height_of (tiers_in a.row.now a.n)) (omega arith)
 
 pub height-of-spec : {M : Type 1} → statement M
 height-of-spec =

@@ -8,11 +8,11 @@ use lib.ListN.{length, length-set}
 use Rattle.arith.specs.Lists.{from, below, padded}
 use Rattle.arith.proofs.Arrays.{one_more}
 use Rattle.bay_wind.specs.declared.Outline.{Outline}
-use Rattle.bay_wind.specs.Exposure.{emptyRow}
-use Rattle.bay_wind.specs.inner.Paired.{paired}
-use Rattle.bay_wind.proofs.Paired.{paired-set, paired-empty}
-use Rattle.bay_rows.specs.Bay.{rowPlace, row_of, outlineOf}
-use Rattle.bay_rows.proofs.Places.{place-first, next-is, row-there, row_is}
+use Rattle.bay_wind.specs.Exposure.{empty_row}
+use Rattle.bay_wind.specs.Inner.Paired.{paired}
+use Rattle.bay_wind.proofs.Paired.{paired_set, paired_empty}
+use Rattle.bay_rows.specs.Bay.{row_place, row_of, outline_of}
+use Rattle.bay_rows.proofs.Places.{place_first, next_is, row_there, row_is}
 use Rattle.bay_rows.proofs.Readings.{Sound, sound}
 use Rattle.bay_outlines.proofs.outlines.Statement.{statement}
 use Rattle.bay_outlines.proofs.outlines.Tie as tie
@@ -20,9 +20,9 @@ use Rattle.bay_outlines.proofs.outlines.Tie as tie
 abbrev invariant-loop : tie.invariant-loop
 invariant-loop bay n heights₀ sizes₀ at₀ k₀ heights sizes at k =
     (k ≤ n)
-    × (at ≡ rowPlace bay k)
+    × (at ≡ row_place bay k)
     × (at ≤ 1 + 65537 * k)
-    × (paired heights sizes ≡ padded 24 emptyRow (map (λ j. outlineOf (row_of bay j)) (below k)))
+    × (paired heights sizes ≡ padded 24 empty_row (map (λ j. outline_of (row_of bay j)) (below k)))
     × (length heights ≡ 24)
     × (length sizes ≡ 24)
 
@@ -36,8 +36,8 @@ entered l = l.before.before
 bay-sound : (b : tie.Start invariant-loop decreases-loop) → Sound b.args.bay.now
 bay-sound b = sound b.args.bay.now b.requires.2
 
-ends : (b : tie.Start invariant-loop decreases-loop) → rowPlace b.args.bay.now b.args.n ≤ length b.args.bay.now
-ends b = omega (arith, ap (rowPlace b.args.bay.now) b.requires.1, (bay-sound b).ends)
+ends : (b : tie.Start invariant-loop decreases-loop) → row_place b.args.bay.now b.args.n ≤ length b.args.bay.now
+ends b = omega (arith, ap (row_place b.args.bay.now) b.requires.1, (bay-sound b).ends)
 
 -- the row that is handed on
 row :
@@ -50,14 +50,14 @@ row r =
 
 loop-holds : tie.Need-loop-init invariant-loop decreases-loop
 unfolding from
-loop-holds c = (search rules, sym (place-first c.before.args.bay.now), search rules, paired-empty 24, refl, refl)
+loop-holds c = (search rules, sym (place_first c.before.args.bay.now), search rules, paired_empty 24, refl, refl)
 
 row-at-requires : tie.Need-row-at-requires invariant-loop decreases-loop
 row-at-requires c κs =
     let l = c.before in
     let b = entered l in (
       omega (arith, l.loop.invariant.2, b.pre.0),
-      row-there b.args.bay.now l.loop.k l.loop.invariant.1 b.args.n c.loop-test.true (ends b),
+      row_there b.args.bay.now l.loop.k l.loop.invariant.1 b.args.n c.loop-test.true (ends b),
     )
 
 outline-of-requires : tie.Need-outline-of-requires invariant-loop decreases-loop
@@ -97,14 +97,14 @@ loop-again c =
     let b = entered l in
     let bay = b.args.bay.now in
     let k = l.loop.k in
-    let outline : ℕ → Outline = λ j. outlineOf (row_of bay j) in
-    let read = o.outline-of.ensures ∙ ap outlineOf (row o.before) in
+    let outline : ℕ → Outline = λ j. outline_of (row_of bay j) in
+    let read = o.outline-of.ensures ∙ ap outline_of (row o.before) in
     let e = c.next_place.ensures in (
       search rules,
-      next-is bay k l.loop.invariant.1 e.0,
+      next_is bay k l.loop.invariant.1 e.0,
       omega (arith, l.loop.invariant.2, e.1),
-      paired-set l.loop.heights l.loop.sizes k o.outline-of.result
-          ∙ rw (l.loop.invariant.3, read) (one_more outline emptyRow 24 k (omega (arith, b.pre.0, i.loop-test.true))),
+      paired_set l.loop.heights l.loop.sizes k o.outline-of.result
+          ∙ rw (l.loop.invariant.3, read) (one_more outline empty_row 24 k (omega (arith, b.pre.0, i.loop-test.true))),
       length-set l.loop.heights k o.outline-of.result.height ∙ l.loop.invariant.4,
       length-set l.loop.sizes k o.outline-of.result.size ∙ l.loop.invariant.5,
     )
@@ -113,7 +113,7 @@ returns : tie.Need-returns invariant-loop decreases-loop
 returns c =
     let l = c.before in
     let a = (entered l).args in (
-      l.loop.invariant.3 ∙ ap (λ n. padded 24 emptyRow (map (λ j. outlineOf (row_of a.bay.now j)) (below n))) (omega arith),
+      l.loop.invariant.3 ∙ ap (λ n. padded 24 empty_row (map (λ j. outline_of (row_of a.bay.now j)) (below n))) (omega arith),
       l.loop.invariant.4,
       l.loop.invariant.5,
     )

@@ -2,11 +2,11 @@
 use mathlib.Core.Path.{◌≡◌, sym, ap, ◌∙◌}
 use borrow.Author.Rules.{rules}
 use Rattle.sheet.specs.declared.Sheet.{Sheet}
-use Rattle.sheet.specs.Layout.{sheetOf}
-use Rattle.sheet.specs.inner.Changed.{withTiers}
-use Rattle.sheet.proofs.Clear.{parts, head-there}
-use Rattle.statics.specs.inner.Computed.{loadRuleBy, loadRuleOf}
-use Rattle.bay_put.proofs.Answers.{returns-length, writes-answer, taken-length, never-refused}
+use Rattle.sheet.specs.Layout.{sheet_of}
+use Rattle.sheet.specs.Inner.Changed.{with_tiers}
+use Rattle.sheet.proofs.Clear.{parts, head_there}
+use Rattle.statics.specs.Inner.Computed.{load_rule_by, load_rule_of}
+use Rattle.bay_put.proofs.Answers.{returns-length, writes-answer, taken_length, never-refused}
 use Rattle.bay_put.proofs.answer_row.Statement.{statement}
 use Rattle.bay_put.proofs.answer_row.Tie as tie
 
@@ -16,20 +16,20 @@ entered r = r.before.before.before.before
 
 -- the sheet that is answered, and its rule
 abbrev sheet : tie.Start → Sheet
-sheet b = withTiers b.args.tiers (sheetOf b.args.row.now)
+sheet b = with_tiers b.args.tiers (sheet_of b.args.row.now)
 
-ruled : (r : tie.After-rule-of) → r.rule-of.result ≡ loadRuleOf (sheet (entered r))
-unfolding sheetOf
-ruled r = r.rule-of.ensures.0 ∙ ap loadRuleBy r.before.head_of.ensures
+ruled : (r : tie.After-rule-of) → r.rule-of.result ≡ load_rule_of (sheet (entered r))
+unfolding sheet_of
+ruled r = r.rule-of.ensures.0 ∙ ap load_rule_by r.before.head_of.ensures
 
 head-of-requires : tie.Need-head-of-requires
 head-of-requires c κs =
     let b = c.before.before in
     let s = b.args.row.now in
-    head-there s (parts s b.requires.0).head
+    head_there s (parts s b.requires.0).head
 
 rule-of-requires : tie.Need-rule-of-requires
-unfolding sheetOf
+unfolding sheet_of
 rule-of-requires c κs = rw c.head_of.ensures c.before.before.before.requires.1.route
 
 answer-with-requires : tie.Need-answer-with-requires
@@ -51,7 +51,7 @@ returns c =
     let b = entered r in
     let named = w.answer-with.ensures.1 in
     let returned = returns-length r.rule-of.result (sheet b) b.args.answer.now b.pre.2 (ruled r) named in (
-      taken-length (sym c.before.outcome.given.1 ∙ returned),
+      taken_length (sym c.before.outcome.given.1 ∙ returned),
       writes-answer r.rule-of.result (sheet b) b.args.answer.now b.pre.2 (ruled r) named,
     )
 

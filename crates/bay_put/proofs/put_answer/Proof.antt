@@ -9,17 +9,17 @@ use lib.ListN.{length, take, drop, length-append}
 use Rattle.arith.specs.Bytes.{byte_at}
 use Rattle.sheet.specs.declared.Sheet.{Sheet}
 use Rattle.sheet.specs.declared.Tier.{Tier}
-use Rattle.sheet.specs.Layout.{doorPlace, sheetOf}
+use Rattle.sheet.specs.Layout.{door_place, sheet_of}
 use Rattle.sheet.specs.Fits.{Fits}
-use Rattle.sheet.specs.inner.Changed.{withTiers}
-use Rattle.sheet.proofs.TakenSheets.{taken-fits}
-use Rattle.bay_wind.specs.Exposure.{sheetInBay}
-use Rattle.bay_wind.proofs.Fitting.{in-bay-fits}
-use Rattle.bay_answer.specs.Rows.{rowBytes}
-use Rattle.bay_answer.specs.inner.Totalled.{answer_of}
-use Rattle.bay_put.specs.inner.Answered.{RowAnswered}
-use Rattle.bay_put.proofs.Answers.{answer-short, row-stored, row_read}
-use Rattle.bay_put.proofs.Rows.{tiers-held, counts-fit, totals-are, put}
+use Rattle.sheet.specs.Inner.Changed.{with_tiers}
+use Rattle.sheet.proofs.TakenSheets.{taken_fits}
+use Rattle.bay_wind.specs.Exposure.{sheet_in_bay}
+use Rattle.bay_wind.proofs.Fitting.{in_bay_fits}
+use Rattle.bay_answer.specs.Rows.{row_bytes}
+use Rattle.bay_answer.specs.Inner.Totalled.{answer_of}
+use Rattle.bay_put.specs.Inner.Answered.{RowAnswered}
+use Rattle.bay_put.proofs.Answers.{answer_short, row-stored, row_read}
+use Rattle.bay_put.proofs.Rows.{tiers_held, counts_fit, totals_are, put}
 use Rattle.bay_put.proofs.put_answer.Statement.{statement}
 use Rattle.bay_put.proofs.put_answer.Tie as tie
 
@@ -36,15 +36,15 @@ entered n = n.before.before.before.before.before
 abbrev start : tie.After-answer-row → tie.Start
 start a = entered (tiers a).before.before
 
-lashes : (n : tie.After-byte-at2) → let row = (entered n).args.row.now in n.byte-at2.result ≡ byte_at row (doorPlace row)
-lashes n = n.byte-at2.ensures.0 ∙ ap (byte_at (entered n).args.row.now) n.before.door-place.ensures.0
+lashes : (n : tie.After-byte-at2) → let row = (entered n).args.row.now in n.byte-at2.result ≡ byte_at row (door_place row)
+lashes n = n.byte-at2.ensures.0 ∙ ap (byte_at (entered n).args.row.now) n.before.door_place_lem.ensures.0
 
 -- the row's sheet in the bay
 abbrev sheet : tie.Start → Sheet
-sheet b = sheetInBay b.args.near (sheetOf b.args.row.now)
+sheet b = sheet_in_bay b.args.near (sheet_of b.args.row.now)
 
 fits : (b : tie.Start) → Fits (sheet b)
-fits b = in-bay-fits b.args.near (taken-fits b.args.row.now b.requires.0)
+fits b = in_bay_fits b.args.near (taken_fits b.args.row.now b.requires.0)
 
 -- it is what is answered
 answered :
@@ -56,27 +56,27 @@ answered a =
     let xs = b.args.report.now in
     let row = b.args.row.now in
     subst (λ (ts : List Tier).
-    RowAnswered (withTiers ts (sheetOf row)) (mid_of 2 (length xs - 2) xs) a.answer-row.new.1.1.0 a.answer-row.result)
+    RowAnswered (with_tiers ts (sheet_of row)) (mid_of 2 (length xs - 2) xs) a.answer-row.new.1.1.0 a.answer-row.result)
     (tiers a).tiers-in-bay.ensures a.answer-row.ensures
 
 room : (b : tie.Start) → 2 + length (answer_of (sheet b)) ≤ length b.args.report.now
-room b = omega (arith, answer-short (fits b), b.requires.1)
+room b = omega (arith, answer_short (fits b), b.requires.1)
 
 -- what the buffer holds with the answer and its length, and the answer read from it
 stored :
     (p : tie.After-put-length) →
     let b = start (answer p) in
-    let bytes = rowBytes (answer_of (sheet b)) in
+    let bytes = row_bytes (answer_of (sheet b)) in
     p.put-length.new.0 ≡ bytes ++ drop (length bytes) b.args.report.now
 stored p =
     let a = answer p in
     let b = start a in
     row-stored b.args.report.now (answer_of (sheet b)) (room b) (answered a).1 (answered a).0 p.put-length.ensures
 
-answer-read :
+answer_read :
     (p : tie.After-put-length) →
     take (2 + (answer p).answer-row.result - 2) (drop 2 p.put-length.new.0) ≡ answer_of (sheet (start (answer p)))
-answer-read p =
+answer_read p =
     let a = answer p in
     let b = start a in
     row_read b.args.report.now (answer_of (sheet b)) (room b) (answered a).1 (answered a).0 p.put-length.ensures
@@ -93,12 +93,12 @@ byte-at-requires-2 c κs = search rules
 mass-of-requires : tie.Need-mass-of-requires
 mass-of-requires c κs =
     let b = entered c in
-    rw c.before.before.byte-at.ensures.0 (tiers-held b.args.row.now b.pre.0)
+    rw c.before.before.byte_at_lem.ensures.0 (tiers_held b.args.row.now b.pre.0)
 
 tiers-in-bay-requires : tie.Need-tiers-in-bay-requires
 tiers-in-bay-requires c κs =
     let n = c.before in
-    ((entered n).requires.0, n.before.before.byte-at.ensures.0)
+    ((entered n).requires.0, n.before.before.byte_at_lem.ensures.0)
 
 sub-answer-row : tie.Need-overflow-sub-answer-row
 sub-answer-row c = search rules
@@ -115,7 +115,7 @@ answer-row-requires c κs =
     let b = entered t.before.before in
     let row = b.args.row.now in (
       b.pre.0,
-      subst (λ (ts : List Tier). Fits (withTiers ts (sheetOf row))) (sym t.tiers-in-bay.ensures) (fits b),
+      subst (λ (ts : List Tier). Fits (with_tiers ts (sheet_of row))) (sym t.tiers-in-bay.ensures) (fits b),
       search rules,
     )
 
@@ -125,7 +125,7 @@ put-length-requires c κs = search rules
 add-end : tie.Need-overflow-add-end
 add-end c =
     let a = answer c.before.before in
-    omega (arith, (answered a).0, answer-short (fits (start a)))
+    omega (arith, (answered a).0, answer_short (fits (start a)))
 
 sub-totals-of : tie.Need-overflow-sub-totals-of
 sub-totals-of c = search rules
@@ -139,7 +139,7 @@ part-totals-of-end c =
     let a = answer p in
     let b = start a in
     let long = simp length-append at (ap length (stored p)) in
-    omega (arith, (answered a).0, answer-short (fits b), long, b.pre.1)
+    omega (arith, (answered a).0, answer_short (fits b), long, b.pre.1)
 
 totals-of-requires : tie.Need-totals-of-requires
 totals-of-requires c κs =
@@ -148,7 +148,7 @@ totals-of-requires c κs =
     let n = m.before in
     let b = entered n in
     let row = b.args.row.now in
-    let fit = counts-fit b.args.near row b.pre.0 n.before.before.byte-at.ensures.0 (lashes n) (answer-read p) in
+    let fit = counts_fit b.args.near row b.pre.0 n.before.before.byte_at_lem.ensures.0 (lashes n) (answer_read p) in
     (fit.0, fit.1, fit.2, fit.3, m.mass-of.ensures.1)
 
 same_length : tie.Need-same-length
@@ -163,7 +163,7 @@ returns c =
     let row = b.args.row.now in
     let near = b.args.near in
     let totals =
-    totals-are near row b.pre.0 n.before.before.byte-at.ensures.0 (lashes n) (answer-read p) m.mass-of.ensures.0
+    totals_are near row b.pre.0 n.before.before.byte_at_lem.ensures.0 (lashes n) (answer_read p) m.mass-of.ensures.0
     c.totals-of.ensures.0 in
     put near row b.pre.0 b.args.report.now totals c.totals-of.ensures.1 (stored p)
 

@@ -1,7 +1,7 @@
 -- `bay_put::put_row`: an empty row is a length of 0; a loaded one is answered as its sheet in the bay is (Rows).
 use native.Mathlib.Omega.{arith}
 use borrow.Author.Rules.{rules}
-use Rattle.bay_put.proofs.Rows.{empty-totals, nothing-bounded, empty-stored, row-taken}
+use Rattle.bay_put.proofs.Rows.{empty_totals, nothing_bounded, empty_stored, row_taken_lem}
 use Rattle.bay_put.proofs.put_row.Statement.{statement}
 use Rattle.bay_put.proofs.put_row.Tie as tie
 
@@ -18,16 +18,16 @@ returns c =
     let b = i.before.before.before in
     let a = b.args in
     let s = a.row.now in (
-      empty-totals a.near s i.if1.true,
-      nothing-bounded,
-      empty-stored a.near s a.report.now i.if1.true (omega (arith, b.requires.1)) p.put-length.ensures,
+      empty_totals a.near s i.if1.true,
+      nothing_bounded,
+      empty_stored a.near s a.report.now i.if1.true (omega (arith, b.requires.1)) p.put-length.ensures,
     )
 
 put-answer-requires : tie.Need-put-answer-requires
 put-answer-requires c κs =
     let i = c.before in
     let b = i.before.before.before in
-    (row-taken b.args.near b.args.row.now i.if1.false b.requires.0, b.requires.1)
+    (row_taken_lem b.args.near b.args.row.now i.if1.false b.requires.0, b.requires.1)
 
 same-length-2 : tie.Need-same-length-2
 same-length-2 c = search rules

@@ -6,29 +6,29 @@ use native.Mathlib.Omega.{arith}
 use borrow.Author.Rules.{part_to_end}
 use borrow.Author.Rules.{rules}
 use lib.ListN.{length, drop, length-drop}
-use Rattle.sheet.specs.Layout.{sheetOf}
-use Rattle.bay_wind.specs.Exposure.{neighboursOf, sheetInBay}
-use Rattle.bay_rows.specs.Bay.{rowPlace, row_of, outlines}
-use Rattle.bay_rows.proofs.Places.{place-first, next-is, row-there, row_is}
+use Rattle.sheet.specs.Layout.{sheet_of}
+use Rattle.bay_wind.specs.Exposure.{neighbours_of, sheet_in_bay}
+use Rattle.bay_rows.specs.Bay.{row_place, row_of, outlines}
+use Rattle.bay_rows.proofs.Places.{place_first, next_is, row_there, row_is}
 use Rattle.bay_rows.proofs.Readings.{Sound, sound}
 use Rattle.bay_answer.specs.declared.Totals.{Totals}
-use Rattle.bay_answer.specs.Rows.{rowBytes}
-use Rattle.bay_answer.specs.inner.Totalled.{rowTotals, Bounded}
-use Rattle.bay_put.specs.inner.Answered.{answer_in}
-use Rattle.bay_put_rows.specs.inner.Together.{answerAt, rowsBytes, totalsOf}
-use Rattle.bay_put_rows.proofs.Steps.{rows_are, totals-none, totals-more, bounded-none, bounded-more}
-use Rattle.bay_put_rows.proofs.Steps.{stored-none, stored_more, same-room}
+use Rattle.bay_answer.specs.Rows.{row_bytes}
+use Rattle.bay_answer.specs.Inner.Totalled.{row_totals, Bounded}
+use Rattle.bay_put.specs.Inner.Answered.{answer_in}
+use Rattle.bay_put_rows.specs.Inner.Together.{answer_at, rows_bytes, totals_of}
+use Rattle.bay_put_rows.proofs.Steps.{rows_are, totals_none, totals_more, bounded_none, bounded_more}
+use Rattle.bay_put_rows.proofs.Steps.{stored_none, stored_more, same_room}
 use Rattle.bay_put_rows.proofs.put_rows.Statement.{statement}
 use Rattle.bay_put_rows.proofs.put_rows.Tie as tie
 
 abbrev invariant-loop : tie.invariant-loop
 invariant-loop bay n report₀ heights sizes totals₀ at₀ k₀ report totals at k =
     (k ≤ n)
-    × (at ≡ rowPlace bay k)
+    × (at ≡ row_place bay k)
     × (at ≤ 1 + 65537 * k)
-    × (totals ≡ totalsOf bay k)
+    × (totals ≡ totals_of bay k)
     × Bounded k totals
-    × (report ≡ rowsBytes bay k ++ drop (length (rowsBytes bay k)) report₀)
+    × (report ≡ rows_bytes bay k ++ drop (length (rows_bytes bay k)) report₀)
     × (length report ≡ length report₀)
 
 abbrev decreases-loop : tie.decreases-loop
@@ -44,8 +44,8 @@ bay-sound b = sound b.args.bay.now b.requires.0
 few : (b : tie.Start invariant-loop decreases-loop) → b.args.n ≤ 24
 few b = rw b.requires.1 (bay-sound b).few
 
-ends : (b : tie.Start invariant-loop decreases-loop) → rowPlace b.args.bay.now b.args.n ≤ length b.args.bay.now
-ends b = omega (arith, ap (rowPlace b.args.bay.now) b.requires.1, (bay-sound b).ends)
+ends : (b : tie.Start invariant-loop decreases-loop) → row_place b.args.bay.now b.args.n ≤ length b.args.bay.now
+ends b = omega (arith, ap (row_place b.args.bay.now) b.requires.1, (bay-sound b).ends)
 
 room : (l : tie.At-loop invariant-loop decreases-loop) → l.loop.k < (entered l).args.n → l.loop.totals.length + 836 ≤ length l.loop.report
 room l h =
@@ -53,34 +53,34 @@ room l h =
     omega (arith, l.loop.invariant.4.length, l.loop.invariant.6, b.pre.2, few b, h)
 
 -- the row that is handed on, its neighbours and its answer
-row-handed :
+row_handed :
     (r : tie.After-row-at invariant-loop decreases-loop) →
     let l = r.before.before.before.before.before in
     r.row_at.result.now ≡ row_of (entered l).args.bay.now l.loop.k
-row-handed r =
+row_handed r =
     let l = r.before.before.before.before.before in
     row_is (entered l).args.bay.now l.loop.k l.loop.invariant.1 r.row_at.ensures
 
-near-is :
+near_is :
     (r : tie.After-row-at invariant-loop decreases-loop) →
     let l = r.before.before.before.before.before in
-    r.before.neighbours-of.result ≡ neighboursOf (outlines (entered l).args.bay.now) l.loop.k
-near-is r =
+    r.before.neighbours-of.result ≡ neighbours_of (outlines (entered l).args.bay.now) l.loop.k
+near_is r =
     let n = r.before in
     let l = n.before.before.before.before in
     let b = entered l in
     n.neighbours-of.ensures
-    ∙ ap (λ rows. neighboursOf rows l.loop.k)
+    ∙ ap (λ rows. neighbours_of rows l.loop.k)
     (rows_are b.args.bay.now b.args.n l.before.before.before.before.outlines.ensures.0 b.pre.1)
 
 abbrev answered : tie.After-row-at invariant-loop decreases-loop → List ℕ
 answered r = answer_in r.before.neighbours-of.result r.row_at.result.now
 
-answer-is :
+answer_is :
     (r : tie.After-row-at invariant-loop decreases-loop) →
     let l = r.before.before.before.before.before in
-    answered r ≡ answerAt (entered l).args.bay.now l.loop.k
-answer-is r = ap₂ answer_in (near-is r) (row-handed r)
+    answered r ≡ answer_at (entered l).args.bay.now l.loop.k
+answer_is r = ap₂ answer_in (near_is r) (row_handed r)
 
 outlines-requires : tie.Need-outlines-requires invariant-loop decreases-loop
 outlines-requires c κs =
@@ -96,11 +96,11 @@ loop-holds c =
     let bay = b.args.bay.now in
     let none = c.none.ensures in (
       search rules,
-      sym (place-first bay),
+      sym (place_first bay),
       search rules,
-      totals-none bay none,
-      bounded-none none,
-      stored-none bay b.args.report.now,
+      totals_none bay none,
+      bounded_none none,
+      stored_none bay b.args.report.now,
       refl,
     )
 
@@ -123,7 +123,7 @@ row-at-requires c κs =
     let l = i.before in
     let b = entered l in (
       omega (arith, l.loop.invariant.2, few b, i.loop-test.true),
-      row-there b.args.bay.now l.loop.k l.loop.invariant.1 b.args.n i.loop-test.true (ends b),
+      row_there b.args.bay.now l.loop.k l.loop.invariant.1 b.args.n i.loop-test.true (ends b),
     )
 
 sub-put-row : tie.Need-overflow-sub-put-row invariant-loop decreases-loop
@@ -140,7 +140,7 @@ put-row-requires c κs =
     let i = c.before.before.before.before.before in
     let l = i.before in
     let b = entered l in (
-      rw (row-handed c.before) ((bay-sound b).rows l.loop.k (rw b.pre.1 at i.loop-test.true)),
+      rw (row_handed c.before) ((bay-sound b).rows l.loop.k (rw b.pre.1 at i.loop-test.true)),
       rw (part_to_end l.loop.report l.loop.totals.length, length-drop) (omega (arith, room l i.loop-test.true)),
     )
 
@@ -185,18 +185,18 @@ loop-again c =
     let k = l.loop.k in
     let e = c.next_place.ensures in
     let row = p.put-row.ensures in
-    let totals = row.0 ∙ ap₂ (λ near s. rowTotals (sheetInBay near (sheetOf s)) (answer_in near s)) (near-is h) (row-handed h) in
+    let totals = row.0 ∙ ap₂ (λ near s. row_totals (sheet_in_bay near (sheet_of s)) (answer_in near s)) (near_is h) (row_handed h) in
     let to = ap (λ (t : Totals). t.length) l.loop.invariant.3 in
     let size = ap (λ (t : Totals). t.length) row.0 in
-    let space : l.loop.totals.length + length (rowBytes (answered h)) ≤ length l.loop.report =
+    let space : l.loop.totals.length + length (row_bytes (answered h)) ≤ length l.loop.report =
     omega (arith, size, row.1.length, room l i.loop-test.true) in (
       search rules,
-      next-is bay k l.loop.invariant.1 e.0,
+      next_is bay k l.loop.invariant.1 e.0,
       omega (arith, l.loop.invariant.2, e.1),
-      totals-more bay k l.loop.invariant.3 totals u.added-up.ensures,
-      bounded-more k l.loop.invariant.4 row.1 u.added-up.ensures,
-      stored_more bay k b.args.report.now l.loop.invariant.5 to space row.2 (answer-is h),
-      same-room (rowBytes (answered h)) l.loop.report l.loop.totals.length space row.2 ∙ l.loop.invariant.6,
+      totals_more bay k l.loop.invariant.3 totals u.added-up.ensures,
+      bounded_more k l.loop.invariant.4 row.1 u.added-up.ensures,
+      stored_more bay k b.args.report.now l.loop.invariant.5 to space row.2 (answer_is h),
+      same_room (row_bytes (answered h)) l.loop.report l.loop.totals.length space row.2 ∙ l.loop.invariant.6,
     )
 
 same_length : tie.Need-same-length invariant-loop decreases-loop
@@ -208,9 +208,9 @@ returns c =
     let b = entered l in
     let bay = b.args.bay.now in
     let all : l.loop.k ≡ b.args.n = omega (arith, l.loop.invariant.0, c.loop-test.false) in (
-      l.loop.invariant.3 ∙ ap (totalsOf bay) all,
+      l.loop.invariant.3 ∙ ap (totals_of bay) all,
       subst (λ m. Bounded m l.loop.totals) all l.loop.invariant.4,
-      l.loop.invariant.5 ∙ ap (λ m. rowsBytes bay m ++ drop (length (rowsBytes bay m)) b.args.report.now) all,
+      l.loop.invariant.5 ∙ ap (λ m. rows_bytes bay m ++ drop (length (rows_bytes bay m)) b.args.report.now) all,
     )
 
 pub put-rows-spec : {M : Type 1} → statement M

@@ -4,7 +4,7 @@ use native.Mathlib.Omega.{arith}
 use borrow.Author.Rules.{rules}
 use Rattle.arith.specs.Lists.{below}
 use Rattle.bay_rows.specs.Refusals.{first_of}
-use Rattle.bay_rows.proofs.Readings.{laid-badly, laid-well, count-good, ends_there}
+use Rattle.bay_rows.proofs.Readings.{laid_badly, laid_well, count_good, ends_there}
 use Rattle.bay_rows.proofs.test_bay.Statement.{statement}
 use Rattle.bay_rows.proofs.test_bay.Tie as tie
 
@@ -14,7 +14,7 @@ badly-laid-out-requires c κs = search rules
 returns : tie.Need-returns
 returns c =
     let k = c.before in
-    sym (laid-badly k.before.before.args.bay.now (sym k.badly-laid-out.ensures ∙ c.if1.true))
+    sym (laid_badly k.before.before.args.bay.now (sym k.badly-laid-out.ensures ∙ c.if1.true))
 
 byte-at-requires : tie.Need-byte-at-requires
 byte-at-requires c κs = search rules
@@ -24,14 +24,14 @@ test-rows-requires c κs =
     let k = c.before.before in
     let b = k.before.before.args.bay.now in
     let laid = sym k.badly-laid-out.ensures ∙ c.before.if1.false in
-    rw c.byte-at.ensures.0 ((count-good b laid).1, omega (arith, ends_there b laid))
+    rw c.byte_at_lem.ensures.0 ((count_good b laid).1, omega (arith, ends_there b laid))
 
 returns-2 : tie.Need-returns-2
 returns-2 c =
     let k = c.before.before.before in
     let b = k.before.before.args.bay.now in
     let laid = sym k.badly-laid-out.ensures ∙ c.before.before.if1.false in
-    c.test-rows.ensures ∙ ap (λ n. first_of b (below n)) c.before.byte-at.ensures.0 ∙ sym (laid-well b laid)
+    c.test-rows.ensures ∙ ap (λ n. first_of b (below n)) c.before.byte_at_lem.ensures.0 ∙ sym (laid_well b laid)
 
 pub test-bay-spec : {M : Type 1} → statement M
 test-bay-spec =

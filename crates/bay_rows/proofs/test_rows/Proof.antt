@@ -5,16 +5,16 @@ use native.Mathlib.Nat.{sub-zero}
 use native.Mathlib.Omega.{arith}
 use borrow.Author.Rules.{rules}
 use Rattle.arith.specs.Lists.{from, below}
-use Rattle.bay_rows.specs.Bay.{rowPlace, row_of}
-use Rattle.bay_rows.specs.Refusals.{rowReading, first_of}
-use Rattle.bay_rows.proofs.Places.{place-first, next-is, row-there, row_is}
-use Rattle.bay_rows.proofs.Readings.{next-taken, next-refused, none_left}
+use Rattle.bay_rows.specs.Bay.{row_place, row_of}
+use Rattle.bay_rows.specs.Refusals.{row_reading, first_of}
+use Rattle.bay_rows.proofs.Places.{place_first, next_is, row_there, row_is}
+use Rattle.bay_rows.proofs.Readings.{next_taken, next_refused, none_left}
 use Rattle.bay_rows.proofs.test_rows.Statement.{statement}
 use Rattle.bay_rows.proofs.test_rows.Tie as tie
 
 abbrev invariant-loop : tie.invariant-loop
 invariant-loop bay n at₀ k₀ at k =
-    (k ≤ n) × (at ≡ rowPlace bay k) × (at ≤ 1 + 65537 * k) × (first_of bay (from k (n - k)) ≡ first_of bay (below n))
+    (k ≤ n) × (at ≡ row_place bay k) × (at ≤ 1 + 65537 * k) × (first_of bay (from k (n - k)) ≡ first_of bay (below n))
 
 abbrev decreases-loop : tie.decreases-loop
 decreases-loop bay n at₀ k₀ at k = n - k
@@ -23,14 +23,14 @@ decreases-loop bay n at₀ k₀ at k = n - k
 reading :
     (t : tie.After-test-row invariant-loop decreases-loop) →
     let l = t.before.before.before in
-    rowReading (row_of l.before.before.args.bay.now l.loop.k) ≡ t.test-row.result
+    row_reading (row_of l.before.before.args.bay.now l.loop.k) ≡ t.test-row.result
 reading t =
     let l = t.before.before.before in
     let b = l.before.before in
-    sym (t.test-row.ensures ∙ ap rowReading (row_is b.args.bay.now l.loop.k l.loop.invariant.1 t.before.row_at.ensures))
+    sym (t.test-row.ensures ∙ ap row_reading (row_is b.args.bay.now l.loop.k l.loop.invariant.1 t.before.row_at.ensures))
 
 loop-holds : tie.Need-loop-init invariant-loop decreases-loop
-loop-holds c = (search rules, sym (place-first c.before.args.bay.now), search rules, rw sub-zero)
+loop-holds c = (search rules, sym (place_first c.before.args.bay.now), search rules, rw sub-zero)
 
 row-at-requires : tie.Need-row-at-requires invariant-loop decreases-loop
 row-at-requires c κs =
@@ -38,7 +38,7 @@ row-at-requires c κs =
     let b = l.before.before in
     let bay = b.args.bay.now in (
       omega (arith, l.loop.invariant.2, b.requires.0),
-      row-there bay l.loop.k l.loop.invariant.1 b.args.n c.loop-test.true b.requires.1,
+      row_there bay l.loop.k l.loop.invariant.1 b.args.n c.loop-test.true b.requires.1,
     )
 
 test-row-requires : tie.Need-test-row-requires invariant-loop decreases-loop
@@ -56,7 +56,7 @@ returns c =
     let i = t.before.before in
     let l = i.before in
     let b = l.before.before in
-    sym (next-refused b.args.bay.now l.loop.k b.args.n i.loop-test.true (reading t ∙ c.before.number.given.1))
+    sym (next_refused b.args.bay.now l.loop.k b.args.n i.loop-test.true (reading t ∙ c.before.number.given.1))
     ∙ l.loop.invariant.3
 
 enum_told : tie.Need-enum-told invariant-loop decreases-loop
@@ -83,9 +83,9 @@ loop-again c =
     let b = l.before.before in
     let e = c.next_place.ensures in (
       search rules,
-      next-is b.args.bay.now l.loop.k l.loop.invariant.1 e.0,
+      next_is b.args.bay.now l.loop.k l.loop.invariant.1 e.0,
       omega (arith, l.loop.invariant.2, e.1),
-      sym (next-taken b.args.bay.now l.loop.k b.args.n i.loop-test.true (reading t ∙ c.before.enum_told.given.1))
+      sym (next_taken b.args.bay.now l.loop.k b.args.n i.loop-test.true (reading t ∙ c.before.enum_told.given.1))
           ∙ l.loop.invariant.3,
     )
 

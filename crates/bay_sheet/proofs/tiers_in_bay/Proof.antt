@@ -8,21 +8,21 @@ use lib.ListN.{length}
 use Rattle.arith.specs.Lists.{from, below, padded}
 use Rattle.arith.proofs.Arrays.{one_more}
 use Rattle.sheet.specs.declared.Tier.{Tier}
-use Rattle.sheet.specs.Layout.{tierCount, tiersIn, blankTier}
-use Rattle.sheet.specs.Fits.{tierAt}
-use Rattle.bay_wind.specs.Exposure.{heightOf, withWind}
-use Rattle.bay_wind.proofs.Sums.{sum-none, sum_more, sum-next}
-use Rattle.bay_cover.specs.inner.Covers.{coverOf, shownAbove}
-use Rattle.bay_sheet.proofs.Tiers.{tierUnder, few, there, first-there, held, all_under}
+use Rattle.sheet.specs.Layout.{tier_count, tiers_in, blank_tier}
+use Rattle.sheet.specs.Fits.{tier_at}
+use Rattle.bay_wind.specs.Exposure.{height_of, with_wind}
+use Rattle.bay_wind.proofs.Sums.{sum_none, sum_more, sum_next}
+use Rattle.bay_cover.specs.Inner.Covers.{cover_of, shown_above}
+use Rattle.bay_sheet.proofs.Tiers.{tier_under, few, there, first_there, held, all_under}
 use Rattle.bay_sheet.proofs.tiers_in_bay.Statement.{statement}
 use Rattle.bay_sheet.proofs.tiers_in_bay.Tie as tie
 
 abbrev invariant-loop : tie.invariant-loop
 invariant-loop row n cover tiers₀ top₀ k₀ tiers top k =
     (k ≤ n)
-    × (top ≡ heightOf (tiersIn row (tierCount row)) k)
+    × (top ≡ height_of (tiers_in row (tier_count row)) k)
     × (top ≤ 65535 * k)
-    × (tiers ≡ padded 10 blankTier (map (tierUnder cover (tiersIn row (tierCount row))) (below k)))
+    × (tiers ≡ padded 10 blank_tier (map (tier_under cover (tiers_in row (tier_count row))) (below k)))
 
 abbrev decreases-loop : tie.decreases-loop
 decreases-loop row n cover tiers₀ top₀ k₀ tiers top k = n - k
@@ -31,12 +31,12 @@ decreases-loop row n cover tiers₀ top₀ k₀ tiers top k = n - k
 abbrev entered : tie.At-loop invariant-loop decreases-loop → tie.Start invariant-loop decreases-loop
 entered l = l.before.before.before.before.before
 
-few-there :
+few_there :
     (b : tie.Start invariant-loop decreases-loop) → (b.args.n ≤ 10) × (9 + 12 * b.args.n ≤ length b.args.row.now)
-few-there b = rw b.requires.1 (few b.args.row.now b.requires.0, there b.args.row.now b.requires.0)
+few_there b = rw b.requires.1 (few b.args.row.now b.requires.0, there b.args.row.now b.requires.0)
 
 field1-requires : tie.Need-field1-requires invariant-loop decreases-loop
-field1-requires c κs = let b = c.before in omega (arith, first-there b.args.row.now b.requires.0)
+field1-requires c κs = let b = c.before in omega (arith, first_there b.args.row.now b.requires.0)
 
 cover-of-requires : tie.Need-cover-of-requires invariant-loop decreases-loop
 cover-of-requires c κs = search rules
@@ -46,16 +46,16 @@ blank-tier-requires c κs = search rules
 
 loop-holds : tie.Need-loop-init invariant-loop decreases-loop
 unfolding from
-loop-holds c = (search rules, sym (sum-none _), search rules, rw c.blank-tier.ensures)
+loop-holds c = (search rules, sym (sum_none _), search rules, rw c.blank-tier.ensures)
 
 mul-tier-of : tie.Need-overflow-mul-tier-of invariant-loop decreases-loop
-mul-tier-of c = omega (arith, few-there (entered c.before))
+mul-tier-of c = omega (arith, few_there (entered c.before))
 
 add-tier-of : tie.Need-overflow-add-tier-of invariant-loop decreases-loop
-add-tier-of c = omega (arith, few-there (entered c.before))
+add-tier-of c = omega (arith, few_there (entered c.before))
 
 tier-of-requires : tie.Need-tier-of-requires invariant-loop decreases-loop
-tier-of-requires c κs = omega (arith, few-there (entered c.before))
+tier-of-requires c κs = omega (arith, few_there (entered c.before))
 
 cast-top : tie.Need-overflow-cast-top invariant-loop decreases-loop
 cast-top c = search rules
@@ -63,7 +63,7 @@ cast-top c = search rules
 add-top : tie.Need-overflow-add-top invariant-loop decreases-loop
 add-top c =
     let l = c.before.before.before in
-    omega (arith, l.loop.invariant.2, few-there (entered l), c.struct_known.given)
+    omega (arith, l.loop.invariant.2, few_there (entered l), c.struct_known.given)
 
 shown-above-requires : tie.Need-shown-above-requires invariant-loop decreases-loop
 shown-above-requires c κs = search rules
@@ -72,13 +72,13 @@ with-wind-requires : tie.Need-with-wind-requires invariant-loop decreases-loop
 with-wind-requires c κs = search rules
 
 mul-tiers : tie.Need-overflow-mul-tiers invariant-loop decreases-loop
-mul-tiers c = omega (arith, few-there (entered c.before.before.before.before.before))
+mul-tiers c = omega (arith, few_there (entered c.before.before.before.before.before))
 
 array-set-from-tiers : tie.Need-array-set-from-tiers invariant-loop decreases-loop
-array-set-from-tiers c = omega (arith, few-there (entered c.before.before.before.before.before))
+array-set-from-tiers c = omega (arith, few_there (entered c.before.before.before.before.before))
 
 add-k : tie.Need-overflow-add-k invariant-loop decreases-loop
-add-k c = omega (arith, few-there (entered c.before.before.before.before.before))
+add-k c = omega (arith, few_there (entered c.before.before.before.before.before))
 
 loop-less : tie.Need-loop-smaller invariant-loop decreases-loop
 loop-less c = search rules
@@ -90,20 +90,20 @@ loop-again c =
     let l = i.before in
     let b = entered l in
     let row = b.args.row.now in
-    let tiers = tiersIn row (tierCount row) in
+    let tiers = tiers_in row (tier_count row) in
     let cover = l.before.before.cover-of.result in
     let k = l.loop.k in
-    let t = tierAt tiers k in
-    let heights : ℕ → ℕ = λ j. (tierAt tiers j).height in
-    let read : v.before.tier-of.result ≡ t =
-    v.before.tier-of.ensures ∙ held row b.pre.0 k (rw b.pre.1 at i.loop-test.true) in
+    let t = tier_at tiers k in
+    let heights : ℕ → ℕ = λ j. (tier_at tiers j).height in
+    let read : v.before.tier_of.result ≡ t =
+    v.before.tier_of.ensures ∙ held row b.pre.0 k (rw b.pre.1 at i.loop-test.true) in
     let top = ap₂ (λ n (x : Tier). n + x.height) l.loop.invariant.1 read in
-    let seen = c.before.shown-above.ensures ∙ ap₂ (λ (x : Tier) n. shownAbove cover x.height n) read (top ∙ sym (sum-next heights k)) in
-    let fresh = c.with-wind.ensures ∙ ap₂ withWind seen read in (
+    let seen = c.before.shown-above.ensures ∙ ap₂ (λ (x : Tier) n. shown_above cover x.height n) read (top ∙ sym (sum_next heights k)) in
+    let fresh = c.with-wind.ensures ∙ ap₂ with_wind seen read in (
       search rules,
       top ∙ sym (sum_more heights k),
       omega (arith, l.loop.invariant.2, v.struct_known.given),
-      rw (l.loop.invariant.3, fresh) (one_more (tierUnder cover tiers) blankTier 10 k (omega (arith, few-there b, i.loop-test.true))),
+      rw (l.loop.invariant.3, fresh) (one_more (tier_under cover tiers) blank_tier 10 k (omega (arith, few_there b, i.loop-test.true))),
     )
 
 returns : tie.Need-returns invariant-loop decreases-loop
@@ -113,10 +113,10 @@ returns c =
     let row = b.args.row.now in
     let o = l.before.before in
     let cover = o.cover-of.result in
-    let all : l.loop.k ≡ tierCount row = omega (arith, l.loop.invariant.0, c.loop-test.false, b.pre.1) in
+    let all : l.loop.k ≡ tier_count row = omega (arith, l.loop.invariant.0, c.loop-test.false, b.pre.1) in
     l.loop.invariant.3
-    ∙ ap (λ n. padded 10 blankTier (map (tierUnder cover (tiersIn row (tierCount row))) (below n))) all
-    ∙ all_under row b.pre.0 b.args.near (o.cover-of.ensures ∙ ap (λ z. coverOf z b.args.near) o.before.field1.ensures)
+    ∙ ap (λ n. padded 10 blank_tier (map (tier_under cover (tiers_in row (tier_count row))) (below n))) all
+    ∙ all_under row b.pre.0 b.args.near (o.cover-of.ensures ∙ ap (λ z. cover_of z b.args.near) o.before.field1.ensures)
 
 pub tiers-in-bay-spec : {M : Type 1} → statement M
 tiers-in-bay-spec =

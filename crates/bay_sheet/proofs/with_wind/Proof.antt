@@ -1,6 +1,6 @@
 -- `bay_sheet::with_wind`: the wind alone is other.
 use borrow.Author.Rules.{rules}
-use Rattle.bay_wind.specs.Exposure.{withWind}
+use Rattle.bay_wind.specs.Exposure.{with_wind}
 use Rattle.bay_sheet.proofs.with_wind.Statement.{statement}
 use Rattle.bay_sheet.proofs.with_wind.Tie as tie
 
@@ -11,7 +11,7 @@ wind-code-requires : tie.Need-wind-code-requires
 wind-code-requires c κs = search rules
 
 returns : tie.Need-returns
-unfolding withWind
+unfolding with_wind
 returns c = cc
 
 pub with-wind-spec : {M : Type 1} → statement M

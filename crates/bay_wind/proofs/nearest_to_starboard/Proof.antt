@@ -8,10 +8,10 @@ use lib.ListN.{length, get_or, take, drop}
 use lib.Seq.{length-take-le, get_or-take}
 use Rattle.bay_wind.specs.declared.Outline.{Outline}
 use Rattle.bay_wind.specs.declared.Nearest.TheVariants.{Loaded}
-use Rattle.bay_wind.specs.Exposure.{emptyRow, nearestBehind, nearestOf}
-use Rattle.bay_wind.specs.inner.Paired.{paired}
-use Rattle.bay_wind.proofs.Paired.{paired-length, paired_at}
-use Rattle.bay_wind.proofs.Sides.{first-is, starboard-loaded, starboard-empty, starboard-none}
+use Rattle.bay_wind.specs.Exposure.{empty_row, nearest_behind, nearest_of}
+use Rattle.bay_wind.specs.Inner.Paired.{paired}
+use Rattle.bay_wind.proofs.Paired.{paired_length, paired_at}
+use Rattle.bay_wind.proofs.Sides.{first_is, starboard_loaded, starboard_empty, starboard_none}
 use Rattle.bay_wind.proofs.nearest_to_starboard.Statement.{statement}
 use Rattle.bay_wind.proofs.nearest_to_starboard.Tie as tie
 
@@ -19,8 +19,8 @@ abbrev invariant-loop : tie.invariant-loop
 invariant-loop heights sizes n k first j₀ j =
     (first ≤ j)
     × (j ≤ n)
-    × (nearestBehind (j - first) (drop j (take n (paired heights sizes)))
-    ≡ nearestOf (drop (suc k) (take n (paired heights sizes))))
+    × (nearest_behind (j - first) (drop j (take n (paired heights sizes)))
+    ≡ nearest_of (drop (suc k) (take n (paired heights sizes))))
 
 abbrev decreases-loop : tie.decreases-loop
 decreases-loop heights sizes n k first j₀ j = n - j
@@ -33,7 +33,7 @@ counted : (b : tie.Start invariant-loop decreases-loop) → length (rows b) ≡ 
 counted b =
     let heights = b.args.heights.now in
     let sizes = b.args.sizes.now in
-    length-take-le b.args.n (paired heights sizes) (omega (arith, b.requires.1, paired-length heights sizes b.requires.2))
+    length-take-le b.args.n (paired heights sizes) (omega (arith, b.requires.1, paired_length heights sizes b.requires.2))
 
 inside : (b : tie.Start invariant-loop decreases-loop) (j : ℕ) → j < b.args.n → j < length (rows b)
 inside b j h = omega (arith, counted b, h)
@@ -41,17 +41,17 @@ inside b j h = omega (arith, counted b, h)
 row_is :
     (b : tie.Start invariant-loop decreases-loop) (j : ℕ) →
     j < b.args.n →
-    get_or (rows b) j emptyRow ≡ record { height = get_or b.args.heights.now j 0; size = get_or b.args.sizes.now j 0 }
+    get_or (rows b) j empty_row ≡ record { height = get_or b.args.heights.now j 0; size = get_or b.args.sizes.now j 0 }
 row_is b j h =
     let heights = b.args.heights.now in
     let sizes = b.args.sizes.now in
-    get_or-take b.args.n (paired heights sizes) j emptyRow h ∙ paired_at heights sizes j b.requires.2
+    get_or-take b.args.n (paired heights sizes) j empty_row h ∙ paired_at heights sizes j b.requires.2
 
 add-first : tie.Need-overflow-add-first invariant-loop decreases-loop
 add-first c = search rules
 
 loop-holds : tie.Need-loop-init invariant-loop decreases-loop
-loop-holds c = (search rules, search rules, first-is (rows c) c.args.k)
+loop-holds c = (search rules, search rules, first_is (rows c) c.args.k)
 
 mul-height : tie.Need-overflow-mul-height invariant-loop decreases-loop
 mul-height c = search rules
@@ -73,7 +73,7 @@ returns c =
     let e = row_is b l.loop.j i.loop-test.true in
     ap (Loaded (l.loop.j - (b.args.k + 1))) (sym e)
     ∙ sym
-    (starboard-loaded (rows b) (b.args.k + 1) l.loop.j l.loop.invariant.0 (inside b l.loop.j i.loop-test.true)
+    (starboard_loaded (rows b) (b.args.k + 1) l.loop.j l.loop.invariant.0 (inside b l.loop.j i.loop-test.true)
     (rw e c.if1.true))
     ∙ l.loop.invariant.2
 
@@ -92,7 +92,7 @@ loop-again c =
       search rules,
       search rules,
       sym
-          (starboard-empty (rows b) (b.args.k + 1) l.loop.j l.loop.invariant.0 (inside b l.loop.j i.loop-test.true)
+          (starboard_empty (rows b) (b.args.k + 1) l.loop.j l.loop.invariant.0 (inside b l.loop.j i.loop-test.true)
           (rw e c.if1.false))
           ∙ l.loop.invariant.2,
     )
@@ -102,7 +102,7 @@ returns-2 c =
     let l = c.before in
     let b = l.before in
     sym
-    (starboard-none (rows b) (b.args.k + 1) l.loop.j l.loop.invariant.0 (omega (arith, counted b, c.loop-test.false)))
+    (starboard_none (rows b) (b.args.k + 1) l.loop.j l.loop.invariant.0 (omega (arith, counted b, c.loop-test.false)))
     ∙ l.loop.invariant.2
 
 pub nearest-to-starboard-spec : {M : Type 1} → statement M

@@ -3,7 +3,7 @@ use mathlib.Core.Path.{sym}
 use native.Mathlib.Omega.{arith}
 use borrow.Author.Rules.{rules}
 use lib.Seq.{length-take-le}
-use Rattle.cases.proofs.MarkLaws.{marked-length}
+use Rattle.cases.proofs.MarkLaws.{marked_length}
 use Rattle.cases.proofs.run.Statement.{statement}
 use Rattle.cases.proofs.run.Tie as tie
 
@@ -30,7 +30,7 @@ slice-aggregate-answer c =
     let f = c.before.before in
     sym
     (length-take-le f.before.before.before.before.args.case.room f.filled.result
-    (omega (arith, marked-length f.filled.ensures)))
+    (omega (arith, marked_length f.filled.ensures)))
 
 sub-check : tie.Need-overflow-sub-check
 sub-check c = search rules

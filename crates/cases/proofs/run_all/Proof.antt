@@ -36,7 +36,7 @@ loop-less c =
     omega arith
 
 loop-again : tie.Need-loop-preserved invariant-loop decreases-loop
-loop-again c = (rw c.before.before.case.given.1 at c.before.before.before.before.case_at.ensures.1).0.end-input
+loop-again c = (rw c.before.before.case.given.1 at c.before.before.before.before.case_at.ensures.1).0.end_input
 
 returns-2 : tie.Need-returns-2 invariant-loop decreases-loop
 returns-2 c = search rules

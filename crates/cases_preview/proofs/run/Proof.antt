@@ -12,14 +12,14 @@ use Rattle.cases_preview.proofs.run.Tie as tie
 abbrev buffer : List ℕ
 buffer = replicate 1024 170
 
-part-is : (room : ℕ) → room ≤ 1024 → room ≡ length (take room buffer)
-part-is room h = sym (length-take-le room buffer h)
+part_is : (room : ℕ) → room ≤ 1024 → room ≡ length (take room buffer)
+part_is room h = sym (length-take-le room buffer h)
 
 slice-aggregate-left : tie.Need-slice-aggregate-left
 slice-aggregate-left c = search rules
 
 slice-aggregate-previewed : tie.Need-slice-aggregate-previewed
-slice-aggregate-previewed c = let b = c.before.before.before.before in part-is b.args.room b.requires
+slice-aggregate-previewed c = let b = c.before.before.before.before in part_is b.args.room b.requires
 
 preview-requires : tie.Need-preview-requires
 preview-requires c κs = search rules
@@ -33,7 +33,7 @@ slice-aggregate-right c = search rules
 slice-aggregate-checked : tie.Need-slice-aggregate-checked
 slice-aggregate-checked c =
     let b = c.before.before.before.before.before.before.before.before.before.before.before in
-    part-is b.args.room b.requires
+    part_is b.args.room b.requires
 
 check-requires : tie.Need-check-requires
 check-requires c κs = search rules

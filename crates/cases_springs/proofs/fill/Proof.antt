@@ -4,7 +4,7 @@ use Prim.Native.Nat.{◌-◌, ◌≤◌}
 use native.Mathlib.Omega.{arith}
 use lib.Dec.{T}
 use lib.ListN.{length, length-set}
-use Rattle.cases_springs.specs.inner.Within.{Within}
+use Rattle.cases_springs.specs.Inner.Within.{Within}
 use Rattle.cases_springs.proofs.Laws.{none, one_more, all}
 use borrow.Author.Rules.{rules}
 use Rattle.cases_springs.proofs.fill.Statement.{statement}

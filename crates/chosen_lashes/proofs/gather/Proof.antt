@@ -8,11 +8,11 @@ use native.Mathlib.Numerals.{add-one}
 use native.Mathlib.Omega.{arith}
 use lib.ListN.{length, get_or, take, length-set}
 use lib.Seq.{get_or-take, length-take-le}
-use Rattle.sheet.specs.Layout.{blankLash}
-use Rattle.sheet.specs.inner.Limits.{LashLimits}
-use Rattle.statics.specs.Lashes.{lashLength}
-use Rattle.statics.specs.inner.WholeNumbers.{stiffnessOf}
-use Rattle.chosen_lashes.proofs.Picked.{GatheredTo, gathered_none, gathered-skip, gathered-use, gathered-all, level-fits}
+use Rattle.sheet.specs.Layout.{blank_lash}
+use Rattle.sheet.specs.Inner.Limits.{LashLimits}
+use Rattle.statics.specs.Lashes.{lash_length}
+use Rattle.statics.specs.Inner.WholeNumbers.{stiffness_of}
+use Rattle.chosen_lashes.proofs.Picked.{GatheredTo, gathered_none, gathered_skip, gathered_use, gathered_all, level_fits}
 use Rattle.chosen_lashes.proofs.gather.Statement.{statement}
 use Rattle.chosen_lashes.proofs.gather.Tie as tie
 
@@ -37,13 +37,13 @@ counted c = length-take-le c.args.m c.args.t2 (omega (arith, c.requires.0.0, c.w
 own :
     (c : tie.In-loop invariant-loop decreases-loop) →
     let a = (start c.before).args in
-    get_or (take a.m a.t2) c.before.loop.j blankLash ≡ get_or a.t2 c.before.loop.j blankLash
+    get_or (take a.m a.t2) c.before.loop.j blank_lash ≡ get_or a.t2 c.before.loop.j blank_lash
 own c =
     let a = (start c.before).args in
-    get_or-take a.m a.t2 c.before.loop.j blankLash c.loop-test.true
+    get_or-take a.m a.t2 c.before.loop.j blank_lash c.loop-test.true
 
-lash-limits : (c : tie.In-loop invariant-loop decreases-loop) → LashLimits 10 (get_or (start c.before).args.t2 c.before.loop.j blankLash)
-lash-limits c = rw (own c) at ((start c.before).pre.0.1 c.before.loop.j c.loop-test.true)
+lash_limits : (c : tie.In-loop invariant-loop decreases-loop) → LashLimits 10 (get_or (start c.before).args.t2 c.before.loop.j blank_lash)
+lash_limits c = rw (own c) at ((start c.before).pre.0.1 c.before.loop.j c.loop-test.true)
 
 few : (c : tie.Start invariant-loop decreases-loop) → length (take c.args.m c.args.t2) ≤ 8
 few c = omega (arith, counted c, c.requires.0.0)
@@ -51,7 +51,7 @@ few c = omega (arith, counted c, c.requires.0.0)
 each :
     (c : tie.Start invariant-loop decreases-loop) (k : ℕ) →
     k < length (take c.args.m c.args.t2) →
-    LashLimits 10 (get_or (take c.args.m c.args.t2) k blankLash)
+    LashLimits 10 (get_or (take c.args.m c.args.t2) k blank_lash)
 each c k q = c.requires.0.1 k (omega (arith, q, counted c))
 
 passed :
@@ -87,7 +87,7 @@ array-copy-out-l : tie.Need-array-copy-out-l invariant-loop decreases-loop
 array-copy-out-l c = search rules
 
 hook-level-requires : tie.Need-hook-level-requires invariant-loop decreases-loop
-hook-level-requires c κs = lash-limits c.before.before
+hook-level-requires c κs = lash_limits c.before.before
 
 sub_at : tie.Need-overflow-sub-at invariant-loop decreases-loop
 sub_at c = search rules
@@ -141,7 +141,7 @@ add-levels c =
     let b = start t.before in
     let h = k.hook-level.ensures in
     let found = b.pre.1.0.stiff.each t.before.loop.j t.loop-test.taken in
-    record { fits = level-fits (few b) (each b) t.before.loop.inv.3 (passed t) (omega (arith, h.1, h.2)) found }
+    record { fits = level_fits (few b) (each b) t.before.loop.inv.3 (passed t) (omega (arith, h.1, h.2)) found }
 
 mul-levels-3 : tie.Need-overflow-mul-levels-3 invariant-loop decreases-loop
 mul-levels-3 c = search rules
@@ -172,14 +172,14 @@ loop-again c =
       length-set l.long _ _ ∙ v.0,
       length-set l.stiff _ _ ∙ v.1,
       length-set l.levels _ _ ∙ v.2,
-      gathered-use (few b) (each b) v.3 (passed t) (own t) (eq-eqb _ 1 w.0.taken)
-          (found.long.each l.j t.loop-test.true ∙ ap lashLength (own t))
-          (found.stiff.each l.j t.loop-test.true ∙ ap stiffnessOf (own t))
+      gathered_use (few b) (each b) v.3 (passed t) (own t) (eq-eqb _ 1 w.0.taken)
+          (found.long.each l.j t.loop-test.true ∙ ap lash_length (own t))
+          (found.stiff.each l.j t.loop-test.true ∙ ap stiffness_of (own t))
           (omega (arith, h.0, h.1)) (omega (arith, h.1, h.2)),
     ))
     (λ w.
     rw (w.1, w.2, w.3, w.4, w.5, add-one l.j)
-    (v.0, v.1, v.2, gathered-skip (few b) (each b) v.3 (passed t) (ne_eqb _ 1 w.0.left)))
+    (v.0, v.1, v.2, gathered_skip (few b) (each b) v.3 (passed t) (ne_eqb _ 1 w.0.left)))
     c.if1.branch
 
 same_length : tie.Need-same-length invariant-loop decreases-loop
@@ -192,7 +192,7 @@ same-length-3 : tie.Need-same-length-3 invariant-loop decreases-loop
 same-length-3 c = search rules
 
 returns : tie.Need-returns invariant-loop decreases-loop
-returns c = gathered-all (omega (arith, counted (start c.before), c.loop-test.false)) c.before.loop.invariant.3
+returns c = gathered_all (omega (arith, counted (start c.before), c.loop-test.false)) c.before.loop.invariant.3
 
 pub gather-spec : {M : Type 1} → statement M
 gather-spec =

@@ -4,20 +4,20 @@ use mathlib.Core.Path.{◌≡◌, refl}
 use native.Mathlib.Omega.{arith}
 use lib.ListN.{get_or}
 use borrow.Author.Rules.{rules}
-use Rattle.end_verdict.specs.inner.NoneOver.{noneOver}
-use Rattle.end_verdict.proofs.NoneFound.{kept-none, kept_more, kept-all}
+use Rattle.end_verdict.specs.Inner.NoneOver.{none_over}
+use Rattle.end_verdict.proofs.NoneFound.{kept_none, kept_more, kept_all}
 use Rattle.end_verdict.proofs.all_kept.Statement.{statement}
 use Rattle.end_verdict.proofs.all_kept.Tie as tie
 
 abbrev invariant-loop : tie.invariant-loop
 invariant-loop first xs limit n kept₀ k₀ kept k =
-    (k ≤ n) × (kept ≡ noneOver (λ i. get_or xs i 0) (λ i. limit) first k)
+    (k ≤ n) × (kept ≡ none_over (λ i. get_or xs i 0) (λ i. limit) first k)
 
 abbrev decreases-loop : tie.decreases-loop
 decreases-loop first xs limit n kept₀ k₀ kept k = n - k
 
 loop-holds : tie.Need-loop-init invariant-loop decreases-loop
-loop-holds c = (omega arith, kept-none _ _ _)
+loop-holds c = (omega arith, kept_none _ _ _)
 
 add_kept : tie.Need-overflow-add-kept invariant-loop decreases-loop
 add_kept c = search rules
@@ -42,7 +42,7 @@ loop-again c =
 returns : tie.Need-returns invariant-loop decreases-loop
 returns c =
     let l = c.before.loop in
-    kept-all _ _ _ l.k l.invariant.1 _ (omega arith) (omega arith)
+    kept_all _ _ _ l.k l.invariant.1 _ (omega arith) (omega arith)
 
 pub all-kept-spec : {M : Type 1} → statement M
 all-kept-spec =

@@ -1,8 +1,8 @@
 -- `end_verdict::no_finding`: no kind has a size over its limit.
 use borrow.Author.Rules.{rules}
-use Rattle.answer.specs.Limits.{lashVerticalLimit}
-use Rattle.statics.specs.inner.InArrays.{figuresIn}
-use Rattle.end_verdict.proofs.NoneFound.{kinds_kept, rest-kept}
+use Rattle.answer.specs.Limits.{lash_vertical_limit}
+use Rattle.statics.specs.Inner.InArrays.{figures_in}
+use Rattle.end_verdict.proofs.NoneFound.{kinds_kept, rest_kept}
 use Rattle.end_verdict.proofs.no_finding.Statement.{statement}
 use Rattle.end_verdict.proofs.no_finding.Tie as tie
 
@@ -92,12 +92,12 @@ returns c =
     let k = t.before.before in
     let r = k.before.before in
     let a = r.before.before.before.args in
-    kinds_kept a.n a.pull a.lashes a.m (figuresIn a.racking.now a.levels.now a.forces.now)
+    kinds_kept a.n a.pull a.lashes a.m (figures_in a.racking.now a.levels.now a.forces.now)
     r.rackings-kept.ensures
     k.all-kept.ensures
-    (rest-kept 11 a.levels.now (λ i. a.pull.limit) 0 a.n t.all-kept2.ensures)
+    (rest_kept 11 a.levels.now (λ i. a.pull.limit) 0 a.n t.all-kept2.ensures)
     p.pulls-kept.ensures
-    (rest-kept 16 a.forces.now (λ j. lashVerticalLimit) 0 a.m v.all-kept3.ensures)
+    (rest_kept 16 a.forces.now (λ j. lash_vertical_limit) 0 a.m v.all-kept3.ensures)
     c.all-kept4.ensures
 
 pub no-finding-spec : {M : Type 1} → statement M

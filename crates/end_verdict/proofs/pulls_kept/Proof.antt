@@ -1,24 +1,24 @@
 -- `end_verdict::pulls_kept`: none of the tensions passed exceeds its lash's safe load.
 use Prim.Native.Nat.{◌-◌, ◌≤◌}
 use mathlib.Core.Path.{◌≡◌}
-use Rattle.answer_put.specs.inner.Puts.{lashLimit}
+use Rattle.answer_put.specs.Inner.Puts.{lash_limit}
 use native.Mathlib.Omega.{arith}
 use lib.ListN.{get_or}
 use borrow.Author.Rules.{rules}
-use Rattle.end_verdict.specs.inner.NoneOver.{noneOver}
-use Rattle.end_verdict.proofs.NoneFound.{kept-none, kept_more, kept-all, zero-first}
+use Rattle.end_verdict.specs.Inner.NoneOver.{none_over}
+use Rattle.end_verdict.proofs.NoneFound.{kept_none, kept_more, kept_all, zero_first}
 use Rattle.end_verdict.proofs.pulls_kept.Statement.{statement}
 use Rattle.end_verdict.proofs.pulls_kept.Tie as tie
 
 abbrev invariant-loop : tie.invariant-loop
 invariant-loop xs m lashes kept₀ j₀ kept j =
-    (j ≤ m) × (kept ≡ noneOver (λ k. get_or xs k 0) (lashLimit lashes) 0 j)
+    (j ≤ m) × (kept ≡ none_over (λ k. get_or xs k 0) (lash_limit lashes) 0 j)
 
 abbrev decreases-loop : tie.decreases-loop
 decreases-loop xs m lashes kept₀ j₀ kept j = m - j
 
 loop-holds : tie.Need-loop-init invariant-loop decreases-loop
-loop-holds c = (omega arith, kept-none _ _ _)
+loop-holds c = (omega arith, kept_none _ _ _)
 
 mul-l : tie.Need-overflow-mul-l invariant-loop decreases-loop
 mul-l c = search rules
@@ -48,13 +48,13 @@ loop-again c =
     let a = s.before.before.before.before.before.args in
     let xs = a.xs.now in
     let lashes = a.t1 in
-    let same = zero-first l.j (λ k. get_or xs k 0) (lashLimit lashes) in
+    let same = zero_first l.j (λ k. get_or xs k 0) (lash_limit lashes) in
     (omega arith, rw s.safe-load.ensures (kept_more (λ k. get_or xs k 0) _ 0 l.j l.invariant.1 same))
 
 returns : tie.Need-returns invariant-loop decreases-loop
 returns c =
     let l = c.before.loop in
-    kept-all _ _ _ l.j l.invariant.1 _ (omega arith) (omega arith)
+    kept_all _ _ _ l.j l.invariant.1 _ (omega arith) (omega arith)
 
 pub pulls-kept-spec : {M : Type 1} → statement M
 pulls-kept-spec =

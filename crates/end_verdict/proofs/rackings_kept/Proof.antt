@@ -6,24 +6,24 @@ use lib.IntN.{pos, nat_abs}
 use mir.Syntax.{w32}
 use mir.Val.{SFits}
 use mir.ValLaws.{to_z-of_z}
-use Rattle.answer.specs.Limits.{rackingLimit}
+use Rattle.answer.specs.Limits.{racking_limit}
 use native.Mathlib.Omega.{arith}
 use lib.ListN.{get_or}
 use borrow.Author.Rules.{rules}
-use Rattle.end_verdict.specs.inner.NoneOver.{noneOver}
-use Rattle.end_verdict.proofs.NoneFound.{kept-none, kept_more, kept-all}
+use Rattle.end_verdict.specs.Inner.NoneOver.{none_over}
+use Rattle.end_verdict.proofs.NoneFound.{kept_none, kept_more, kept_all}
 use Rattle.end_verdict.proofs.rackings_kept.Statement.{statement}
 use Rattle.end_verdict.proofs.rackings_kept.Tie as tie
 
 abbrev invariant-loop : tie.invariant-loop
 invariant-loop xs n kept₀ k₀ kept k =
-    (k ≤ n) × (kept ≡ noneOver (λ i. nat_abs (get_or xs (i - 1) (pos 0))) (λ i. rackingLimit) 1 k)
+    (k ≤ n) × (kept ≡ none_over (λ i. nat_abs (get_or xs (i - 1) (pos 0))) (λ i. racking_limit) 1 k)
 
 abbrev decreases-loop : tie.decreases-loop
 decreases-loop xs n kept₀ k₀ kept k = n - k
 
 loop-holds : tie.Need-loop-init invariant-loop decreases-loop
-loop-holds c = (omega arith, kept-none _ _ _)
+loop-holds c = (omega arith, kept_none _ _ _)
 
 mul-racking-over : tie.Need-overflow-mul-racking-over invariant-loop decreases-loop
 mul-racking-over c = search rules
@@ -46,13 +46,13 @@ loop-again c =
     let xs = c.before.before.before.before.args.xs.now in
     let g : SFits w32 (get_or xs l.k (pos 0)) = search rules in
     let b : l.k ≡ 1 + l.k - 1 = omega arith in
-    let e = (rw (to_z-of_z w32 _ g) at c.racking-over.ensures) ∙ ap (λ (i : ℕ). ltb rackingLimit (nat_abs (get_or xs i (pos 0)))) b in
+    let e = (rw (to_z-of_z w32 _ g) at c.racking_over.ensures) ∙ ap (λ (i : ℕ). ltb racking_limit (nat_abs (get_or xs i (pos 0)))) b in
     (omega arith, kept_more _ _ _ l.k l.invariant.1 e)
 
 returns : tie.Need-returns invariant-loop decreases-loop
 returns c =
     let l = c.before.loop in
-    kept-all _ _ _ l.k l.invariant.1 _ (omega arith) (omega arith)
+    kept_all _ _ _ l.k l.invariant.1 _ (omega arith) (omega arith)
 
 pub rackings-kept-spec : {M : Type 1} → statement M
 rackings-kept-spec =

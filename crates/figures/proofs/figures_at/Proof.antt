@@ -4,7 +4,7 @@ use mathlib.Core.Path.{◌≡◌, refl}
 use native.Mathlib.Omega.{arith}
 use lib.ListN.{length, take}
 use lib.Seq.{length-take-le}
-use Rattle.figures.proofs.EndLaws.{each-ten, end-measured, end-named}
+use Rattle.figures.proofs.EndLaws.{each_ten, end_measured, end_named}
 use Rattle.figures.proofs.figures_at.Statement.{statement}
 use Rattle.figures.proofs.figures_at.Tie as tie
 
@@ -16,7 +16,7 @@ abbrev lashed : tie.After-level-figures → tie.After-lash-figures
 lashed c = c.before.before.before.before.before.before.before.before.before
 
 counted : (c : tie.Start) → length (take c.args.m c.args.lashes) ≡ c.args.m
-counted c = length-take-le c.args.m c.args.lashes (omega (arith, c.requires.0.few-lashes, c.well-formed.1.1.1.0.1.0.1))
+counted c = length-take-le c.args.m c.args.lashes (omega (arith, c.requires.0.few_lashes, c.well-formed.1.1.1.0.1.0.1))
 
 slice-aggregate-lash-figures : tie.Need-slice-aggregate-lash-figures
 slice-aggregate-lash-figures c = search rules
@@ -28,7 +28,7 @@ lash-figures-requires : tie.Need-lash-figures-requires
 lash-figures-requires c κs =
     let b = c.before.before.before.before.before.before.before.before.before.before.before in
     let p = b.requires in (
-      (p.0.few-lashes, each-ten p.0 (counted b)),
+      (p.0.few_lashes, each_ten p.0 (counted b)),
       (p.1.1.0, ((p.1.1.1.0.0, p.1.1.1.0.1, p.1.0.2), (refl, refl, p.1.1.1.1.2))),
     )
 
@@ -44,7 +44,7 @@ level-figures-requires c κs =
     let b = entered l in
     let p = b.pre in
     let posts = l.lash-figures.ensures.1 in
-    (end-measured p.0 (counted b) p.1.1.0.1 posts.0 posts.1, (p.1.0, (p.1.1.1.1.0, p.1.1.1.1.1)))
+    (end_measured p.0 (counted b) p.1.1.0.1 posts.0 posts.1, (p.1.0, (p.1.1.1.1.0, p.1.1.1.1.1)))
 
 same_length : tie.Need-same-length
 same_length c = search rules
@@ -62,8 +62,8 @@ returns c =
     let b = entered l in
     let found = l.lash-figures.ensures in
     let levels = v.level-figures.ensures in (
-      λ ts w fits. end-named b.pre.0 (counted b) found.0.0 found.1.0 found.1.1 levels.0 w fits,
-      record { of-racking = levels.1.0; of-levels = levels.1.1; of-forces = found.0.1 },
+      λ ts w fits. end_named b.pre.0 (counted b) found.0.0 found.1.0 found.1.1 levels.0 w fits,
+      record { of_racking = levels.1.0; of_levels = levels.1.1; of_forces = found.0.1 },
     )
 
 pub figures-at-spec : {M : Type 1} → statement M

@@ -2,11 +2,11 @@
 use borrow.Author.Rules.{rules}
 use mathlib.Core.Path.{refl, ap₂, ◌∙◌}
 use Rattle.sheet.specs.Ends.{door, closed}
-use Rattle.sheet.proofs.SheetLimits.{sheet-limits}
-use Rattle.statics.specs.inner.Computed.{figuresBy}
-use Rattle.statics.proofs.EndChain.{exact-stands}
-use Rattle.figures.specs.inner.Ends.{endFigures}
-use Rattle.figures.proofs.EndLaws.{workable, named-fits}
+use Rattle.sheet.proofs.SheetLimits.{sheet_limits}
+use Rattle.statics.specs.Inner.Computed.{figures_by}
+use Rattle.statics.proofs.EndChain.{exact_stands}
+use Rattle.figures.specs.Inner.Ends.{end_figures}
+use Rattle.figures.proofs.EndLaws.{workable, named_fits}
 use Rattle.figures.proofs.figures_by.Statement.{statement}
 use Rattle.figures.proofs.figures_by.Tie as tie
 
@@ -35,7 +35,7 @@ slice-aggregate-loads-of-3 c = search rules
 loads-of-requires : tie.Need-loads-of-requires
 loads-of-requires c κs =
     let p = c.before.before.before.before.before.before.before.before.requires.0 in
-    ((p.0.few, p.1, p.2), ((sheet-limits p.0).each, (refl, refl, refl)))
+    ((p.0.few, p.1, p.2), ((sheet_limits p.0).each, (refl, refl, refl)))
 
 slice-aggregate-springs-of : tie.Need-slice-aggregate-springs-of
 slice-aggregate-springs-of c = search rules
@@ -67,13 +67,13 @@ figures-loaded-requires c κs =
     let l = loaded k in
     let b = entered l in
     let p = b.pre.0.0 in
-    let limits = sheet-limits p in
+    let limits = sheet_limits p in
     let e = l.loads-of.ensures in
     let found = k.springs-of.ensures in
     let springs = k.springs-of.kept.1.1 in
     let weights = l.loads-of.kept.1.1.1 in
     let ω = e.0.named in
-    let stands = exact-stands b.pre.0.1 b.pre.0.2 in (
+    let stands = exact_stands b.pre.0.1 b.pre.0.2 in (
       rw found.0 (workable limits door _ _ _ _ _ p.door.few e.0 e.1),
       (
         rw found.1 (workable limits closed _ _ _ _ _ p.closed.few e.0 e.1),
@@ -83,7 +83,7 @@ figures-loaded-requires c κs =
             (springs.0, springs.1.0, weights.1.1.0, weights.0, weights.1.0),
             (
               b.pre.1.0,
-              (b.pre.1.1, (named-fits limits door stands found.0 ω, named-fits limits closed stands found.1 ω)),
+              (b.pre.1.1, (named_fits limits door stands found.0 ω, named_fits limits closed stands found.1 ω)),
             ),
           ),
         ),
@@ -109,7 +109,7 @@ same-length-6 : tie.Need-same-length-6
 same-length-6 c = (figured c).figures-loaded.auto.1.1.1.1.1.1.1.1.1.1.1.0
 
 returns : tie.Need-returns
-unfolding figuresBy
+unfolding figures_by
 returns c =
     let f = figured c in
     let k = sprung f.before in
@@ -118,7 +118,7 @@ returns c =
     let found = k.springs-of.ensures in
     let ω = l.loads-of.ensures.0.named in
     let e = f.figures-loaded.ensures in
-    ((e.0.0 ∙ ap₂ (endFigures door t) found.0 ω, e.0.1), (e.1.0 ∙ ap₂ (endFigures closed t) found.1 ω, e.1.1))
+    ((e.0.0 ∙ ap₂ (end_figures door t) found.0 ω, e.0.1), (e.1.0 ∙ ap₂ (end_figures closed t) found.1 ω, e.1.1))
 
 pub figures-by-spec : {M : Type 1} → statement M
 figures-by-spec =

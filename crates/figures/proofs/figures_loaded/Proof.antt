@@ -4,8 +4,8 @@ use mathlib.Core.Path.{◌≡◌, refl}
 use native.Mathlib.Omega.{arith}
 use lib.ListN.{length, length-map}
 use lib.Seq.{length-take-le}
-use Rattle.sheet.specs.Ends.{door, closed, lashesOf}
-use Rattle.figures.proofs.EndLaws.{each-ten}
+use Rattle.sheet.specs.Ends.{door, closed, lashes_of}
+use Rattle.figures.proofs.EndLaws.{each_ten}
 use Rattle.figures.proofs.figures_loaded.Statement.{statement}
 use Rattle.figures.proofs.figures_loaded.Tie as tie
 
@@ -14,21 +14,21 @@ abbrev entered : tie.After-lash-stiffnesses → tie.Start
 entered c =
     c.before.before.before.before.before.before.before.before.before.before.before.before.before.before.before
 
-abbrev at-door : tie.After-lash-stiffnesses2 → tie.After-lash-stiffnesses
-at-door c = c.before.before.before.before.before.before.before
+abbrev at_door : tie.After-lash-stiffnesses2 → tie.After-lash-stiffnesses
+at_door c = c.before.before.before.before.before.before.before
 
 abbrev figured : tie.After-slice-known8 → tie.After-figures-both
 figured c = c.before.before.before.before.before.before.before.before.before.before
 
-door-counted : (c : tie.Start) → length (lashesOf door c.args.s) ≡ c.args.s.ndoor
+door-counted : (c : tie.Start) → length (lashes_of door c.args.s) ≡ c.args.s.ndoor
 door-counted c =
     let whole : length c.args.s.door ≡ 8 = simp length-map at c.well-formed.0.1.1.1.1.1.0.1.0.1 in
-    length-take-le c.args.s.ndoor c.args.s.door (omega (arith, c.requires.0.few-lashes))
+    length-take-le c.args.s.ndoor c.args.s.door (omega (arith, c.requires.0.few_lashes))
 
-closed-counted : (c : tie.Start) → length (lashesOf closed c.args.s) ≡ c.args.s.nclosed
+closed-counted : (c : tie.Start) → length (lashes_of closed c.args.s) ≡ c.args.s.nclosed
 closed-counted c =
     let whole : length c.args.s.closed ≡ 8 = simp length-map at c.well-formed.0.1.1.1.1.1.1.1.0.1.0.1 in
-    length-take-le c.args.s.nclosed c.args.s.closed (omega (arith, c.requires.1.0.few-lashes))
+    length-take-le c.args.s.nclosed c.args.s.closed (omega (arith, c.requires.1.0.few_lashes))
 
 slice-aggregate-lash-stiffnesses : tie.Need-slice-aggregate-lash-stiffnesses
 slice-aggregate-lash-stiffnesses c = search rules
@@ -43,7 +43,7 @@ lash-stiffnesses-requires : tie.Need-lash-stiffnesses-requires
 lash-stiffnesses-requires c κs =
     let b = c.before.before.before.before.before.before.before.before.before.before.before.before.before.before in
     let works = b.requires.0 in
-    ((works.few-lashes, each-ten works (door-counted b)), (refl, refl, refl))
+    ((works.few_lashes, each_ten works (door-counted b)), (refl, refl, refl))
 
 slice-aggregate-lash-stiffnesses-4 : tie.Need-slice-aggregate-lash-stiffnesses-4
 slice-aggregate-lash-stiffnesses-4 c = search rules
@@ -58,7 +58,7 @@ lash-stiffnesses-requires-2 : tie.Need-lash-stiffnesses-requires-2
 lash-stiffnesses-requires-2 c κs =
     let b = entered c.before.before.before.before.before.before in
     let works = b.pre.1.0 in
-    ((works.few-lashes, each-ten works (closed-counted b)), (refl, refl, refl))
+    ((works.few_lashes, each_ten works (closed-counted b)), (refl, refl, refl))
 
 slice-aggregate-figures-both : tie.Need-slice-aggregate-figures-both
 slice-aggregate-figures-both c = search rules
@@ -81,7 +81,7 @@ slice-aggregate-figures-both-6 c = search rules
 figures-both-requires : tie.Need-figures-both-requires
 figures-both-requires c κs =
     let there = c.before.before.before.before.before.before.before.before.before.before.before.before.before.before.before in
-    let here = at-door there in
+    let here = at_door there in
     let p = (entered here).pre in
     let one = here.lash-stiffnesses in
     let two = there.lash-stiffnesses2 in

@@ -6,12 +6,12 @@ use native.Mathlib.Numerals.{add-one}
 use native.Mathlib.Omega.{arith}
 use lib.ListN.{get_or, length, take}
 use lib.Seq.{get_or-take}
-use Rattle.sheet.specs.inner.Limits.{LashLimits}
-use Rattle.statics.specs.inner.WholeNumbers.{stiffnessOf}
-use Rattle.statics.proofs.LashStiffness.{stiffness-most}
-use Rattle.sheet.specs.Layout.{blankLash}
+use Rattle.sheet.specs.Inner.Limits.{LashLimits}
+use Rattle.statics.specs.Inner.WholeNumbers.{stiffness_of}
+use Rattle.statics.proofs.LashStiffness.{stiffness_most}
+use Rattle.sheet.specs.Layout.{blank_lash}
 use Rattle.figures_lashes.proofs.LashLoops.{Listed, listed, carried}
-use Rattle.figures_lashes.proofs.LashLoops.{FiguredTo, figured-none, sums-fit, figured-more, figured-all}
+use Rattle.figures_lashes.proofs.LashLoops.{FiguredTo, figured_none, sums_fit, figured_more, figured_all}
 use Rattle.figures_lashes.proofs.lash_figures.Statement.{statement}
 use Rattle.figures_lashes.proofs.lash_figures.Tie as tie
 
@@ -50,18 +50,18 @@ figured c = c.before.before
 own :
     (c : tie.In-loop invariant-loop decreases-loop) →
     let a = (start c.before).args in
-    get_or (take a.m a.t1) c.before.loop.j blankLash ≡ get_or a.t1 c.before.loop.j blankLash
+    get_or (take a.m a.t1) c.before.loop.j blank_lash ≡ get_or a.t1 c.before.loop.j blank_lash
 own c =
     let a = (start c.before).args in
-    get_or-take a.m a.t1 c.before.loop.j blankLash c.loop-test.true
+    get_or-take a.m a.t1 c.before.loop.j blank_lash c.loop-test.true
 
-lash-limits : (c : tie.In-loop invariant-loop decreases-loop) → LashLimits 10 (get_or (start c.before).args.t1 c.before.loop.j blankLash)
-lash-limits c = rw (own c) at ((start c.before).pre.0.1 c.before.loop.j c.loop-test.true)
+lash_limits : (c : tie.In-loop invariant-loop decreases-loop) → LashLimits 10 (get_or (start c.before).args.t1 c.before.loop.j blank_lash)
+lash_limits c = rw (own c) at ((start c.before).pre.0.1 c.before.loop.j c.loop-test.true)
 
 stiffness :
     (c : tie.In-loop invariant-loop decreases-loop) →
     let a = (start c.before).args in
-    get_or a.stiffnesses.now c.before.loop.j 0 ≡ stiffnessOf (get_or a.t1 c.before.loop.j blankLash)
+    get_or a.stiffnesses.now c.before.loop.j 0 ≡ stiffness_of (get_or a.t1 c.before.loop.j blank_lash)
 stiffness c = rw (own c) at ((start c.before).pre.1.0.0.stiff.each c.before.loop.j c.loop-test.true)
 
 athwart :
@@ -70,7 +70,7 @@ athwart :
     let t = turn k in
     let a = (start t.before).args in
     c.athwart-part.result
-    ≡ stiffnessOf (get_or a.t1 t.before.loop.j blankLash) * get_or a.d.now k.hook-level.result 0 / 2 ^ 32
+    ≡ stiffness_of (get_or a.t1 t.before.loop.j blank_lash) * get_or a.d.now k.hook-level.result 0 / 2 ^ 32
 athwart c = rw (stiffness (turn (hooked (cornered c)))) at c.athwart-part.ensures.0
 
 -- the sums of the two posts at the lash's corner, with what on_posts found of it
@@ -88,7 +88,7 @@ sums o =
     let t = turn k in
     let b = start t.before in
     let e = o.on-posts.ensures in
-    sums-fit (lashes-of b) t.before.loop.inv t.loop-test.taken (own t) k.hook-level.ensures.0
+    sums_fit (lashes-of b) t.before.loop.inv t.loop-test.taken (own t) k.hook-level.ensures.0
     r.hook-corner.ensures.0 (athwart x) o.before.lashing-of.ensures e.0 e.1
 
 -- .. and where its forces are stored
@@ -99,13 +99,13 @@ room :
 room o =
     let t = turn (hooked (cornered (parted (figured o)))) in
     let inside : t.before.loop.j < 8 = omega (arith, (start t.before).pre.0.0, t.loop-test.taken) in
-    let long = t.before.loop.inv.forces-long in
+    let long = t.before.loop.inv.forces_long in
     (omega arith, omega arith)
 
 loop-holds : tie.Need-loop-init invariant-loop decreases-loop
 loop-holds c =
     let p = c.before.before.before.before.before.before.requires.1.1.1 in
-    rw (p.0, p.1, p.2) figured-none
+    rw (p.0, p.1, p.2) figured_none
 
 mul-l : tie.Need-overflow-mul-l invariant-loop decreases-loop
 mul-l c = search rules
@@ -114,10 +114,10 @@ array-copy-out-l : tie.Need-array-copy-out-l invariant-loop decreases-loop
 array-copy-out-l c = search rules
 
 hook-level-requires : tie.Need-hook-level-requires invariant-loop decreases-loop
-hook-level-requires c κs = lash-limits c.before
+hook-level-requires c κs = lash_limits c.before
 
 hook-corner-requires : tie.Need-hook-corner-requires invariant-loop decreases-loop
-hook-corner-requires c κs = lash-limits (turn c)
+hook-corner-requires c κs = lash_limits (turn c)
 
 mul-athwart-part : tie.Need-overflow-mul-athwart-part invariant-loop decreases-loop
 mul-athwart-part c = search rules
@@ -136,7 +136,7 @@ athwart-part-requires c κs =
     let k = hooked c.before.before in
     let t = turn k in
     let b = start t.before in
-    (rw (stiffness t) (stiffness-most _ (lash-limits t)), b.pre.1.0.1 k.hook-level.result)
+    (rw (stiffness t) (stiffness_most _ (lash_limits t)), b.pre.1.0.1 k.hook-level.result)
 
 mul-forces-of : tie.Need-overflow-mul-forces-of invariant-loop decreases-loop
 mul-forces-of c = search rules
@@ -148,7 +148,7 @@ forces-of-requires : tie.Need-forces-of-requires invariant-loop decreases-loop
 forces-of-requires c κs =
     let t = turn (hooked (cornered c.before)) in
     let g = (start t.before).pre.1.0.0 in
-    (lash-limits t, rw (own t) at (g.long.each t.before.loop.j t.loop-test.taken), c.before.athwart-part.ensures.1)
+    (lash_limits t, rw (own t) at (g.long.each t.before.loop.j t.loop-test.taken), c.before.athwart-part.ensures.1)
 
 lashing-of-requires : tie.Need-lashing-of-requires invariant-loop decreases-loop
 lashing-of-requires c κs = search rules
@@ -156,7 +156,7 @@ lashing-of-requires c κs = search rules
 on-posts-requires : tie.Need-on-posts-requires invariant-loop decreases-loop
 on-posts-requires c κs =
     let x = parted c.before in
-    rw (c.lashing-of.ensures, carried _) (lash-limits (turn (hooked (cornered x))))
+    rw (c.lashing-of.ensures, carried _) (lash_limits (turn (hooked (cornered x))))
 
 mul-forces : tie.Need-overflow-mul-forces invariant-loop decreases-loop
 mul-forces c = search rules
@@ -231,7 +231,7 @@ loop-again c =
     let e = o.on-posts.ensures in
     let q = f.forces-of.ensures in
     rw (e.0, e.1, o.before.lashing-of.ensures, add-one l.j)
-    (figured-more (lashes-of b) l.inv t.loop-test.taken (own t) k.hook-level.ensures.0
+    (figured_more (lashes-of b) l.inv t.loop-test.taken (own t) k.hook-level.ensures.0
     r.hook-corner.ensures.0 (athwart x) (omega (arith, r.hook-corner.ensures.1)) q.0 q.1.0 q.1.1)
 
 same_length : tie.Need-same-length invariant-loop decreases-loop
@@ -246,8 +246,8 @@ same-length-3 c = search rules
 returns : tie.Need-returns invariant-loop decreases-loop
 returns c =
     let b = start c.before in
-    let s = figured-all (lashes-of b) c.loop-test.false c.before.loop.invariant in
-    ((s.0, c.before.loop.invariant.forces-long), (s.1, s.2))
+    let s = figured_all (lashes-of b) c.loop-test.false c.before.loop.invariant in
+    ((s.0, c.before.loop.invariant.forces_long), (s.1, s.2))
 
 pub lash-figures-spec : {M : Type 1} → statement M
 lash-figures-spec =

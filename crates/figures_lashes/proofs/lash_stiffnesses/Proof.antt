@@ -2,12 +2,12 @@
 use mathlib.Core.Path.{◌≡◌}
 use lib.ListN.{get_or, take}
 use lib.Seq.{get_or-take}
-use Rattle.sheet.specs.Layout.{blankLash}
-use Rattle.figures_lashes.proofs.LashLoops.{Listed, listed, MeasuredTo, measured-none, level-fits, measured-more, measured-all}
+use Rattle.sheet.specs.Layout.{blank_lash}
+use Rattle.figures_lashes.proofs.LashLoops.{Listed, listed, MeasuredTo, measured_none, level_fits, measured_more, measured_all}
 use Prim.Native.Nat.{◌-◌}
 use native.Mathlib.Numerals.{add-one}
 use native.Mathlib.Omega.{arith}
-use Rattle.sheet.specs.inner.Limits.{LashLimits}
+use Rattle.sheet.specs.Inner.Limits.{LashLimits}
 use borrow.Author.Rules.{rules}
 use Rattle.figures_lashes.proofs.lash_stiffnesses.Statement.{statement}
 use Rattle.figures_lashes.proofs.lash_stiffnesses.Tie as tie
@@ -33,18 +33,18 @@ turn c = c.before.before.before.before
 own :
     (c : tie.In-loop invariant-loop decreases-loop) →
     let a = (start c.before).args in
-    get_or (take a.m a.t1) c.before.loop.j blankLash ≡ get_or a.t1 c.before.loop.j blankLash
+    get_or (take a.m a.t1) c.before.loop.j blank_lash ≡ get_or a.t1 c.before.loop.j blank_lash
 own c =
     let a = (start c.before).args in
-    get_or-take a.m a.t1 c.before.loop.j blankLash c.loop-test.true
+    get_or-take a.m a.t1 c.before.loop.j blank_lash c.loop-test.true
 
-lash-limits : (c : tie.In-loop invariant-loop decreases-loop) → LashLimits 10 (get_or (start c.before).args.t1 c.before.loop.j blankLash)
-lash-limits c = rw (own c) at ((start c.before).pre.0.1 c.before.loop.j c.loop-test.true)
+lash_limits : (c : tie.In-loop invariant-loop decreases-loop) → LashLimits 10 (get_or (start c.before).args.t1 c.before.loop.j blank_lash)
+lash_limits c = rw (own c) at ((start c.before).pre.0.1 c.before.loop.j c.loop-test.true)
 
 loop-holds : tie.Need-loop-init invariant-loop decreases-loop
 loop-holds c =
     let p = c.before.before.before.requires.1 in
-    rw (p.0, p.1, p.2) measured-none
+    rw (p.0, p.1, p.2) measured_none
 
 mul-l : tie.Need-overflow-mul-l invariant-loop decreases-loop
 mul-l c = search rules
@@ -53,13 +53,13 @@ array-copy-out-l : tie.Need-array-copy-out-l invariant-loop decreases-loop
 array-copy-out-l c = search rules
 
 search-requires : tie.Need-search-requires invariant-loop decreases-loop
-search-requires c κs = lash-limits c.before
+search-requires c κs = lash_limits c.before
 
 stiffness-of-requires : tie.Need-stiffness-of-requires invariant-loop decreases-loop
-stiffness-of-requires c κs = (lash-limits c.before.before, c.search.ensures.1)
+stiffness-of-requires c κs = (lash_limits c.before.before, c.search.ensures.1)
 
 hook-level-requires : tie.Need-hook-level-requires invariant-loop decreases-loop
-hook-level-requires c κs = lash-limits c.before.before.before
+hook-level-requires c κs = lash_limits c.before.before.before
 
 sub_at : tie.Need-overflow-sub-at invariant-loop decreases-loop
 sub_at c = search rules
@@ -89,7 +89,7 @@ add-levels c =
     let h = k.hook-level.ensures in
     let g = lashes-of (start t.before) in
     let stiff = k.before.stiffness-of.ensures in
-    record { fits = level-fits g t.before.loop.inv t.loop-test.taken (own t) stiff (omega (arith, h.0, h.1)) }
+    record { fits = level_fits g t.before.loop.inv t.loop-test.taken (own t) stiff (omega (arith, h.0, h.1)) }
 
 mul-levels-2 : tie.Need-overflow-mul-levels-2 invariant-loop decreases-loop
 mul-levels-2 c = search rules
@@ -113,7 +113,7 @@ loop-again c =
     let stiff = k.before.stiffness-of.ensures in
     let long = k.before.before.search.ensures.1 in
     rw (add-one l.j)
-    (measured-more g l.inv t.loop-test.taken (own t) stiff (omega (arith, h.0, h.1)) long (omega (arith, h.1, h.2)))
+    (measured_more g l.inv t.loop-test.taken (own t) stiff (omega (arith, h.0, h.1)) long (omega (arith, h.1, h.2)))
 
 same_length : tie.Need-same-length invariant-loop decreases-loop
 same_length c = search rules
@@ -125,7 +125,7 @@ same-length-3 : tie.Need-same-length-3 invariant-loop decreases-loop
 same-length-3 c = search rules
 
 returns : tie.Need-returns invariant-loop decreases-loop
-returns c = measured-all (lashes-of (start c.before)) c.loop-test.false c.before.loop.invariant
+returns c = measured_all (lashes-of (start c.before)) c.loop-test.false c.before.loop.invariant
 
 pub lash-stiffnesses-spec : {M : Type 1} → statement M
 lash-stiffnesses-spec =

@@ -8,10 +8,10 @@ use lib.ListN.{get_or, length, length-set}
 use lib.Seq.{get_or-take, get_or-drop}
 use mir.Syntax.{w32}
 use mir.ValLaws.{to_z-of_z}
-use Rattle.arith.proofs.Sizes.{small_pos, small-weaken}
-use Rattle.statics.specs.inner.WholeNumbers.{leeFound, windwardFound}
-use Rattle.statics.specs.inner.InArrays.{mostIn, leastIn}
-use Rattle.figures_levels.proofs.Descent.{FiguredFrom, at_top, turned-once, at-foot}
+use Rattle.arith.proofs.Sizes.{small_pos, small_weaken}
+use Rattle.statics.specs.Inner.WholeNumbers.{lee_found, windward_found}
+use Rattle.statics.specs.Inner.InArrays.{most_in, least_in}
+use Rattle.figures_levels.proofs.Descent.{FiguredFrom, at_top, turned_once, at_foot}
 use Rattle.arith.proofs.SignedWords.{held}
 use Rattle.figures_levels.proofs.level_figures.Statement.{statement}
 use Rattle.figures_levels.proofs.level_figures.Tie as tie
@@ -55,11 +55,11 @@ room c =
     let t = turn (racked (bottomed c)) in
     omega (arith, under t, (start t.before).pre.0.few)
 
-room-racking :
+room_racking :
     (c : tie.After-parts-at3 invariant-loop decreases-loop) →
     let l = (turn (racked (bottomed c))).before.loop in
     l.i - 1 < length l.racking
-room-racking c = omega (arith, room c, (turn (racked (bottomed c))).before.loop.inv.racked.long)
+room_racking c = omega (arith, room c, (turn (racked (bottomed c))).before.loop.inv.racked.long)
 
 -- .. and those of the top level
 room-at-top : (c : tie.Start invariant-loop decreases-loop) → c.args.n < length c.args.levels.now
@@ -69,10 +69,10 @@ room-at-top c = rw c.requires.1.1.1 (omega (arith, c.requires.0.few))
 most :
     (c : tie.Start invariant-loop decreases-loop) (j : ℕ) →
     j ≤ c.args.n →
-    get_or (mostIn c.args.weights.now) j 0 ≡ get_or c.args.weights.now j 0
+    get_or (most_in c.args.weights.now) j 0 ≡ get_or c.args.weights.now j 0
 most c j h = get_or-take 11 c.args.weights.now j 0 (omega (arith, c.requires.0.few))
 
-least : (c : tie.Start invariant-loop decreases-loop) (j : ℕ) → get_or (leastIn c.args.weights.now) j 0 ≡ get_or c.args.weights.now (11 + j) 0
+least : (c : tie.Start invariant-loop decreases-loop) (j : ℕ) → get_or (least_in c.args.weights.now) j 0 ≡ get_or c.args.weights.now (11 + j) 0
 least c j = get_or-drop 11 c.args.weights.now j 0
 
 stacked : (c : tie.Start invariant-loop decreases-loop) → c.args.n ≤ length c.args.heights.now
@@ -96,10 +96,10 @@ compression-of-requires c κs =
     let n = b.args.n in
     let e = c.before.parts_at.ensures in
     let m = b.pre.0 in (
-      rw (most b n (omega arith)) at (m.vmax-light n),
+      rw (most b n (omega arith)) at (m.vmax_light n),
       small_pos (lit≤ tt),
-      omega (arith, e.0, m.lee-small (2 * n)),
-      omega (arith, e.1, m.windward-small (2 * n)),
+      omega (arith, e.0, m.lee_small (2 * n)),
+      omega (arith, e.1, m.windward_small (2 * n)),
     )
 
 mul-levels : tie.Need-overflow-mul-levels invariant-loop decreases-loop
@@ -111,7 +111,7 @@ slice-write-levels c =
     search (rules, room-at-top b)
 
 loop-holds : tie.Need-loop-init invariant-loop decreases-loop
-unfolding leeFound windwardFound
+unfolding lee_found windward_found
 loop-holds c =
     let p = c.before.before in
     let b = entry p in
@@ -203,17 +203,17 @@ level-under-requires c κs =
     let p = r.racking-part.ensures.1 in
     let e = (bottomed o).parts-at2.ensures in
     let f = o.parts-at3.ensures in (
-      (small-weaken l.inv.moment-small (omega (arith, m.few)), rw (held p (lit< tt)) p, m.heights j w),
+      (small_weaken l.inv.moment_small (omega (arith, m.few)), rw (held p (lit< tt)) p, m.heights j w),
       (
-        (omega (arith, l.inv.lees-small, m.few), omega (arith, l.inv.windwards-small, m.few)),
+        (omega (arith, l.inv.lees_small, m.few), omega (arith, l.inv.windwards_small, m.few)),
         (
           (
-            rw e.0 (m.lee-small _),
-            rw e.1 (m.windward-small _),
-            rw f.0 (m.lee-small _),
-            rw f.1 (m.windward-small _),
+            rw e.0 (m.lee_small _),
+            rw e.1 (m.windward_small _),
+            rw f.0 (m.lee_small _),
+            rw f.1 (m.windward_small _),
           ),
-          (rw (most b j (omega (arith, w))) at (m.vmax-light j), rw (least b j) at (m.vmin-light j)),
+          (rw (most b j (omega (arith, w))) at (m.vmax_light j), rw (least b j) at (m.vmin_light j)),
         ),
       ),
     )
@@ -227,7 +227,7 @@ mul-force : tie.Need-overflow-mul-force invariant-loop decreases-loop
 mul-force c = search (rules, room (parted c.before))
 
 slice-set-from-force : tie.Need-slice-set-from-force invariant-loop decreases-loop
-slice-set-from-force c = search (rules, room-racking (parted c.before))
+slice-set-from-force c = search (rules, room_racking (parted c.before))
 
 mul-levels-2 : tie.Need-overflow-mul-levels-2 invariant-loop decreases-loop
 mul-levels-2 c = search (rules, room (parted c.before))
@@ -244,7 +244,7 @@ mul-levels-3 c = search (rules, room (parted c.before))
 slice-write-levels-3 : tie.Need-slice-write-levels-3 invariant-loop decreases-loop
 slice-write-levels-3 c =
     let o = parted c.before in
-    simp length-set (omega (arith, room o, (turn (racked (bottomed o))).before.loop.inv.levels-long))
+    simp length-set (omega (arith, room o, (turn (racked (bottomed o))).before.loop.inv.levels_long))
 
 loop-less : tie.Need-loop-smaller invariant-loop decreases-loop
 loop-less c = search rules
@@ -263,7 +263,7 @@ loop-again c =
     let q = (bottomed o).parts-at2.ensures in
     let s = o.parts-at3.ensures in
     let e = u.level-under.ensures in
-    turned-once
+    turned_once
     b.pre.0
     (stacked b)
     t.loop-test.taken
@@ -291,7 +291,7 @@ returns : tie.Need-returns invariant-loop decreases-loop
 returns c =
     let b = start c.before in
     let s = c.before.loop.invariant in
-    (at-foot b.pre.0 (stacked b) c.loop-test.false s, (s.racked.long, s.levels-long))
+    (at_foot b.pre.0 (stacked b) c.loop-test.false s, (s.racked.long, s.levels_long))
 
 pub level-figures-spec : {M : Type 1} → statement M
 level-figures-spec =

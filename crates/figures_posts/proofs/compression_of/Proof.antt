@@ -3,8 +3,8 @@ use Prim.Native.Nat.{◌*◌, ◌^◌}
 use mathlib.Core.Path.{◌≡◌}
 use lib.Dec.{lit<}
 use lib.IntN.{pos, neg_ℤ, ◌+ℤ◌}
-use Rattle.arith.specs.inner.Sizes.{Small}
-use Rattle.figures_posts.proofs.LevelLaws.{one-pressed, lee-sum, windward-sum}
+use Rattle.arith.specs.Inner.Sizes.{Small}
+use Rattle.figures_posts.proofs.LevelLaws.{one_pressed, lee_sum, windward_sum}
 use Rattle.arith.proofs.SignedWords.{held}
 use borrow.Author.Rules.{rules}
 use Rattle.figures_posts.proofs.compression_of.Statement.{statement}
@@ -29,7 +29,7 @@ pressed-figure-requires c κs =
       b.requires.0,
       simp (held s.0.1 (lit< tt)) s.0.1,
       simp (held s.1.1 (lit< tt)) s.1.1,
-      simp (held s.0.1 (lit< tt), held s.1.1 (lit< tt)) (rw (s.0.0, s.1.0) (one-pressed b.args.couple b.args.parts)),
+      simp (held s.0.1 (lit< tt), held s.1.1 (lit< tt)) (rw (s.0.0, s.1.0) (one_pressed b.args.couple b.args.parts)),
     )
 
 word-of-requires : tie.Need-word-of-requires
@@ -42,7 +42,7 @@ returns c =
     let a = p.before.args in
     let s = sums p in
     let e = simp (held s.0.1 (lit< tt), held s.1.1 (lit< tt)) at f.pressed-figure.ensures in
-    let w = rw (s.0.0, s.1.0, lee-sum a.weight a.couple a.parts, windward-sum a.weight a.couple a.parts) at e in
+    let w = rw (s.0.0, s.1.0, lee_sum a.weight a.couple a.parts, windward_sum a.weight a.couple a.parts) at e in
     rw (← w) c.word_of.ensures
 
 pub compression-of-spec : {M : Type 1} → statement M

@@ -5,11 +5,11 @@ use native.Mathlib.Omega.{arith}
 use lib.Dec.{lit<}
 use mir.Syntax.{w64}
 use mir.ValLaws.{to_z-of_z}
-use Rattle.arith.specs.inner.Sizes.{Small}
+use Rattle.arith.specs.Inner.Sizes.{Small}
 use Rattle.arith.proofs.Sizes.{divisor, fits64}
-use Rattle.statics.specs.inner.WholeNumbers.{notBelow}
-use Rattle.figures_posts.specs.inner.Posts.{lesserOf}
-use Rattle.figures_posts.proofs.LevelLaws.{lesser-small, unweighed, lifted-small, lifted-rounded}
+use Rattle.statics.specs.Inner.WholeNumbers.{not_below}
+use Rattle.figures_posts.specs.Inner.Posts.{lesser_of}
+use Rattle.figures_posts.proofs.LevelLaws.{lesser_small, unweighed, lifted_small, lifted_rounded}
 use Rattle.arith.proofs.SignedWords.{held}
 use borrow.Author.Rules.{rules}
 use Rattle.figures_posts.proofs.lifted_figure.Statement.{statement}
@@ -25,24 +25,24 @@ lesser-requires : tie.Need-lesser-requires
 lesser-requires c κs = search rules
 
 -- the lesser sum
-sum : (c : tie.After-lesser) → c.lesser.result ≡ lesserOf c.before.args.x c.before.args.y
+sum : (c : tie.After-lesser) → c.lesser.result ≡ lesser_of c.before.args.x c.before.args.y
 sum c = simp (held c.before.requires.1 (lit< tt), held c.before.requires.2 (lit< tt)) at c.lesser.ensures
 
-sum-small : (c : tie.After-lesser) → Small (5 * 2 ^ 60) (lesserOf c.before.args.x c.before.args.y)
-sum-small c = lesser-small c.before.requires.1 c.before.requires.2
+sum_small : (c : tie.After-lesser) → Small (5 * 2 ^ 60) (lesser_of c.before.args.x c.before.args.y)
+sum_small c = lesser_small c.before.requires.1 c.before.requires.2
 
 sub-newtons-up-2 : tie.Need-overflow-sub-newtons-up-2
 sub-newtons-up-2 c =
-    let s = sum-small c in
+    let s = sum_small c in
     let w = unweighed c.before.requires.0 in
     simp (divisor c.before.args.weight (omega arith), held w (lit< tt), sum c, held s (lit< tt))
-    (fits64 (lifted-small c.before.requires.0 s) (lit< tt))
+    (fits64 (lifted_small c.before.requires.0 s) (lit< tt))
 
 newtons-up-requires : tie.Need-newtons-up-requires
 newtons-up-requires c κs =
-    let s = sum-small c in
+    let s = sum_small c in
     let w = unweighed c.before.requires.0 in
-    let p = lifted-small c.before.requires.0 s in
+    let p = lifted_small c.before.requires.0 s in
     simp (divisor c.before.args.weight (omega arith), held w (lit< tt), sum c, held s (lit< tt), held p (lit< tt)) p
 
 not-below-requires : tie.Need-not-below-requires
@@ -53,14 +53,14 @@ returns c =
     let k = c.before.newtons-up in
     let l = c.before.before in
     let b = l.before in
-    let s = sum-small l in
+    let s = sum_small l in
     let w = unweighed b.requires.0 in
-    let p = lifted-small b.requires.0 s in
+    let p = lifted_small b.requires.0 s in
     let r =
     simp (divisor b.args.weight (omega arith), held w (lit< tt), sum l, held s (lit< tt), held p (lit< tt)) at k.ensures.0 in
-    c.not-below.ensures
-    ∙ ap notBelow (to_z-of_z w64 k.result (record { sfits = k.type-inv }) ∙ r)
-    ∙ lifted-rounded b.args.weight b.args.x b.args.y
+    c.not_below_lem.ensures
+    ∙ ap not_below (to_z-of_z w64 k.result (record { sfits = k.type-inv }) ∙ r)
+    ∙ lifted_rounded b.args.weight b.args.x b.args.y
 
 pub lifted-figure-spec : {M : Type 1} → statement M
 lifted-figure-spec =

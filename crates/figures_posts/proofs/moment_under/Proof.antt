@@ -3,7 +3,7 @@ use mathlib.Core.Path.{refl}
 use native.Mathlib.Omega.{arith}
 use lib.Dec.{lit<}
 use Rattle.arith.proofs.Sizes.{divisor, fits64}
-use Rattle.figures_posts.proofs.LevelLaws.{tier-moment-small, moment-small}
+use Rattle.figures_posts.proofs.LevelLaws.{tier_moment_small, moment_small}
 use Rattle.arith.proofs.SignedWords.{held}
 use borrow.Author.Rules.{rules}
 use Rattle.figures_posts.proofs.moment_under.Statement.{statement}
@@ -16,20 +16,20 @@ mul-result : tie.Need-overflow-mul-result
 mul-result c =
     let a = c.args in
     rw (divisor a.height (omega arith), held c.requires.1 (lit< tt))
-    (fits64 (tier-moment-small c.requires.2 c.requires.1) (lit< tt))
+    (fits64 (tier_moment_small c.requires.2 c.requires.1) (lit< tt))
 
 add-result : tie.Need-overflow-add-result
 add-result c =
     let a = c.args in
-    let t = tier-moment-small c.requires.2 c.requires.1 in
-    let m = moment-small c.requires.2 c.requires.1 c.requires.0 in
+    let t = tier_moment_small c.requires.2 c.requires.1 in
+    let m = moment_small c.requires.2 c.requires.1 c.requires.0 in
     simp (divisor a.height (omega arith), held c.requires.1 (lit< tt), held t (lit< tt), held c.requires.0 (lit< tt)) (fits64 m (lit< tt))
 
 returns : tie.Need-returns
 returns c =
     let a = c.args in
-    let t = tier-moment-small c.requires.2 c.requires.1 in
-    let m = moment-small c.requires.2 c.requires.1 c.requires.0 in
+    let t = tier_moment_small c.requires.2 c.requires.1 in
+    let m = moment_small c.requires.2 c.requires.1 c.requires.0 in
     simp
     (divisor a.height (omega arith), held c.requires.1 (lit< tt), held t (lit< tt), held c.requires.0 (lit< tt), held m (lit< tt))
     (refl, m)

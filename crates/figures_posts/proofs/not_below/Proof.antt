@@ -1,5 +1,5 @@
 -- `figures_posts::not_below`: by the sign.
-use Rattle.arith.proofs.SignedWords.{from-pos, size_fits}
+use Rattle.arith.proofs.SignedWords.{from_pos, size_fits}
 use Rattle.figures_posts.proofs.Words.{below_none, from_all}
 use mir.Syntax.{w64}
 use mir.ValLaws.{to_z-of_z}
@@ -16,7 +16,7 @@ cast-result c =
     let x = c.before.args.sum in
     let f = c.before.ranges.sum in
     let e = simp (to_z-of_z w64 x f) at c.if1.false in
-    rw (to_z-of_z w64 x f, from-pos x e) (tt, size_fits x f)
+    rw (to_z-of_z w64 x f, from_pos x e) (tt, size_fits x f)
 
 returns-2 : tie.Need-returns-2
 returns-2 c =

@@ -3,8 +3,8 @@ use mathlib.Core.Path.{◌≡◌, refl}
 use native.Mathlib.Omega.{arith}
 use lib.Dec.{lit<, lit≤}
 use lib.IntN.{neg_ℤ}
-use Rattle.arith.proofs.Sizes.{divisor, fits64, small-neg, small-weaken}
-use Rattle.figures_posts.proofs.LevelLaws.{post-small}
+use Rattle.arith.proofs.Sizes.{divisor, fits64, small_neg, small_weaken}
+use Rattle.figures_posts.proofs.LevelLaws.{post_small}
 use Rattle.arith.proofs.SignedWords.{held}
 use borrow.Author.Rules.{rules}
 use Rattle.figures_posts.proofs.post_sums.Statement.{statement}
@@ -16,10 +16,10 @@ cast-t3 c = search rules
 add-t4 : tie.Need-overflow-add-t4
 add-t4 c =
     simp (held c.before.requires.0 (lit< tt), divisor c.before.args.parts.lee (omega arith))
-    (fits64 (post-small c.before.requires.0 c.before.requires.1) (lit< tt))
+    (fits64 (post_small c.before.requires.0 c.before.requires.1) (lit< tt))
 
 negative-requires : tie.Need-negative-requires
-negative-requires c κs = rw (held c.before.requires.0 (lit< tt)) (small-weaken c.before.requires.0 (lit≤ tt))
+negative-requires c κs = rw (held c.before.requires.0 (lit< tt)) (small_weaken c.before.requires.0 (lit≤ tt))
 
 -- the couple with its sign reversed
 reversed : (c : tie.After-negative) → c.negative.result ≡ neg_ℤ c.before.before.args.couple
@@ -31,15 +31,15 @@ cast-t6 c = search rules
 add-t7 : tie.Need-overflow-add-t7
 add-t7 c =
     let b = c.before.before.before in
-    let n = small-neg b.requires.0 in
-    simp (reversed c.before, held n (lit< tt), divisor b.args.parts.windward (omega arith)) (fits64 (post-small n b.requires.2) (lit< tt))
+    let n = small_neg b.requires.0 in
+    simp (reversed c.before, held n (lit< tt), divisor b.args.parts.windward (omega arith)) (fits64 (post_small n b.requires.2) (lit< tt))
 
 returns : tie.Need-returns
 returns c =
     let b = c.before.before.before in
-    let n = small-neg b.requires.0 in
-    let l = post-small b.requires.0 b.requires.1 in
-    let w = post-small n b.requires.2 in
+    let n = small_neg b.requires.0 in
+    let l = post_small b.requires.0 b.requires.1 in
+    let w = post_small n b.requires.2 in
     simp (
       held b.requires.0 (lit< tt),
       divisor b.args.parts.lee (omega arith),

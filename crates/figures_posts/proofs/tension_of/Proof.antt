@@ -3,8 +3,8 @@ use Prim.Native.Nat.{◌*◌, ◌^◌}
 use mathlib.Core.Path.{◌≡◌}
 use lib.Dec.{lit<}
 use lib.IntN.{pos, neg_ℤ, ◌+ℤ◌}
-use Rattle.arith.specs.inner.Sizes.{Small}
-use Rattle.figures_posts.proofs.LevelLaws.{lee-sum, windward-sum}
+use Rattle.arith.specs.Inner.Sizes.{Small}
+use Rattle.figures_posts.proofs.LevelLaws.{lee_sum, windward_sum}
 use Rattle.arith.proofs.SignedWords.{held}
 use borrow.Author.Rules.{rules}
 use Rattle.figures_posts.proofs.tension_of.Statement.{statement}
@@ -37,7 +37,7 @@ returns c =
     let a = p.before.args in
     let s = sums p in
     let e = simp (held s.0.1 (lit< tt), held s.1.1 (lit< tt)) at f.lifted-figure.ensures in
-    let w = rw (s.0.0, s.1.0, lee-sum a.weight a.couple a.parts, windward-sum a.weight a.couple a.parts) at e in
+    let w = rw (s.0.0, s.1.0, lee_sum a.weight a.couple a.parts, windward_sum a.weight a.couple a.parts) at e in
     rw (← w) c.word_of.ensures
 
 pub tension-of-spec : {M : Type 1} → statement M

@@ -4,21 +4,21 @@ use lib.ListN.{get_or, length, take, length-set}
 use lib.Seq.{get_or-take, length-take-le}
 use Prim.Native.Nat.{◌-◌, ◌<◌}
 use native.Mathlib.Omega.{arith}
-use Rattle.sheet.specs.Layout.{blankTier}
-use Rattle.sheet.specs.inner.Limits.{TierLimits}
-use Rattle.statics.specs.inner.InArrays.{mostIn, leastIn}
-use Rattle.statics.proofs.Sections.{first-set, second-set}
+use Rattle.sheet.specs.Layout.{blank_tier}
+use Rattle.sheet.specs.Inner.Limits.{TierLimits}
+use Rattle.statics.specs.Inner.InArrays.{most_in, least_in}
+use Rattle.statics.proofs.Sections.{first_set, second_set}
 use borrow.Author.Rules.{rules}
-use Rattle.figures_tiers.proofs.LoadLaws.{LoadedDown, loaded-none, loaded-more, loaded-all, Carried, carried_none, carried-more}
-use Rattle.figures_tiers.proofs.LoadLaws.{carried-all, HeightsDown, heights-none, heights-more, heights-all}
+use Rattle.figures_tiers.proofs.LoadLaws.{LoadedDown, loaded_none, loaded_more, loaded_all, Carried, carried_none, carried_more}
+use Rattle.figures_tiers.proofs.LoadLaws.{carried_all, HeightsDown, heights_none, heights_more, heights_all}
 use Rattle.figures_tiers.proofs.loads_of.Statement.{statement}
 use Rattle.figures_tiers.proofs.loads_of.Tie as tie
 
 abbrev invariant-loop : tie.invariant-loop
 invariant-loop n rule loads₀ weights₀ heights₀ tiers over₀ most-lifted₀ least-lifted₀ i₀ loads weights heights over vmax-units vmin-units i =
     LoadedDown rule n (take n tiers) loads over.transverse over.wind i
-    × Carried (λ t. t.aVmax) n (take n tiers) (mostIn weights) vmax-units i
-    × Carried (λ t. t.aVmin) n (take n tiers) (leastIn weights) vmin-units i
+    × Carried (λ t. t.aVmax) n (take n tiers) (most_in weights) vmax-units i
+    × Carried (λ t. t.aVmin) n (take n tiers) (least_in weights) vmin-units i
     × HeightsDown n (take n tiers) heights i
     × (length weights ≡ 22)
 
@@ -36,13 +36,13 @@ stacked c = length-take-le c.args.n c.args.t2 (omega (arith, c.requires.0.0, c.w
 own :
     (c : tie.In-loop invariant-loop decreases-loop) →
     let a = (start c.before).args in
-    get_or (take a.n a.t2) (c.before.loop.i - 1) blankTier ≡ get_or a.t2 (c.before.loop.i - 1) blankTier
+    get_or (take a.n a.t2) (c.before.loop.i - 1) blank_tier ≡ get_or a.t2 (c.before.loop.i - 1) blank_tier
 own c =
     let a = (start c.before).args in
     let l = c.before.loop in
-    get_or-take a.n a.t2 (l.i - 1) blankTier (omega (arith, c.loop-test.true, l.invariant.0.within))
+    get_or-take a.n a.t2 (l.i - 1) blank_tier (omega (arith, c.loop-test.true, l.invariant.0.within))
 
-limits : (c : tie.In-loop invariant-loop decreases-loop) → TierLimits (get_or (start c.before).args.t2 (c.before.loop.i - 1) blankTier)
+limits : (c : tie.In-loop invariant-loop decreases-loop) → TierLimits (get_or (start c.before).args.t2 (c.before.loop.i - 1) blank_tier)
 limits c =
     let l = c.before.loop in
     rw (own c) at ((start c.before).pre.1.0 (l.i - 1) (omega (arith, c.loop-test.true, l.invariant.0.within)))
@@ -52,7 +52,7 @@ loop-holds c =
     let b = c.before.before.before in
     let p = b.requires.1.1 in
     rw (p.0, p.1)
-    (loaded-none (stacked b), carried_none (stacked b), carried_none (stacked b), heights-none (stacked b) b.requires.0.0 p.2, refl)
+    (loaded_none (stacked b), carried_none (stacked b), carried_none (stacked b), heights_none (stacked b) b.requires.0.0 p.2, refl)
 
 sub-i : tie.Need-overflow-sub-i invariant-loop decreases-loop
 sub-i c = search rules
@@ -71,7 +71,7 @@ level-load-requires c κs =
     let a = c.before.before.before in
     let p = (start a).requires.0 in
     let t = c.tier-load.ensures in
-    ((p.1, p.2), ((t.1, t.3), (a.loop.invariant.0.transverse-small, a.loop.invariant.0.wind-small)))
+    ((p.1, p.2), ((t.1, t.3), (a.loop.invariant.0.transverse_small, a.loop.invariant.0.wind_small)))
 
 mul-loads : tie.Need-overflow-mul-loads invariant-loop decreases-loop
 mul-loads c = search rules
@@ -98,7 +98,7 @@ add-vmin-units c = search rules
 half-weight-requires : tie.Need-half-weight-requires invariant-loop decreases-loop
 half-weight-requires c κs =
     let a = c.before.before.before.before.before.before in
-    omega (arith, a.loop.invariant.1.sum-small, (start a).requires.0.0, c.before.mass-by.ensures.1)
+    omega (arith, a.loop.invariant.1.sum_small, (start a).requires.0.0, c.before.mass-by.ensures.1)
 
 mul-weights : tie.Need-overflow-mul-weights invariant-loop decreases-loop
 mul-weights c = search rules
@@ -109,7 +109,7 @@ slice-write-weights c = search rules
 half-weight-requires-2 : tie.Need-half-weight-requires-2 invariant-loop decreases-loop
 half-weight-requires-2 c κs =
     let a = c.before.before.before.before.before.before.before in
-    omega (arith, a.loop.invariant.2.sum-small, (start a).requires.0.0, c.before.mass-by2.ensures.1)
+    omega (arith, a.loop.invariant.2.sum_small, (start a).requires.0.0, c.before.mass-by2.ensures.1)
 
 add-weights : tie.Need-overflow-add-weights invariant-loop decreases-loop
 add-weights c = search rules
@@ -147,12 +147,12 @@ loop-again c =
     let x = c.before.half-weight.ensures in
     let y = c.half-weight2.ensures in
     let low : l.i - 1 < 11 = omega (arith, l.invariant.0.within, few) in (
-      loaded-more few up l.invariant.0 (rw (own t) e.0) (rw (own t) e.2) e.1 e.3 r.0 r.1,
-      rw (first-set 11 l.weights low c.before.half-weight.result c.half-weight2.result)
-          (carried-more (stacked b) few up l.invariant.1 (rw (own t) f.0) f.1 x.0 x.1),
-      rw (second-set 11 l.weights low c.before.half-weight.result c.half-weight2.result)
-          (carried-more (stacked b) few up l.invariant.2 (rw (own t) g.0) g.1 y.0 y.1),
-      heights-more (stacked b) few up l.invariant.0.within l.invariant.3 (rw (own t) refl),
+      loaded_more few up l.invariant.0 (rw (own t) e.0) (rw (own t) e.2) e.1 e.3 r.0 r.1,
+      rw (first_set 11 l.weights low c.before.half-weight.result c.half-weight2.result)
+          (carried_more (stacked b) few up l.invariant.1 (rw (own t) f.0) f.1 x.0 x.1),
+      rw (second_set 11 l.weights low c.before.half-weight.result c.half-weight2.result)
+          (carried_more (stacked b) few up l.invariant.2 (rw (own t) g.0) g.1 y.0 y.1),
+      heights_more (stacked b) few up l.invariant.0.within l.invariant.3 (rw (own t) refl),
       simp length-set l.invariant.4,
     )
 
@@ -169,18 +169,18 @@ returns : tie.Need-returns invariant-loop decreases-loop
 returns c =
     let l = c.before.loop in
     let b = start c.before in
-    let m = carried-all (stacked b) c.loop-test.false l.invariant.1 in
-    let k = carried-all (stacked b) c.loop-test.false l.invariant.2 in (
+    let m = carried_all (stacked b) c.loop-test.false l.invariant.1 in
+    let k = carried_all (stacked b) c.loop-test.false l.invariant.2 in (
       record {
-        named = loaded-all (stacked b) b.pre.0.0 c.loop-test.false l.invariant.0;
+        named = loaded_all (stacked b) b.pre.0.0 c.loop-test.false l.invariant.0;
         small = λ i h. (l.invariant.0.loaded.each i (omega arith) h).1;
       },
       record {
-        heights-are = heights-all c.loop-test.false l.invariant.3;
-        vmax-is = λ i. (m i).0;
-        vmin-is = λ i. (k i).0;
-        most-light = λ i. (m i).1;
-        least-light = λ i. (k i).1;
+        heights_are = heights_all c.loop-test.false l.invariant.3;
+        vmax_is = λ i. (m i).0;
+        vmin_is = λ i. (k i).0;
+        most_light = λ i. (m i).1;
+        least_light = λ i. (k i).1;
       },
     )
 

@@ -2,7 +2,7 @@
 use mathlib.Core.Path.{refl}
 use native.Mathlib.Nat.{mul-le-mul}
 use native.Mathlib.Omega.{arith}
-use Rattle.statics.specs.inner.WholeNumbers.{transverseUnits}
+use Rattle.statics.specs.Inner.WholeNumbers.{transverse_units}
 use borrow.Author.Rules.{rules}
 use Rattle.figures_tiers.proofs.tier_load.Statement.{statement}
 use Rattle.figures_tiers.proofs.tier_load.Tie as tie
@@ -22,7 +22,7 @@ wind-of-requires : tie.Need-wind-of-requires
 wind-of-requires c κs = search rules
 
 returns : tie.Need-returns
-unfolding transverseUnits
+unfolding transverse_units
 returns c =
     let b = c.before.before.before in
     (refl, mul-le-mul b.requires.mass b.requires.aT, c.wind-of.ensures.0, c.wind-of.ensures.1)

@@ -2,7 +2,7 @@
 use native.Mathlib.Nat.{mul-le-mul}
 use native.Mathlib.Omega.{arith}
 use lib.Dec.{lit≤}
-use Rattle.statics.specs.inner.WholeNumbers.{windUnits}
+use Rattle.statics.specs.Inner.WholeNumbers.{wind_units}
 use borrow.Author.Rules.{rules}
 use Rattle.figures_tiers.proofs.wind_of.Statement.{statement}
 use Rattle.figures_tiers.proofs.wind_of.Tie as tie
@@ -25,7 +25,7 @@ mul-result-2 c =
     omega (arith, mul-le-mul c.before.box-length.ensures.1 b.requires.height)
 
 returns : tie.Need-returns
-unfolding windUnits
+unfolding wind_units
 returns c =
     let e = c.before.box-length.ensures in
     let b = c.before.before.before.before in (
@@ -34,7 +34,7 @@ returns c =
     )
 
 returns-2 : tie.Need-returns-2
-unfolding windUnits
+unfolding wind_units
 returns-2 c = (simp (← c.before.exposed.ensures, c.if1.false), lit≤ tt)
 
 pub wind-of-spec : {M : Type 1} → statement M

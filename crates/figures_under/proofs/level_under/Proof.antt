@@ -2,7 +2,7 @@
 use mathlib.Core.Path.{refl}
 use native.Mathlib.Omega.{arith}
 use lib.Dec.{lit<}
-use Rattle.statics.specs.inner.WholeNumbers.{leeFound, windwardFound}
+use Rattle.statics.specs.Inner.WholeNumbers.{lee_found, windward_found}
 use Rattle.arith.proofs.SignedWords.{held}
 use borrow.Author.Rules.{rules}
 use Rattle.figures_under.proofs.level_under.Statement.{statement}
@@ -41,11 +41,11 @@ tension-of-requires c κs =
     (omega (arith, p.1.1.1), rw (held l (lit< tt)) l, omega (arith, p.1.0, p.1.1.0), omega (arith, p.1.0, p.1.1.0))
 
 returns : tie.Need-returns
-unfolding leeFound windwardFound
+unfolding lee_found windward_found
 returns c =
     let posts = c.before.before.before.before.before.before.before.before.before.before in
     let entry = posts.before.before.before.before in
-    let m = posts.before.before.moment-under.ensures in
+    let m = posts.before.before.moment_under.ensures in
     let l = posts.before.couple-of.ensures in
     let e = simp (held entry.requires.0.0 (lit< tt), held entry.requires.0.1 (lit< tt)) at m.0 in
     let q = simp e at (simp (held m.1 (lit< tt)) at l.0) in

@@ -1,6 +1,6 @@
 use mathlib.Core.Path.{refl}
-use Rattle.floats.specs.inner.Floats.{float_of}
-use Rattle.floats.proofs.Patterns.{whole-pattern}
+use Rattle.floats.specs.Inner.Floats.{float_of}
+use Rattle.floats.proofs.Patterns.{whole_pattern}
 use borrow.Author.Rules.{rules}
 use Rattle.floats.proofs.float_of.Statement.{statement}
 use Rattle.floats.proofs.float_of.Tie as tie
@@ -11,7 +11,7 @@ add-result : tie.Need-overflow-add-result
 add-result c = search rules
 
 float-from-bits-result : tie.Need-float-from-bits-result
-float-from-bits-result c = whole-pattern c.args.x c.requires
+float-from-bits-result c = whole_pattern c.args.x c.requires
 
 returns : tie.Need-returns
 unfolding float_of

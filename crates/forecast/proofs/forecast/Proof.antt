@@ -2,7 +2,7 @@
 use mathlib.Core.Path.{◌≡◌, sym, ◌∙◌}
 use borrow.Author.Rules.{rules}
 use Rattle.sheet.specs.declared.Reading.TheVariants.{Taken}
-use Rattle.sheet.specs.Refusals.{first, sheetRows}
+use Rattle.sheet.specs.Refusals.{first, sheet_rows}
 use Rattle.forecast.proofs.Refusals.{refused, taken}
 use Rattle.forecast.proofs.forecast.Statement.{statement}
 use Rattle.forecast.proofs.forecast.Tie as tie
@@ -14,7 +14,7 @@ entered c = c.before.before.before
 abbrev tested : tie.After-enum-told → tie.After-test-sheet
 tested c = c.before.before
 
-passed : (c : tie.After-enum-told) → first (sheetRows (entered (tested c)).args.sheet.now) ≡ Taken
+passed : (c : tie.After-enum-told) → first (sheet_rows (entered (tested c)).args.sheet.now) ≡ Taken
 passed c = sym (tested c).test-sheet.ensures ∙ c.enum_told.given.1
 
 test-sheet-requires : tie.Need-test-sheet-requires

@@ -4,8 +4,8 @@ use Prim.Native.Nat.{◌-◌, ◌≤◌}
 use lib.Dec.{lit≤}
 use native.Mathlib.Omega.{arith}
 use borrow.Author.Rules.{rules}
-use Rattle.forecast_factor.specs.inner.Search.{Between, Halved}
-use Rattle.forecast_factor.proofs.Halving.{begun, below-nine, found}
+use Rattle.forecast_factor.specs.Inner.Search.{Between, Halved}
+use Rattle.forecast_factor.proofs.Halving.{begun, below_nine, found}
 use Rattle.forecast_factor.proofs.factor_of.Statement.{statement}
 use Rattle.forecast_factor.proofs.factor_of.Tie as tie
 
@@ -23,7 +23,7 @@ halve-requires : tie.Need-halve-requires invariant-loop decreases-loop
 halve-requires c κs =
     let l = c.before.before in
     let i = l.loop.invariant in
-    ((omega arith, omega arith, omega arith, below-nine (omega arith) i.0 i.1), (i.0, i.1))
+    ((omega arith, omega arith, omega arith, below_nine (omega arith) i.0 i.1), (i.0, i.1))
 
 loop-less : tie.Need-loop-smaller invariant-loop decreases-loop
 loop-less c = search rules
@@ -32,7 +32,7 @@ loop-again : tie.Need-loop-preserved invariant-loop decreases-loop
 loop-again c =
     let e = c.halve.ensures in
     let i = c.before.before.before.loop.invariant in
-    (e.0.0, e.0.1, omega (arith, e.1.1, below-nine (omega arith) i.0 i.1))
+    (e.0.0, e.0.1, omega (arith, e.1.1, below_nine (omega arith) i.0 i.1))
 
 returns : tie.Need-returns invariant-loop decreases-loop
 returns c =

@@ -2,7 +2,7 @@
 use mathlib.Core.Path.{refl}
 use native.Mathlib.Omega.{arith}
 use borrow.Author.Rules.{rules}
-use Rattle.forecast_factor.proofs.Halving.{wave-most, above-square, above-product, lower, upper}
+use Rattle.forecast_factor.proofs.Halving.{wave_most, above_square, above_product, lower, upper}
 use Rattle.forecast_factor.proofs.halve.Statement.{statement}
 use Rattle.forecast_factor.proofs.halve.Tie as tie
 
@@ -16,16 +16,16 @@ sub-above : tie.Need-overflow-sub-above
 sub-above c = search rules
 
 mul-if1 : tie.Need-overflow-mul-if1
-mul-if1 c = omega (arith, wave-most c.before.before.requires.0.0)
+mul-if1 c = omega (arith, wave_most c.before.before.requires.0.0)
 
 mul-if1-2 : tie.Need-overflow-mul-if1-2
-mul-if1-2 c = omega (arith, wave-most c.before.before.requires.0.0)
+mul-if1-2 c = omega (arith, wave_most c.before.before.requires.0.0)
 
 mul-if1-3 : tie.Need-overflow-mul-if1-3
-mul-if1-3 c = above-square _ (omega (arith, c.before.before.requires.1.0.high))
+mul-if1-3 c = above_square _ (omega (arith, c.before.before.requires.1.0.high))
 
 mul-if1-4 : tie.Need-overflow-mul-if1-4
-mul-if1-4 c = above-product _ _ (omega (arith, c.before.before.requires.1.0.high)) c.before.before.requires.0.1
+mul-if1-4 c = above_product _ _ (omega (arith, c.before.before.requires.1.0.high)) c.before.before.requires.0.1
 
 returns : tie.Need-returns
 returns c =

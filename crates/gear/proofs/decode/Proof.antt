@@ -1,8 +1,8 @@
 -- `gear::decode`: a section decoded: its lashes where its reading is Taken, else none.
 use mathlib.Core.Path.{sym, ◌∙◌}
 use borrow.Author.Rules.{rules}
-use Rattle.gear.specs.Gear.{gearDecoded}
-use Rattle.gear.proofs.Section.{as-counted, few, there}
+use Rattle.gear.specs.Gear.{gear_decoded}
+use Rattle.gear.proofs.Section.{as_counted, few, there}
 use Rattle.gear.proofs.decode.Statement.{statement}
 use Rattle.gear.proofs.decode.Tie as tie
 
@@ -20,7 +20,7 @@ lashes-of-requires c κs =
     let t = c.before.before.before in
     let a = t.before.before.args in
     let taken = sym t.test-gear.ensures ∙ c.before.enum_told.given.1 in
-    rw c.byte-at.ensures.0 (few a.n a.gear.now taken, there a.n a.gear.now taken)
+    rw c.byte_at_lem.ensures.0 (few a.n a.gear.now taken, there a.n a.gear.now taken)
 
 enum-known-reading : tie.Need-enum-known-reading
 enum-known-reading c = search rules
@@ -29,15 +29,15 @@ blank-lash-requires : tie.Need-blank-lash-requires
 blank-lash-requires c κs = search rules
 
 returns : tie.Need-returns
-unfolding gearDecoded
+unfolding gear_decoded
 returns c =
     let t = c.before.before.before.before in
     let a = t.before.before.args in
     let taken = sym t.test-gear.ensures ∙ c.before.before.enum_told.given.1 in
-    rw (taken, c.lashes-of.ensures, c.before.byte-at.ensures.0, as-counted a.gear.now)
+    rw (taken, c.lashes-of.ensures, c.before.byte_at_lem.ensures.0, as_counted a.gear.now)
 
 returns-2 : tie.Need-returns-2
-unfolding gearDecoded
+unfolding gear_decoded
 returns-2 c =
     let t = c.before.before.before.before in
     rw (sym t.test-gear.ensures ∙ c.before.before.reading.given.1, c.blank-lash.ensures)

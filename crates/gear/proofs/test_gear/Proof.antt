@@ -4,9 +4,9 @@ use mathlib.Core.Path.{sym, ap, ◌∙◌}
 use native.Mathlib.Omega.{arith}
 use borrow.Author.Rules.{rules}
 use Rattle.sheet.specs.declared.Reading.TheVariants.{Refused}
-use Rattle.sheet.specs.Refusals.{endRows}
-use Rattle.sheet.proofs.Rows.{behind-refused}
-use Rattle.gear.proofs.Section.{spare-refused, section-taken}
+use Rattle.sheet.specs.Refusals.{end_rows}
+use Rattle.sheet.proofs.Rows.{behind_refused}
+use Rattle.gear.proofs.Section.{spare_refused, section_taken}
 use Rattle.gear.proofs.test_gear.Statement.{statement}
 use Rattle.gear.proofs.test_gear.Tie as tie
 
@@ -20,7 +20,7 @@ returns : tie.Need-returns
 returns c =
     let e = c.before.before.before in
     let a = e.before.before.args in
-    sym (behind-refused (endRows a.n a.gear.now 0) _ (sym e.test-end.ensures ∙ c.before.number.given.1))
+    sym (behind_refused (end_rows a.n a.gear.now 0) _ (sym e.test-end.ensures ∙ c.before.number.given.1))
 
 enum_told : tie.Need-enum-told
 enum_told c = search rules
@@ -40,8 +40,8 @@ returns-2 c =
     let e = b.before.before.before in
     let a = e.before.before.args in
     let taken = sym e.test-end.ensures ∙ b.before.enum_told.given.1 in
-    ap (λ k. Refused 2 (1 + 20 * k)) b.byte-at.ensures.0
-    ∙ sym (spare-refused a.n a.gear.now taken (omega (arith, c.if1.true, b.byte-at.ensures.0)))
+    ap (λ k. Refused 2 (1 + 20 * k)) b.byte_at_lem.ensures.0
+    ∙ sym (spare_refused a.n a.gear.now taken (omega (arith, c.if1.true, b.byte_at_lem.ensures.0)))
 
 returns-3 : tie.Need-returns-3
 returns-3 c =
@@ -49,7 +49,7 @@ returns-3 c =
     let e = b.before.before.before in
     let a = e.before.before.args in
     let taken = sym e.test-end.ensures ∙ b.before.enum_told.given.1 in
-    sym (section-taken a.n a.gear.now taken (omega (arith, c.if1.false, b.byte-at.ensures.0)))
+    sym (section_taken a.n a.gear.now taken (omega (arith, c.if1.false, b.byte_at_lem.ensures.0)))
 
 pub test-gear-spec : {M : Type 1} → statement M
 test-gear-spec =

@@ -1,7 +1,7 @@
 -- `lash::lash_arrangements` says what `arrangements::list` says, with its two numbers in one.
 use borrow.Author.Rules.{rules}
-use Rattle.packing.proofs.OneNumber.{called-both}
-use Rattle.lash.proofs.Fits.{list-fits}
+use Rattle.packing.proofs.OneNumber.{called_both}
+use Rattle.lash.proofs.Fits.{list_fits}
 use Rattle.lash.proofs.lash_arrangements.Statement.{statement}
 use Rattle.lash.proofs.lash_arrangements.Tie as tie
 
@@ -9,7 +9,7 @@ list-requires : tie.Need-list-requires
 list-requires c κs = search rules
 
 packed-outcome-requires : tie.Need-packed-outcome-requires
-packed-outcome-requires c κs = list-fits c.before.before.list.ensures.0
+packed-outcome-requires c κs = list_fits c.before.before.list.ensures.0
 
 same_length : tie.Need-same-length
 same_length c = search rules
@@ -18,7 +18,7 @@ returns : tie.Need-returns
 returns c =
     let k = c.before.before.before.list in
     let p = c.packed-outcome in
-    called-both k.result k.ensures (list-fits k.ensures.0) p.result p.ensures
+    called_both k.result k.ensures (list_fits k.ensures.0) p.result p.ensures
 
 pub lash-arrangements-spec : {M : Type 1} → statement M
 lash-arrangements-spec = tie.close (tie.spec list-requires packed-outcome-requires same_length returns)

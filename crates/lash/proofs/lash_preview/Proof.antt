@@ -2,7 +2,7 @@
 use native.Mathlib.Omega.{arith}
 use borrow.Author.Rules.{rules}
 use Rattle.preview_moves.proofs.TwoNumbers.{fitting}
-use Rattle.packing.proofs.OneNumber.{called-both}
+use Rattle.packing.proofs.OneNumber.{called_both}
 use Rattle.lash.proofs.lash_preview.Statement.{statement}
 use Rattle.lash.proofs.lash_preview.Tie as tie
 
@@ -25,7 +25,7 @@ returns c =
     let e = k.preview.ensures in
     let fits = fitting (omega (arith, (entered k).ranges.tier.fits)) e.0 in
     let p = c.packed-outcome in
-    called-both k.preview.result e fits p.result p.ensures
+    called_both k.preview.result e fits p.result p.ensures
 
 pub lash-preview-spec : {M : Type 1} → statement M
 lash-preview-spec = tie.close (tie.spec preview-requires packed-outcome-requires same_length returns)

@@ -6,7 +6,7 @@ use mir.Syntax.{w32}
 use mir.ValLaws.{to_z-of_z}
 use Rattle.roll.specs.declared.Condition.{Condition}
 use Rattle.roll.specs.declared.Rolled.{Rolled}
-use Rattle.roll.specs.Rounded.{conditionA}
+use Rattle.roll.specs.Rounded.{condition_a}
 use Rattle.roll.specs.Theorems.{Within}
 use Rattle.roll.proofs.Limits.{within}
 use Rattle.lash.specs.RolledIn.{RolledIn}
@@ -30,7 +30,7 @@ asked j =
       z = a.z;
     }
 
-found : (j : tie.After-condition-a) → j.condition-a.result ≡ conditionA (asked j)
+found : (j : tie.After-condition-a) → j.condition-a.result ≡ condition_a (asked j)
 unfolding asked
 found j =
     let a = j.before.args in

@@ -2,12 +2,12 @@
 use native.Mathlib.Omega.{arith}
 use mathlib.Core.Path.{refl}
 use borrow.Author.Rules.{rules}
-use Rattle.lash_forces.specs.inner.OneLash.{cornerOf}
+use Rattle.lash_forces.specs.Inner.OneLash.{corner_of}
 use Rattle.lash_forces.proofs.hook_corner.Statement.{statement}
 use Rattle.lash_forces.proofs.hook_corner.Tie as tie
 
 mul-result : tie.Need-overflow-mul-result
-mul-result c = omega (arith, c.before.requires.tier-most)
+mul-result c = omega (arith, c.before.requires.tier_most)
 
 sub-result : tie.Need-overflow-sub-result
 sub-result c =
@@ -18,8 +18,8 @@ cast-result : tie.Need-overflow-cast-result
 cast-result c = search rules
 
 returns : tie.Need-returns
-unfolding cornerOf
-returns c = (refl, omega (arith, c.before.before.requires.tier-most))
+unfolding corner_of
+returns c = (refl, omega (arith, c.before.before.requires.tier_most))
 
 pub hook-corner-spec : {M : Type 1} → statement M
 hook-corner-spec = tie.close (tie.spec mul-result sub-result cast-result returns)

@@ -2,19 +2,19 @@
 use native.Mathlib.Omega.{arith}
 use mathlib.Core.Path.{refl}
 use borrow.Author.Rules.{rules}
-use Rattle.sheet.specs.Lashings.{levelOf}
+use Rattle.sheet.specs.Lashings.{level_of}
 use Rattle.lash_forces.proofs.hook_level.Statement.{statement}
 use Rattle.lash_forces.proofs.hook_level.Tie as tie
 
 sub-result : tie.Need-overflow-sub-result
-unfolding levelOf
+unfolding level_of
 sub-result c = omega (arith, c.before.requires.raised)
 
 cast-result : tie.Need-overflow-cast-result
 cast-result c = search rules
 
 returns : tie.Need-returns
-unfolding levelOf
+unfolding level_of
 returns c = (refl, c.before.requires.raised, c.before.requires.inside)
 
 pub hook-level-spec : {M : Type 1} → statement M

@@ -19,7 +19,7 @@ vertical-part-requires-2 c κs =
     simp c.before.g2.given.1 at c.before.before.before.requires
 
 returns : tie.Need-returns
-returns c = rw c.before.before.g.given.1 (c.vertical-part.ensures.0, refl)
+returns c = rw c.before.before.g.given.1 (c.vertical_part_lem.ensures.0, refl)
 
 returns-2 : tie.Need-returns-2
 returns-2 c = rw c.before.before.g2.given.1 (refl, c.vertical-part2.ensures.0)

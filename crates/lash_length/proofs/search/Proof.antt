@@ -6,7 +6,7 @@ use borrow.Author.Rules.{rules}
 use Rattle.sheet.specs.declared.Lash.{Lash}
 use Rattle.statics.specs.Lashes.{squares}
 use Rattle.lash_length.specs.Trials.{longest, others, nearer, guess, start, trials, found}
-use Rattle.lash_length.proofs.Trials.{start-long, finds}
+use Rattle.lash_length.proofs.Trials.{start_long, finds}
 use Rattle.lash_length.proofs.search.Statement.{statement}
 use Rattle.lash_length.proofs.search.Tie as tie
 
@@ -35,7 +35,7 @@ tried-requires c κs =
     let g = c.before.sides-of.ensures.0 in
     let l = c.before.before.args.l in
     let e : c.start_of_lem.result ≡ start l = begun l g.0 g.1 g.2 c.start_of_lem.ensures.0 in
-    (omega (arith, g.1, e, start-long c.before.before.requires), c.start_of_lem.ensures.1, omega arith)
+    (omega (arith, g.1, e, start_long c.before.before.requires), c.start_of_lem.ensures.1, omega arith)
 
 returns : tie.Need-returns
 unfolding found trials

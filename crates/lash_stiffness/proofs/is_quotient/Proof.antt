@@ -2,15 +2,15 @@
 use mathlib.Core.Path.{refl, sym, subst}
 use native.Mathlib.Omega.{arith}
 use lib.Dec.{T}
-use Rattle.lash_stiffness.proofs.Remainders.{p-le, taken-le, more-le, certified}
+use Rattle.lash_stiffness.proofs.Remainders.{p_le, taken_le, more_le, certified}
 use Rattle.lash_stiffness.proofs.is_quotient.Statement.{statement}
 use Rattle.lash_stiffness.proofs.is_quotient.Tie as tie
 
 mul-p : tie.Need-overflow-mul-p
-mul-p c = omega (arith, p-le c.requires.0 c.requires.1 c.requires.2)
+mul-p c = omega (arith, p_le c.requires.0 c.requires.1 c.requires.2)
 
 mul-taken : tie.Need-overflow-mul-taken
-mul-taken c = omega (arith, taken-le c.requires.0 c.requires.1 c.requires.2)
+mul-taken c = omega (arith, taken_le c.requires.0 c.requires.1 c.requires.2)
 
 returns : tie.Need-returns
 returns c = λ e. absurd (subst T (sym e) tt)
@@ -24,7 +24,7 @@ mul-over c = omega arith
 mul-more : tie.Need-overflow-mul-more
 mul-more c =
     let p = c.before.before.requires in
-    omega (arith, more-le p.0 p.1 p.2)
+    omega (arith, more_le p.0 p.1 p.2)
 
 returns-3 : tie.Need-returns-3
 returns-3 c = λ e. absurd (subst T (sym e) tt)

@@ -5,12 +5,12 @@ use mathlib.Core.Path.{◌≡◌, ap, ◌∙◌}
 use native.Mathlib.Omega.{arith}
 use borrow.Author.Rules.{rules}
 use borrow.Author.Tests.{not-false}
-use Rattle.sheet.specs.Layout.{tierCount, sheetOf}
-use Rattle.sheet.proofs.Clear.{parts, head-there, few-tiers}
-use Rattle.sheet.proofs.TakenSheets.{taken-fits}
-use Rattle.statics.specs.inner.Computed.{loadRuleBy}
-use Rattle.preview_moves.specs.inner.Moved.{moved}
-use Rattle.preview_moves.proofs.Moves.{without-tier, without-mass, some, below, moved-fits, with-mass}
+use Rattle.sheet.specs.Layout.{tier_count, sheet_of}
+use Rattle.sheet.proofs.Clear.{parts, head_there, few_tiers}
+use Rattle.sheet.proofs.TakenSheets.{taken_fits}
+use Rattle.statics.specs.Inner.Computed.{load_rule_by}
+use Rattle.preview_moves.specs.Inner.Moved.{moved}
+use Rattle.preview_moves.proofs.Moves.{without_tier, without_mass, some, below, moved_fits, with_mass}
 use Rattle.preview_moves.proofs.Order.{lacking}
 use Rattle.preview.proofs.answer_moved.Statement.{statement}
 use Rattle.preview.proofs.answer_moved.Tie as tie
@@ -24,35 +24,35 @@ held c = c.before.before.before.before.before
 
 -- the stack has the tier
 has : (c : tie.Else1) → lacking (entered c.before).args.sheet.now (entered c.before).args.tier ≡ false
-has c = rw c.before.byte-at.ensures.0 at c.if1.false
+has c = rw c.before.byte_at_lem.ensures.0 at c.if1.false
 
-has-tier : (c : tie.Else1) → (entered c.before).args.tier - 1 < tierCount (entered c.before).args.sheet.now
-unfolding sheetOf
-has-tier c =
+has_tier : (c : tie.Else1) → (entered c.before).args.tier - 1 < tier_count (entered c.before).args.sheet.now
+unfolding sheet_of
+has_tier c =
     let a = (entered c.before).args in
-    below (sheetOf a.sheet.now) a.tier a.mass a.answer.now (has c)
+    below (sheet_of a.sheet.now) a.tier a.mass a.answer.now (has c)
 
-moved-tiers :
+moved_tiers :
     (c : tie.After-with-mass) →
     let a = (entered (held c).before).args in
-    c.with-mass.result ≡ (moved (a.tier - 1) a.mass (sheetOf a.sheet.now)).tiers
-moved-tiers c = rw c.before.own-tiers.ensures at c.with-mass.ensures
+    c.with_mass.result ≡ (moved (a.tier - 1) a.mass (sheet_of a.sheet.now)).tiers
+moved_tiers c = rw c.before.own-tiers.ensures at c.with_mass.ensures
 
 byte-at-requires : tie.Need-byte-at-requires
 byte-at-requires c κs = search rules
 
 returns : tie.Need-returns
-unfolding sheetOf
+unfolding sheet_of
 returns c =
     let a = (entered c.before).args in
-    without-tier (sheetOf a.sheet.now) a.tier a.mass a.answer.now
-    (rw c.before.byte-at.ensures.0 at c.if1.true)
+    without_tier (sheet_of a.sheet.now) a.tier a.mass a.answer.now
+    (rw c.before.byte_at_lem.ensures.0 at c.if1.true)
 
 sub-k : tie.Need-overflow-sub-k
-unfolding sheetOf
+unfolding sheet_of
 sub-k c =
     let a = (entered c.before).args in
-    some (sheetOf a.sheet.now) a.tier a.mass a.answer.now (has c)
+    some (sheet_of a.sheet.now) a.tier a.mass a.answer.now (has c)
 
 mul-t16 : tie.Need-overflow-mul-t16
 mul-t16 c = search rules
@@ -61,22 +61,22 @@ add-t17 : tie.Need-overflow-add-t17
 add-t17 c = search rules
 
 returns-2 : tie.Need-returns-2
-unfolding sheetOf
+unfolding sheet_of
 returns-2 c =
     let e = c.before in
     let a = (entered e.before).args in
-    without-mass (sheetOf a.sheet.now) a.tier a.mass a.answer.now (has e) c.if2.true
+    without_mass (sheet_of a.sheet.now) a.tier a.mass a.answer.now (has e) c.if2.true
 
 head-of-requires : tie.Need-head-of-requires
 head-of-requires c κs =
     let b = entered c.before.before in
     let s = b.args.sheet.now in
-    head-there s (parts s b.pre).head
+    head_there s (parts s b.pre).head
 
 rule-of-requires : tie.Need-rule-of-requires
-unfolding sheetOf
+unfolding sheet_of
 rule-of-requires c κs =
-    rw c.head_of.ensures (taken-fits _ (entered c.before.before.before).requires).route
+    rw c.head_of.ensures (taken_fits _ (entered c.before.before.before).requires).route
 
 own-tiers-requires : tie.Need-own-tiers-requires
 own-tiers-requires c κs = (entered c.before.before.before.before).requires
@@ -86,25 +86,25 @@ with-mass-requires c κs =
     let e = c.before.before.before.before in
     let b = entered e.before in
     let s = b.args.sheet.now in
-    omega (arith, has-tier e, few-tiers s (parts s b.pre).tiers)
+    omega (arith, has_tier e, few_tiers s (parts s b.pre).tiers)
 
 answer-with-requires : tie.Need-answer-with-requires
-unfolding sheetOf
+unfolding sheet_of
 answer-with-requires c κs =
     let w = c.before in
     let e = held w in
     let b = entered e.before in
     let a = b.args in
     let r = w.before.before in
-    let fits = moved-fits (taken-fits a.sheet.now b.pre) (a.tier - 1) a.mass (has-tier e)
+    let fits = moved_fits (taken_fits a.sheet.now b.pre) (a.tier - 1) a.mass (has_tier e)
     (not-false _ r.before.before.if2.false) in
-    (b.pre, rw (moved-tiers w) fits, r.rule-of.ensures.1, r.rule-of.ensures.2)
+    (b.pre, rw (moved_tiers w) fits, r.rule-of.ensures.1, r.rule-of.ensures.2)
 
 same_length : tie.Need-same-length
 same_length c = search rules
 
 returns-3 : tie.Need-returns-3
-unfolding sheetOf
+unfolding sheet_of
 returns-3 c =
     let t = c.before.before in
     let w = t.before.before in
@@ -112,8 +112,8 @@ returns-3 c =
     let h = r.before in
     let e = held w in
     let a = (entered e.before).args in
-    with-mass (sheetOf a.sheet.now) a.tier a.mass a.answer.now (has e) h.before.if2.false
-    (r.rule-of.ensures.0 ∙ ap loadRuleBy h.head_of.ensures) (moved-tiers w) t.answer-with.ensures.1
+    with_mass (sheet_of a.sheet.now) a.tier a.mass a.answer.now (has e) h.before.if2.false
+    (r.rule-of.ensures.0 ∙ ap load_rule_by h.head_of.ensures) (moved_tiers w) t.answer-with.ensures.1
 
 pub answer-moved-spec : {M : Type 1} → statement M
 answer-moved-spec =

@@ -8,9 +8,9 @@ use mir.Syntax.{w64}
 use mir.Val.{to_z, of_z}
 use mir.ValLaws.{to_z-of_z}
 use Rattle.arith.proofs.Sizes.{fits64}
-use Rattle.roll.specs.Rounded.{verticalLeast}
-use Rattle.roll.proofs.Outcomes.{refused-18, refused-19-1, refused-19-2, refused-19-3, given, legal, beyond, inside}
-use Rattle.roll.proofs.Outcomes.{under-zero, least-inside}
+use Rattle.roll.specs.Rounded.{vertical_least}
+use Rattle.roll.proofs.Outcomes.{refused_18, refused_19_1, refused_19_2, refused_19_3, given, legal, beyond, inside}
+use Rattle.roll.proofs.Outcomes.{under_zero, least_inside}
 use Rattle.roll.proofs.Ranges.{unsigned64}
 use Rattle.roll.proofs.condition_a.Statement.{statement}
 use Rattle.roll.proofs.condition_a.Tie as tie
@@ -19,7 +19,7 @@ refused-requires : tie.Need-refused-requires
 refused-requires c κs = search rules
 
 returns : tie.Need-returns
-returns c = sym (refused-18 c.before.before.args.given (sym c.before.refused.ensures ∙ c.if1.true))
+returns c = sym (refused_18 c.before.before.args.given (sym c.before.refused.ensures ∙ c.if1.true))
 
 transverse-requires : tie.Need-transverse-requires
 transverse-requires c κs = legal c.before.before.args.given (sym c.before.refused.ensures ∙ c.if1.false)
@@ -28,7 +28,7 @@ returns-2 : tie.Need-returns-2
 returns-2 c =
     let s = c.before.before.before.before in
     let e = sym c.before.before.before.refused.ensures ∙ c.before.before.if1.false in
-    sym (refused-19-1 s.args.given e (beyond _ 1500 c.before.transverse.ensures c.if2.true))
+    sym (refused_19_1 s.args.given e (beyond _ 1500 c.before.transverse.ensures c.if2.true))
 
 vertical-most-requires : tie.Need-vertical-most-requires
 vertical-most-requires c κs =
@@ -41,7 +41,7 @@ returns-3 c =
     let s = b.before.before.before.before in
     let e = sym b.before.before.before.refused.ensures ∙ b.before.before.if1.false in
     let f = inside _ 1500 b.before.transverse.ensures b.if2.false in
-    sym (refused-19-2 s.args.given e f (beyond _ 3000 c.before.vertical-most.ensures c.if3.true))
+    sym (refused_19_2 s.args.given e f (beyond _ 3000 c.before.vertical-most.ensures c.if3.true))
 
 vertical-least-requires : tie.Need-vertical-least-requires
 vertical-least-requires c κs =
@@ -62,7 +62,7 @@ returns-4 c =
     let f = inside _ 1500 b.before.transverse.ensures b.if2.false in
     let h = inside _ 3000 m.before.vertical-most.ensures m.if3.false in
     let z = rw c.before.vertical-least.ensures.0 at (simp (held c.before) at c.if4.true) in
-    sym (refused-19-3 s.args.given e f h (under-zero (verticalLeast s.args.given) 1000 z))
+    sym (refused_19_3 s.args.given e f h (under_zero (vertical_least s.args.given) 1000 z))
 
 cast-t7 : tie.Need-overflow-cast-t7
 cast-t7 c =
@@ -86,7 +86,7 @@ returns-5 c =
       ap nat_abs b.before.transverse.ensures,
       ap nat_abs m.before.vertical-most.ensures,
     )
-    (sym (given g e f h (least-inside g z)))
+    (sym (given g e f h (least_inside g z)))
 
 pub condition-a-spec : {M : Type 1} → statement M
 condition-a-spec =

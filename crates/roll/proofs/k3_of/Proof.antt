@@ -7,7 +7,7 @@ use mir.Syntax.{w32}
 use mir.ValLaws.{to_z-of_z}
 use Rattle.arith.specs.Fractions.{nat, ◌*q◌, ◌≈◌}
 use Rattle.roll.specs.ConditionA.{metres, k₃}
-use Rattle.roll.proofs.Ranges.{place, place-unsigned}
+use Rattle.roll.proofs.Ranges.{place, place_unsigned}
 use Rattle.roll.proofs.k3_of.Statement.{statement}
 use Rattle.roll.proofs.k3_of.Tie as tie
 
@@ -18,7 +18,7 @@ cast-k3-part-2 : tie.Need-overflow-cast-k3-part-2
 cast-k3-part-2 c =
     let s = c.before.before.before in
     let p = place s.requires.length.1 s.args.given.x s.requires.x.0 s.requires.x.1 in
-    rw (to_z-of_z w32 s.args.given.x p.2) (place-unsigned s.args.given.x s.requires.x.0 p.2)
+    rw (to_z-of_z w32 s.args.given.x p.2) (place_unsigned s.args.given.x s.requires.x.0 p.2)
 
 k3-part-requires : tie.Need-k3-part-requires
 k3-part-requires c κs =

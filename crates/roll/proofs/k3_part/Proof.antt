@@ -1,7 +1,7 @@
 -- `roll::k3_part`: the case by whole numbers is the case of k_3.
 use native.Mathlib.Omega.{arith}
 use borrow.Author.Rules.{rules}
-use Rattle.roll.proofs.Factor.{part-aft, part-fore, part-amid}
+use Rattle.roll.proofs.Factor.{part_aft, part_fore, part_amid}
 use Rattle.roll.proofs.k3_part.Statement.{statement}
 use Rattle.roll.proofs.k3_part.Tie as tie
 
@@ -18,7 +18,7 @@ sub-result : tie.Need-overflow-sub-result
 sub-result c = search rules
 
 returns : tie.Need-returns
-returns c = let b = c.before in (part-aft b.args.length b.args.x b.requires.0 c.if1.true, omega (arith, c.if1.true))
+returns c = let b = c.before in (part_aft b.args.length b.args.x b.requires.0 c.if1.true, omega (arith, c.if1.true))
 
 mul-if2 : tie.Need-overflow-mul-if2
 mul-if2 c = search rules
@@ -38,12 +38,12 @@ sub-result-2 c = search rules
 returns-2 : tie.Need-returns-2
 returns-2 c =
     let b = c.before.before in
-    (part-fore b.args.length b.args.x b.requires.0 c.before.if1.false c.if2.true, omega (arith, b.requires.2))
+    (part_fore b.args.length b.args.x b.requires.0 c.before.if1.false c.if2.true, omega (arith, b.requires.2))
 
 returns-3 : tie.Need-returns-3
 returns-3 c =
     let b = c.before.before in
-    (part-amid b.args.length b.args.x b.requires.0 c.before.if1.false c.if2.false, omega arith)
+    (part_amid b.args.length b.args.x b.requires.0 c.before.if1.false c.if2.false, omega arith)
 
 pub k3-part-spec : {M : Type 1} → statement M
 k3-part-spec =

@@ -6,8 +6,8 @@ use lib.Dec.{lit<}
 use mir.Syntax.{w64}
 use mir.ValLaws.{to_z-of_z}
 use Rattle.arith.proofs.Sizes.{fits64}
-use Rattle.roll_parts.specs.inner.Parts.{parts_of}
-use Rattle.roll.proofs.Exact.{difference-rounded}
+use Rattle.roll_parts.specs.Inner.Parts.{parts_of}
+use Rattle.roll.proofs.Exact.{difference_rounded}
 use borrow.Author.Rules.{rules}
 use Rattle.roll.proofs.taken_off.Statement.{statement}
 use Rattle.roll.proofs.taken_off.Tie as tie
@@ -50,8 +50,8 @@ returns c =
     let roll = c.before.roll-at in
     let most = subst (λ p. p.rest ≤ parts_of a.given.length) roll.ensures.0 roll.ensures.2 in
     let part : k.result ≤ 30 * a.given.length = omega (arith, k.ensures.1) in
-    let exact = difference-rounded a.given s.requires.0 a.given.cosine k.result a.distance in
-    let down = c.rounded-down in
+    let exact = difference_rounded a.given s.requires.0 a.given.cosine k.result a.distance in
+    let down = c.rounded_down in
     let back = to_z-of_z w64 down.result (fits64 down.ensures.1 (lit< tt)) in
     rw back (
       λ D h.

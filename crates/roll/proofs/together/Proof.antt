@@ -1,7 +1,7 @@
 -- `roll::together`: the parts are those of the exact sum, so the thousandths are those that it rounds up to.
 use mathlib.Core.Path.{sym}
 use borrow.Author.Rules.{rules}
-use Rattle.roll.proofs.Exact.{sum-rounded}
+use Rattle.roll.proofs.Exact.{sum_rounded}
 use Rattle.roll.proofs.together.Statement.{statement}
 use Rattle.roll.proofs.together.Tie as tie
 
@@ -37,8 +37,8 @@ returns c D h =
     let s = c.before.before.before.before.before.before in
     let a = s.args in
     let k = c.before.before.before.before.k3-of in
-    let exact = sum-rounded a.given s.requires.0 a.trig k.result a.distance D k.ensures.0 h in
-    simp (c.rounded-up.ensures, c.before.roll-at.ensures.0, c.before.before.Still-part.ensures.0) (sym exact)
+    let exact = sum_rounded a.given s.requires.0 a.trig k.result a.distance D k.ensures.0 h in
+    simp (c.rounded_up_lem.ensures, c.before.roll-at.ensures.0, c.before.before.Still-part.ensures.0) (sym exact)
 
 pub together-spec : {M : Type 1} → statement M
 together-spec =

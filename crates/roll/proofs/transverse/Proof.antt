@@ -5,9 +5,9 @@ use mir.Syntax.{w32}
 use mir.ValLaws.{to_z-of_z}
 use Rattle.arith.specs.Fractions.{◌-q◌}
 use Rattle.roll.specs.ConditionA.{metres}
-use Rattle.roll.proofs.Formulas.{transverse-is}
+use Rattle.roll.proofs.Formulas.{transverse_is}
 use Rattle.roll.proofs.Ranges.{length32}
-use Rattle.roll.proofs.Scales.{apart-metres}
+use Rattle.roll.proofs.Scales.{apart_metres}
 use Rattle.roll.proofs.transverse.Statement.{statement}
 use Rattle.roll.proofs.transverse.Tie as tie
 
@@ -25,7 +25,7 @@ returns c =
     let far = simp (to_z-of_z w32 z (length32 z s.requires.z), to_z-of_z w32 centre (length32 centre s.requires.centre))
     at c.before.distance.ensures.0
     in
-    c.together.ensures (metres z -q metres centre) (rw far (apart-metres z centre)) ∙ sym (transverse-is s.args.given)
+    c.together.ensures (metres z -q metres centre) (rw far (apart_metres z centre)) ∙ sym (transverse_is s.args.given)
 
 pub transverse-spec : {M : Type 1} → statement M
 transverse-spec = tie.close (tie.spec distance-requires together-requires returns)

@@ -5,9 +5,9 @@ use lib.IntN.{+ℤ_idr}
 use mir.Syntax.{w32}
 use mir.ValLaws.{to_z-of_z}
 use Rattle.roll.specs.ConditionA.{metres}
-use Rattle.roll.proofs.Formulas.{most-is}
+use Rattle.roll.proofs.Formulas.{most_is}
 use Rattle.roll.proofs.Ranges.{length32}
-use Rattle.roll.proofs.Scales.{size-metres}
+use Rattle.roll.proofs.Scales.{size_metres}
 use Rattle.roll.proofs.vertical_most.Statement.{statement}
 use Rattle.roll.proofs.vertical_most.Tie as tie
 
@@ -22,7 +22,7 @@ returns c =
     let s = c.before.before.before in
     let y = s.args.given.y in
     let far = simp (to_z-of_z w32 y (length32 y s.requires.y), +ℤ_idr y) at c.before.distance.ensures.0 in
-    c.together.ensures (metres y) (rw far (size-metres y)) ∙ sym (most-is s.args.given)
+    c.together.ensures (metres y) (rw far (size_metres y)) ∙ sym (most_is s.args.given)
 
 pub vertical-most-spec : {M : Type 1} → statement M
 vertical-most-spec = tie.close (tie.spec distance-requires together-requires returns)

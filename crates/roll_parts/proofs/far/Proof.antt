@@ -1,12 +1,12 @@
 -- `roll_parts::far`: above on either side.
 use mir.Syntax.{w32}
 use mir.ValLaws.{to_z-of_z}
-use Rattle.roll_parts.proofs.Signs.{far-either}
+use Rattle.roll_parts.proofs.Signs.{far_either}
 use Rattle.roll_parts.proofs.far.Statement.{statement}
 use Rattle.roll_parts.proofs.far.Tie as tie
 
 returns : tie.Need-returns
-returns c = simp (to_z-of_z w32 c.args.mm c.ranges.mm) (far-either c.args.mm)
+returns c = simp (to_z-of_z w32 c.args.mm c.ranges.mm) (far_either c.args.mm)
 
 pub far-spec : {M : Type 1} → statement M
 far-spec = tie.close (tie.spec returns)

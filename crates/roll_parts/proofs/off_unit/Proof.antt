@@ -8,20 +8,20 @@ use native.Mathlib.Omega.{arith}
 use borrow.Author.Tests.{ltb-true, ltb-false, lt-ltb}
 use lib.Dec.{ltb}
 use lib.IntN.{pos, nat_abs, ◌-ℤ◌}
-use Rattle.sheet.proofs.Bools.{or-true, or-false}
-use Rattle.roll_parts.proofs.Signs.{off-either, square_above}
+use Rattle.sheet.proofs.Bools.{or_true, or_false}
+use Rattle.roll_parts.proofs.Signs.{off_either, square_above}
 use Rattle.roll_parts.proofs.off_unit.Statement.{statement}
 use Rattle.roll_parts.proofs.off_unit.Tie as tie
 
 returns : tie.Need-returns
-returns c = sym (too-great c.before.args.sine c.before.args.cosine (or-true _ _ c.if1.true))
+returns c = sym (too_great c.before.args.sine c.before.args.cosine (or_true _ _ c.if1.true))
   where
-    too-great :
+    too_great :
         (a b : ℕ) →
         (ltb 10000 a ≡ true) ⊎ (ltb 10000 b ≡ true) →
         ltb 15000 (nat_abs (pos (a * a + b * b) -ℤ pos 100000000)) ≡ true
-    too-great a b (inl e) = lt-ltb _ _ (square_above a b (ltb-true _ _ e))
-    too-great a b (inr e) = rw (add_comm (a * a) (b * b)) (lt-ltb _ _ (square_above b a (ltb-true _ _ e)))
+    too_great a b (inl e) = lt-ltb _ _ (square_above a b (ltb-true _ _ e))
+    too_great a b (inr e) = rw (add_comm (a * a) (b * b)) (lt-ltb _ _ (square_above b a (ltb-true _ _ e)))
 
 -- up to 10,000
 squares :
@@ -29,7 +29,7 @@ squares :
     (c.before.args.sine * c.before.args.sine ≤ 10000 * 10000)
     × (c.before.args.cosine * c.before.args.cosine ≤ 10000 * 10000)
 squares c =
-    let e = or-false _ _ c.if1.false in
+    let e = or_false _ _ c.if1.false in
     let s = ltb-false _ _ e.0 in
     let k = ltb-false _ _ e.1 in
     (mul-le-mul s s, mul-le-mul k k)
@@ -46,7 +46,7 @@ add-sum c = omega (arith, (squares c).0, (squares c).1)
 returns-2 : tie.Need-returns-2
 returns-2 c =
     let a = c.before.args in
-    off-either (a.sine * a.sine + a.cosine * a.cosine)
+    off_either (a.sine * a.sine + a.cosine * a.cosine)
 
 pub off-unit-spec : {M : Type 1} → statement M
 off-unit-spec = tie.close (tie.spec returns mul-sum mul-sum-2 add-sum returns-2)

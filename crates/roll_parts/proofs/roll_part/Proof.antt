@@ -2,8 +2,8 @@
 use mathlib.Core.Path.{refl}
 use native.Mathlib.Omega.{arith}
 use borrow.Author.Rules.{rules}
-use Rattle.roll_parts.specs.inner.Parts.{turn_of}
-use Rattle.roll_parts.proofs.Bounds.{turn-most, square-most, square-least, whole-most, scaled-most, split-most, rest-most}
+use Rattle.roll_parts.specs.Inner.Parts.{turn_of}
+use Rattle.roll_parts.proofs.Bounds.{turn_most, square_most, square_least, whole_most, scaled_most, split_most, rest_most}
 use Rattle.roll_parts.proofs.roll_part.Statement.{statement}
 use Rattle.roll_parts.proofs.roll_part.Tie as tie
 
@@ -11,19 +11,19 @@ mul-turn : tie.Need-overflow-mul-turn
 mul-turn c = search rules
 
 mul-turn-2 : tie.Need-overflow-mul-turn-2
-mul-turn-2 c = omega (arith, turn-most c.requires.0 c.requires.3)
+mul-turn-2 c = omega (arith, turn_most c.requires.0 c.requires.3)
 
 mul-over : tie.Need-overflow-mul-over
-mul-over c = omega (arith, square-most c.requires.1 c.requires.2)
+mul-over c = omega (arith, square_most c.requires.1 c.requires.2)
 
 mul-over-2 : tie.Need-overflow-mul-over-2
-mul-over-2 c = omega (arith, square-most c.requires.1 c.requires.2)
+mul-over-2 c = omega (arith, square_most c.requires.1 c.requires.2)
 
 div-t7 : tie.Need-nonzero-div-t7
-div-t7 c = omega (arith, square-least c.requires.1 c.requires.2)
+div-t7 c = omega (arith, square_least c.requires.1 c.requires.2)
 
 rem-split-product-up : tie.Need-nonzero-rem-split-product-up
-rem-split-product-up c = omega (arith, square-least c.requires.1 c.requires.2)
+rem-split-product-up c = omega (arith, square_least c.requires.1 c.requires.2)
 
 mul-split-product-up : tie.Need-overflow-mul-split-product-up
 mul-split-product-up c = search rules
@@ -35,8 +35,8 @@ split-product-up-requires c κs =
     let most = c.requires.2 in (
       p,
       p,
-      scaled-most p most (turn_of a.angle a.distance) a.length c.requires.5,
-      split-most p most (turn_of a.angle a.distance) a.length c.requires.5,
+      scaled_most p most (turn_of a.angle a.distance) a.length c.requires.5,
+      split_most p most (turn_of a.angle a.distance) a.length c.requires.5,
     )
 
 returns : tie.Need-returns
@@ -45,8 +45,8 @@ returns c =
     let a = b.args in
     let p = b.requires.1 in
     let most = b.requires.2 in
-    let rest = rest-most p most (turn_of a.angle a.distance) a.length b.requires.5 in
-    rw c.split-product-up.ensures (refl, whole-most p most (turn-most b.requires.0 b.requires.3), rest)
+    let rest = rest_most p most (turn_of a.angle a.distance) a.length b.requires.5 in
+    rw c.split-product-up.ensures (refl, whole_most p most (turn_most b.requires.0 b.requires.3), rest)
 
 pub roll-part-spec : {M : Type 1} → statement M
 roll-part-spec =

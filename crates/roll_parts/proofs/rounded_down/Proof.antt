@@ -8,10 +8,10 @@ use lib.IntN.{pos}
 use mir.Syntax.{w64}
 use mir.Val.{to_z}
 use mir.ValLaws.{to_z-of_z}
-use Rattle.arith.specs.inner.Sizes.{Small}
+use Rattle.arith.specs.Inner.Sizes.{Small}
 use Rattle.arith.proofs.Sizes.{divisor, fits64}
-use Rattle.roll_parts.specs.inner.Parts.{downOf}
-use Rattle.roll_parts.proofs.Bounds.{thousandths-most, down-small}
+use Rattle.roll_parts.specs.Inner.Parts.{down_of}
+use Rattle.roll_parts.proofs.Bounds.{thousandths_most, down_small}
 use Rattle.roll_parts.proofs.rounded_down.Statement.{statement}
 use Rattle.roll_parts.proofs.rounded_down.Tie as tie
 
@@ -20,13 +20,13 @@ tops c = (c.args.still + (c.args.parts - c.args.roll.rest)) / c.args.parts
 
 -- the two numbers, read back, and their difference
 first : (c : tie.Start) → to_z w64 (tops c) ≡ pos (tops c)
-first c = divisor (tops c) (omega (arith, thousandths-most c.args.roll.rest c.requires.2 c.requires.1 c.requires.3))
+first c = divisor (tops c) (omega (arith, thousandths_most c.args.roll.rest c.requires.2 c.requires.1 c.requires.3))
 
 next : (c : tie.Start) → to_z w64 (c.args.roll.whole + 1) ≡ pos (c.args.roll.whole + 1)
 next c = divisor (c.args.roll.whole + 1) (omega (arith, c.requires.3))
 
-small : (c : tie.Start) → Small (2 ^ 55) (downOf c.args.still c.args.roll c.args.parts)
-small c = down-small c.args.roll.rest c.requires.2 c.requires.1 c.requires.3
+small : (c : tie.Start) → Small (2 ^ 55) (down_of c.args.still c.args.roll c.args.parts)
+small c = down_small c.args.roll.rest c.requires.2 c.requires.1 c.requires.3
 
 sub-result : tie.Need-overflow-sub-result
 sub-result c = search rules
@@ -38,7 +38,7 @@ div-result : tie.Need-nonzero-div-result
 div-result c = search rules
 
 cast-result : tie.Need-overflow-cast-result
-cast-result c = omega (arith, thousandths-most c.args.roll.rest c.requires.2 c.requires.1 c.requires.3)
+cast-result c = omega (arith, thousandths_most c.args.roll.rest c.requires.2 c.requires.1 c.requires.3)
 
 add-result-2 : tie.Need-overflow-add-result-2
 add-result-2 c = search rules
@@ -51,7 +51,7 @@ sub-result-2 c = simp (first c, next c) (fits64 (small c) (lit< tt))
 
 returns : tie.Need-returns
 returns c =
-    simp (first c, next c, to_z-of_z w64 (downOf c.args.still c.args.roll c.args.parts) (fits64 (small c) (lit< tt)))
+    simp (first c, next c, to_z-of_z w64 (down_of c.args.still c.args.roll c.args.parts) (fits64 (small c) (lit< tt)))
     (refl, small c)
 
 pub rounded-down-spec : {M : Type 1} → statement M

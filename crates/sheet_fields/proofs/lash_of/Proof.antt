@@ -1,6 +1,6 @@
 -- `sheet_fields::lash_of`: a lash, field by field.
 use borrow.Author.Rules.{rules}
-use Rattle.sheet.specs.Layout.{lashOf}
+use Rattle.sheet.specs.Layout.{lash_of}
 use Rattle.sheet_fields.proofs.lash_of.Statement.{statement}
 use Rattle.sheet_fields.proofs.lash_of.Tie as tie
 
@@ -62,7 +62,7 @@ field4-requires-2 : tie.Need-field4-requires-2
 field4-requires-2 c κs = search rules
 
 returns : tie.Need-returns
-unfolding lashOf
+unfolding lash_of
 returns c = cc
 
 pub lash-of-spec : {M : Type 1} → statement M

@@ -3,14 +3,14 @@ use Prim.Native.Nat.{◌≤◌, ◌-◌}
 use mathlib.Core.Path.{◌≡◌, ◌∙◌, ap}
 use native.Mathlib.Omega.{arith}
 use borrow.Author.Rules.{rules}
-use Rattle.sheet.specs.Layout.{lashIn, lashesIn, blankLash}
+use Rattle.sheet.specs.Layout.{lash_in, lashes_in, blank_lash}
 use Rattle.arith.specs.Lists.{from}
 use Rattle.arith.proofs.Arrays.{one_more}
 use Rattle.sheet_fields.proofs.lashes_of.Statement.{statement}
 use Rattle.sheet_fields.proofs.lashes_of.Tie as tie
 
 abbrev invariant-loop : tie.invariant-loop
-invariant-loop s at n lashes₀ k₀ lashes k = (k ≤ n) × (lashes ≡ lashesIn s at k)
+invariant-loop s at n lashes₀ k₀ lashes k = (k ≤ n) × (lashes ≡ lashes_in s at k)
 
 abbrev decreases-loop : tie.decreases-loop
 decreases-loop s at n lashes₀ k₀ lashes k = n - k
@@ -49,10 +49,10 @@ loop-less c = search rules
 loop-again : tie.Need-loop-preserved invariant-loop decreases-loop
 loop-again c =
     let l = c.before.before in
-    (search rules, rw (l.loop.invariant.1, c.lash-of.ensures) (one_more (lashIn _ _) blankLash 8 l.loop.k (omega arith)))
+    (search rules, rw (l.loop.invariant.1, c.lash-of.ensures) (one_more (lash_in _ _) blank_lash 8 l.loop.k (omega arith)))
 
 returns : tie.Need-returns invariant-loop decreases-loop
-returns c = c.before.loop.invariant.1 ∙ ap (lashesIn _ _) (omega arith)
+returns c = c.before.loop.invariant.1 ∙ ap (lashes_in _ _) (omega arith)
 
 pub lashes-of-spec : {M : Type 1} → statement M
 lashes-of-spec =

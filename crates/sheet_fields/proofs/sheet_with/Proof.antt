@@ -2,8 +2,8 @@
 -- taken.
 -- Places: m where the closed end's lashes are counted, n where the door end's are, b where the tiers are, a at the start.
 use borrow.Author.Rules.{rules}
-use Rattle.sheet.specs.Layout.{sheetOf}
-use Rattle.sheet.proofs.Clear.{parts, head-there, few-lashes, lashes-there}
+use Rattle.sheet.specs.Layout.{sheet_of}
+use Rattle.sheet.proofs.Clear.{parts, head_there, few_lashes, lashes_there}
 use Rattle.sheet_fields.proofs.sheet_with.Statement.{statement}
 use Rattle.sheet_fields.proofs.sheet_with.Tie as tie
 
@@ -28,7 +28,7 @@ head-of-requires c κs =
     let b = n.before.before in
     let a = b.before.before in
     let s = a.args.s.now in
-    head-there s (parts s a.requires).head
+    head_there s (parts s a.requires).head
 
 lashes-of-requires : tie.Need-lashes-of-requires
 lashes-of-requires c κs =
@@ -38,7 +38,7 @@ lashes-of-requires c κs =
     let a = b.before.before in
     let s = a.args.s.now in
     let d = (parts s a.requires).door in
-    rw (n.byte-at2.ensures.0, n.before.door-place.ensures.0) (few-lashes _ s _ d, lashes-there _ s _ d)
+    rw (n.byte-at2.ensures.0, n.before.door_place_lem.ensures.0) (few_lashes _ s _ d, lashes_there _ s _ d)
 
 lashes-of-requires-2 : tie.Need-lashes-of-requires-2
 lashes-of-requires-2 c κs =
@@ -48,10 +48,10 @@ lashes-of-requires-2 c κs =
     let a = b.before.before in
     let s = a.args.s.now in
     let d = (parts s a.requires).closed in
-    rw (m.byte-at3.ensures.0, m.before.closed-place.ensures.0) (few-lashes _ s _ d, lashes-there _ s _ d)
+    rw (m.byte-at3.ensures.0, m.before.closed_place_lem.ensures.0) (few_lashes _ s _ d, lashes_there _ s _ d)
 
 returns : tie.Need-returns
-unfolding sheetOf
+unfolding sheet_of
 returns c =
     let t = c.before.before in
     let m = t.before in
@@ -62,10 +62,10 @@ returns c =
       c.before.lashes-of.ensures,
       t.head_of.ensures,
       m.byte-at3.ensures.0,
-      m.before.closed-place.ensures.0,
+      m.before.closed_place_lem.ensures.0,
       n.byte-at2.ensures.0,
-      n.before.door-place.ensures.0,
-      b.byte-at.ensures.0,
+      n.before.door_place_lem.ensures.0,
+      b.byte_at_lem.ensures.0,
     )
 
 pub sheet-with-spec : {M : Type 1} → statement M

@@ -1,6 +1,6 @@
 -- `sheet_fields::tier_of`: a tier, field by field.
 use borrow.Author.Rules.{rules}
-use Rattle.sheet.specs.Layout.{tierOf}
+use Rattle.sheet.specs.Layout.{tier_of}
 use Rattle.sheet_fields.proofs.tier_of.Statement.{statement}
 use Rattle.sheet_fields.proofs.tier_of.Tie as tie
 
@@ -44,7 +44,7 @@ field2-requires-5 : tie.Need-field2-requires-5
 field2-requires-5 c κs = search rules
 
 returns : tie.Need-returns
-unfolding tierOf
+unfolding tier_of
 returns c = cc
 
 pub tier-of-spec : {M : Type 1} → statement M

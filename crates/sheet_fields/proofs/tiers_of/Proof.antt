@@ -3,14 +3,14 @@ use Prim.Native.Nat.{◌≤◌, ◌-◌}
 use mathlib.Core.Path.{◌≡◌, ◌∙◌, ap}
 use native.Mathlib.Omega.{arith}
 use borrow.Author.Rules.{rules}
-use Rattle.sheet.specs.Layout.{tierIn, tiersIn, blankTier}
+use Rattle.sheet.specs.Layout.{tier_in, tiers_in, blank_tier}
 use Rattle.arith.specs.Lists.{from}
 use Rattle.arith.proofs.Arrays.{one_more}
 use Rattle.sheet_fields.proofs.tiers_of.Statement.{statement}
 use Rattle.sheet_fields.proofs.tiers_of.Tie as tie
 
 abbrev invariant-loop : tie.invariant-loop
-invariant-loop s n tiers₀ k₀ tiers k = (k ≤ n) × (tiers ≡ tiersIn s k)
+invariant-loop s n tiers₀ k₀ tiers k = (k ≤ n) × (tiers ≡ tiers_in s k)
 
 abbrev decreases-loop : tie.decreases-loop
 decreases-loop s n tiers₀ k₀ tiers k = n - k
@@ -46,10 +46,10 @@ loop-less c = search rules
 loop-again : tie.Need-loop-preserved invariant-loop decreases-loop
 loop-again c =
     let l = c.before.before in
-    (search rules, rw (l.loop.invariant.1, c.tier-of.ensures) (one_more (tierIn _) blankTier 10 l.loop.k (omega arith)))
+    (search rules, rw (l.loop.invariant.1, c.tier_of.ensures) (one_more (tier_in _) blank_tier 10 l.loop.k (omega arith)))
 
 returns : tie.Need-returns invariant-loop decreases-loop
-returns c = c.before.loop.invariant.1 ∙ ap (tiersIn _) (omega arith)
+returns c = c.before.loop.invariant.1 ∙ ap (tiers_in _) (omega arith)
 
 pub tiers-of-spec : {M : Type 1} → statement M
 tiers-of-spec =

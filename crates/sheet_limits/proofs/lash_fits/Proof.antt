@@ -1,6 +1,6 @@
 -- `sheet_limits::lash_fits`: the test of a lash's fields is the definition's.
 use borrow.Author.Rules.{rules}
-use Rattle.sheet.specs.Layout.{lashFits}
+use Rattle.sheet.specs.Layout.{lash_fits}
 use Rattle.sheet_limits.proofs.lash_fits.Statement.{statement}
 use Rattle.sheet_limits.proofs.lash_fits.Tie as tie
 
@@ -8,7 +8,7 @@ breaking-fits-requires : tie.Need-breaking-fits-requires
 breaking-fits-requires c κs = search rules
 
 returns : tie.Need-returns
-unfolding lashFits
+unfolding lash_fits
 returns c = rw c.breaking-fits.ensures
 
 pub lash-fits-spec : {M : Type 1} → statement M

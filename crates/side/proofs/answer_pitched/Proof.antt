@@ -1,6 +1,6 @@
 -- `side::answer_pitched`: what turns the short sheet back, or what `answer_side` says (Refusals).
 use Rattle.side_parts.proofs.ShortSheets.{pitched}
-use Rattle.side.proofs.Refusals.{pitch-refused, pitch-taken}
+use Rattle.side.proofs.Refusals.{pitch_refused, pitch_taken}
 use mathlib.Core.Path.{sym, ◌∙◌}
 use borrow.Author.Rules.{rules}
 use Rattle.side.proofs.answer_pitched.Statement.{statement}
@@ -26,7 +26,7 @@ returns : tie.Need-returns
 returns c =
     let k = c.before.before.before in
     let a = k.before.before.before.args in
-    pitch-refused a.t a.pitch.now a.answer.now k.test-pitch.ensures c.before.reading.given.1
+    pitch_refused a.t a.pitch.now a.answer.now k.test-pitch.ensures c.before.reading.given.1
 
 same_length : tie.Need-same-length
 same_length c = search rules
@@ -37,7 +37,7 @@ returns-2 c =
     let m = w.before.before in
     let k = m.before.before in
     let a = k.before.before.before.args in
-    pitch-taken a.t a.pitch.now a.answer.now k.test-pitch.ensures m.enum_told.given.1 w.answer-side.ensures
+    pitch_taken a.t a.pitch.now a.answer.now k.test-pitch.ensures m.enum_told.given.1 w.answer-side.ensures
 
 pub answer-pitched-spec : {M : Type 1} → statement M
 answer-pitched-spec =

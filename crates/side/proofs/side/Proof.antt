@@ -1,5 +1,5 @@
 -- `side::side`: the sheet's own refusals, then what `answer_pitched` says of a taken one (Refusals).
-use Rattle.side.proofs.Refusals.{sheet-refused, sheet-fits, sheet-taken}
+use Rattle.side.proofs.Refusals.{sheet_refused, sheet_fits, sheet_taken}
 use borrow.Author.Rules.{rules}
 use Rattle.side.proofs.side.Statement.{statement}
 use Rattle.side.proofs.side.Tie as tie
@@ -22,13 +22,13 @@ answer-pitched-requires c κs =
     let m = c.before in
     let d = m.before.before in
     let a = (start d).args in
-    sheet-fits a.sheet.now a.pitch.now a.answer.now d.decode.result d.decode.ensures m.enum_told.given.1
+    sheet_fits a.sheet.now a.pitch.now a.answer.now d.decode.result d.decode.ensures m.enum_told.given.1
 
 returns : tie.Need-returns
 returns c =
     let d = c.before.before.before in
     let a = (start d).args in
-    sheet-refused a.sheet.now a.pitch.now a.answer.now d.decode.result d.decode.ensures c.before.reading.given.1
+    sheet_refused a.sheet.now a.pitch.now a.answer.now d.decode.result d.decode.ensures c.before.reading.given.1
 
 same_length : tie.Need-same-length
 same_length c = search rules
@@ -39,7 +39,7 @@ returns-2 c =
     let m = w.before.before in
     let d = m.before.before in
     let a = (start d).args in
-    sheet-taken a.sheet.now a.pitch.now a.answer.now d.decode.result d.decode.ensures m.enum_told.given.1
+    sheet_taken a.sheet.now a.pitch.now a.answer.now d.decode.result d.decode.ensures m.enum_told.given.1
     w.answer-pitched.ensures
 
 pub side-spec : {M : Type 1} → statement M

@@ -6,14 +6,14 @@ use native.Mathlib.Numerals.{add-one}
 use lib.ListN.{length}
 use Rattle.sheet.specs.declared.Reading.TheVariants.{Refused}
 use Rattle.sheet.specs.Refusals.{first}
-use Rattle.side_parts.specs.ShortSheets.{pitchRows}
-use Rattle.side_parts.proofs.ShortSheets.{fromTier, wrong-length, wrong-count, past-14, tier-passed, tier-refused, tiers-passed}
+use Rattle.side_parts.specs.ShortSheets.{pitch_rows}
+use Rattle.side_parts.proofs.ShortSheets.{from_tier, wrong_length, wrong_count, past_14, tier_passed, tier_refused, tiers_passed}
 use borrow.Author.Rules.{rules}
 use Rattle.side_parts.proofs.test_pitch.Statement.{statement}
 use Rattle.side_parts.proofs.test_pitch.Tie as tie
 
 abbrev invariant-loop : tie.invariant-loop
-invariant-loop pitch n i₀ i = (i ≤ n) × (length pitch ≡ 1 + 2 * n) × (first (fromTier n pitch i) ≡ first (pitchRows n pitch))
+invariant-loop pitch n i₀ i = (i ≤ n) × (length pitch ≡ 1 + 2 * n) × (first (from_tier n pitch i) ≡ first (pitch_rows n pitch))
 
 abbrev decreases-loop : tie.decreases-loop
 decreases-loop pitch n i₀ i = n - i
@@ -31,7 +31,7 @@ add-if1 c = search rules
 returns : tie.Need-returns invariant-loop decreases-loop
 returns c =
     let a = c.before.before.args in
-    sym (wrong-length a.n a.pitch.now (λ q. omega (arith, q, c.if1.true)))
+    sym (wrong_length a.n a.pitch.now (λ q. omega (arith, q, c.if1.true)))
 
 read1-requires : tie.Need-read1-requires invariant-loop decreases-loop
 read1-requires c κs = search rules
@@ -40,13 +40,13 @@ returns-2 : tie.Need-returns-2 invariant-loop decreases-loop
 returns-2 c =
     let e = c.before.before in
     let a = e.before.before.args in
-    sym (wrong-count a.n a.pitch.now e.if1.false (λ q. omega (arith, q, c.if2.true, c.before.read1.ensures.0)))
+    sym (wrong_count a.n a.pitch.now e.if1.false (λ q. omega (arith, q, c.if2.true, c.before.read1.ensures.0)))
 
 loop-holds : tie.Need-loop-init invariant-loop decreases-loop
 loop-holds c =
     let e = c.before.before in
     let a = e.before.before.args in
-    (omega arith, e.if1.false, sym (past-14 a.n a.pitch.now e.if1.false (sym c.before.read1.ensures.0 ∙ c.if2.false)))
+    (omega arith, e.if1.false, sym (past_14 a.n a.pitch.now e.if1.false (sym c.before.read1.ensures.0 ∙ c.if2.false)))
 
 mul-read2 : tie.Need-overflow-mul-read2 invariant-loop decreases-loop
 mul-read2 c = search rules
@@ -66,7 +66,7 @@ returns-3 c =
     let l = w.before.loop in
     let a = (start w.before).args in
     ap (λ (k : ℕ). Refused 15 k) (add-one l.i)
-    ∙ (sym (tier-refused a.n a.pitch.now l.i w.loop-test.true (omega (arith, c.if3.true, c.before.read2.ensures.0)))
+    ∙ (sym (tier_refused a.n a.pitch.now l.i w.loop-test.true (omega (arith, c.if3.true, c.before.read2.ensures.0)))
     ∙ l.invariant.2)
 
 add-i : tie.Need-overflow-add-i invariant-loop decreases-loop
@@ -82,7 +82,7 @@ loop-again c =
     let a = (start w.before).args in (
       omega (arith, w.loop-test.true),
       l.invariant.1,
-      sym (tier-passed a.n a.pitch.now l.i w.loop-test.true (omega (arith, c.if3.false, c.before.read2.ensures.0)))
+      sym (tier_passed a.n a.pitch.now l.i w.loop-test.true (omega (arith, c.if3.false, c.before.read2.ensures.0)))
           ∙ l.invariant.2,
     )
 
@@ -90,7 +90,7 @@ returns-4 : tie.Need-returns-4 invariant-loop decreases-loop
 returns-4 c =
     let l = c.before.loop in
     let a = (start c.before).args in
-    sym (tiers-passed a.n a.pitch.now l.i c.loop-test.false) ∙ l.invariant.2
+    sym (tiers_passed a.n a.pitch.now l.i c.loop-test.false) ∙ l.invariant.2
 
 pub test-pitch-spec : {M : Type 1} → statement M
 test-pitch-spec =

@@ -8,14 +8,14 @@ use borrow.Author.Tests.{lt-ltb, le-ltb}
 use lib.ListN.{get_or}
 use Rattle.arith.specs.Lists.{below}
 use Rattle.sheet.specs.Layout.{◌above◌}
-use Rattle.side_walls.specs.SideWalls.{sideLimit, any_of}
-use Rattle.side_parts.proofs.Tests.{any_from, any-all, any_here, any-later, any-end}
+use Rattle.side_walls.specs.SideWalls.{side_limit, any_of}
+use Rattle.side_parts.proofs.Tests.{any_from, any_all, any_here, any_later, any_end}
 use borrow.Author.Rules.{rules}
 use Rattle.side_parts.proofs.verdict_of.Statement.{statement}
 use Rattle.side_parts.proofs.verdict_of.Tie as tie
 
 abbrev over : List ℕ → ℕ → Bool
-over racking i = get_or racking i 0 above sideLimit
+over racking i = get_or racking i 0 above side_limit
 
 judged : {a b : Bool} → a ≡ b → ◌≡◌ {A = ℕ} (cond a 1 0) (cond b 1 0)
 judged e = ap {B = ℕ} (λ (x : Bool). cond x 1 0) e
@@ -27,7 +27,7 @@ abbrev decreases-loop : tie.decreases-loop
 decreases-loop racking n i₀ i = n - i
 
 loop-holds : tie.Need-loop-init invariant-loop decreases-loop
-loop-holds c = (omega arith, any-all (over c.args.racking.now) c.args.n)
+loop-holds c = (omega arith, any_all (over c.args.racking.now) c.args.n)
 
 cast-if1 : tie.Need-overflow-cast-if1 invariant-loop decreases-loop
 cast-if1 c = search rules
@@ -44,7 +44,7 @@ returns c =
     let l = w.before.loop in
     let a = w.before.before.args in
     let f = over a.racking.now in
-    (judged (sym (any_here f a.n l.i w.loop-test.true (lt-ltb sideLimit _ c.if1.true)) ∙ l.invariant.1), omega arith)
+    (judged (sym (any_here f a.n l.i w.loop-test.true (lt-ltb side_limit _ c.if1.true)) ∙ l.invariant.1), omega arith)
 
 add-i : tie.Need-overflow-add-i invariant-loop decreases-loop
 add-i c = search rules
@@ -58,15 +58,15 @@ loop-again c =
     let l = w.before.loop in
     let a = w.before.before.args in
     let f = over a.racking.now in
-    let within = le-ltb sideLimit _ c.if1.false in
-    (omega (arith, w.loop-test.true), sym (any-later f a.n l.i w.loop-test.true within) ∙ l.invariant.1)
+    let within = le-ltb side_limit _ c.if1.false in
+    (omega (arith, w.loop-test.true), sym (any_later f a.n l.i w.loop-test.true within) ∙ l.invariant.1)
 
 returns-2 : tie.Need-returns-2 invariant-loop decreases-loop
 returns-2 c =
     let l = c.before.loop in
     let a = c.before.before.args in
     let f = over a.racking.now in
-    (judged (sym (any-end f a.n l.i c.loop-test.false) ∙ l.invariant.1), omega arith)
+    (judged (sym (any_end f a.n l.i c.loop-test.false) ∙ l.invariant.1), omega arith)
 
 pub verdict-of-spec : {M : Type 1} → statement M
 verdict-of-spec =

@@ -6,8 +6,8 @@ use native.Mathlib.Omega.{arith}
 use lib.ListN.{get_or}
 use Rattle.arith.specs.Bytes.{bytes4}
 use Rattle.arith.specs.Lists.{below}
-use Rattle.answer_write.specs.inner.Encoding.{Wrote}
-use Rattle.answer_write.proofs.Stores.{run, then, entries_none, entries-more, counted-all}
+use Rattle.answer_write.specs.Inner.Encoding.{Wrote}
+use Rattle.answer_write.proofs.Stores.{run, then, entries_none, entries_more, counted_all}
 use borrow.Author.Rules.{rules}
 use Rattle.side_parts.proofs.write_tiers.Statement.{statement}
 use Rattle.side_parts.proofs.write_tiers.Tie as tie
@@ -78,7 +78,7 @@ loop-again c =
     let l = f.before.before.before.before.loop in (
       omega arith,
       omega arith,
-      entries-more _ l.i l.invariant.2
+      entries_more _ l.i l.invariant.2
           (then (run {bytes = bytes4 _} f.write4.ensures refl) (run {bytes = bytes4 _} s.write42.ensures (omega arith))),
     )
 
@@ -90,7 +90,7 @@ returns c =
     let l = c.before.loop in
     let s = start c.before in
     let w = c.before.before.before.before in (
-      counted-all _ l.i s.args.n w.write1.ensures l.invariant.2 (omega arith) (omega arith),
+      counted_all _ l.i s.args.n w.write1.ensures l.invariant.2 (omega arith) (omega arith),
       omega arith,
     )
 

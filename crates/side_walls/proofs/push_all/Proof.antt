@@ -1,12 +1,12 @@
 -- `side_walls::push_all`: from the top down, what is above is carried along (Loops).
 use Prim.Native.Nat.{◌-◌, ◌<◌}
 use native.Mathlib.Omega.{arith}
-use Rattle.sheet.specs.Fits.{tierAt}
-use Rattle.sheet.proofs.Limits.{tier-filled}
+use Rattle.sheet.specs.Fits.{tier_at}
+use Rattle.sheet.proofs.Limits.{tier_filled}
 use Prim.Native.Nat.{ℕ, ◌*◌, ◌-◌, ◌<◌}
 use mathlib.Core.Path.{ap, ◌∙◌}
 use borrow.Author.Rules.{rules}
-use Rattle.side_walls.proofs.Loops.{PushedDown, pushed_none, pushed_more, pushed-all}
+use Rattle.side_walls.proofs.Loops.{PushedDown, pushed_none, pushed_more, pushed_all}
 use Rattle.side_walls.proofs.push_all.Statement.{statement}
 use Rattle.side_walls.proofs.push_all.Tie as tie
 
@@ -42,7 +42,7 @@ push-of-requires c κs =
     let l = c.before.before in
     let b = l.before.before.before in
     let k : l.before.loop.i - 1 < b.args.t1.ntiers = omega (arith, l.loop-test.true, l.before.loop.invariant.within) in
-    ((tier-filled _ (b.requires.0.tiers _ k)).limits.mass, omega (arith, c.read2.ensures.0, b.requires.1.small _ k))
+    ((tier_filled _ (b.requires.0.tiers _ k)).limits.mass, omega (arith, c.read2.ensures.0, b.requires.1.small _ k))
 
 racking-of-requires : tie.Need-racking-of-requires invariant-loop decreases-loop
 racking-of-requires c κs = search rules
@@ -65,13 +65,13 @@ loop-again c =
     let l = o.before.before.before in
     let b = l.before.before.before in
     let own = o.push-of.ensures in
-    let mass = (tierAt b.args.t1.tiers (l.before.loop.i - 1)).mass in
+    let mass = (tier_at b.args.t1.tiers (l.before.loop.i - 1)).mass in
     let r = c.racking-of.ensures in
     pushed_more b.requires.0.few l.loop-test.true l.before.loop.invariant
     (own.0 ∙ ap (λ (a : ℕ). mass * a) o.before.read2.ensures.0) own.1 b.requires.2 r.0 r.1
 
 returns : tie.Need-returns invariant-loop decreases-loop
-returns c = pushed-all c.loop-test.false c.before.loop.invariant
+returns c = pushed_all c.loop-test.false c.before.loop.invariant
 
 pub push-all-spec : {M : Type 1} → statement M
 push-all-spec =

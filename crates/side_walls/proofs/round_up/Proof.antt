@@ -2,7 +2,7 @@
 use native.Mathlib.Omega.{arith}
 use Prim.Native.Nat.{◌-◌, ◌<◌, ◌≤◌}
 use borrow.Author.Rules.{rules}
-use Rattle.side_walls.proofs.Loops.{RoundedSoFar, rounded-none, rounded-more, rounded-all}
+use Rattle.side_walls.proofs.Loops.{RoundedSoFar, rounded_none, rounded_more, rounded_all}
 use Rattle.side_walls.proofs.round_up.Statement.{statement}
 use Rattle.side_walls.proofs.round_up.Tie as tie
 
@@ -13,7 +13,7 @@ abbrev decreases-loop : tie.decreases-loop
 decreases-loop n units racking₀ shift₀ sum₀ i₀ racking shift sum i = n - i
 
 loop-holds : tie.Need-loop-init invariant-loop decreases-loop
-loop-holds c = (search rules, rounded-none)
+loop-holds c = (search rules, rounded_none)
 
 mul-own : tie.Need-overflow-mul-own invariant-loop decreases-loop
 mul-own c = search rules
@@ -24,7 +24,7 @@ array-read-own c = search rules
 add-sum : tie.Need-overflow-add-sum invariant-loop decreases-loop
 add-sum c =
     let l = c.before in
-    omega (arith, l.loop.invariant.1.sum-small, l.before.requires.1 l.loop.i c.loop-test.true)
+    omega (arith, l.loop.invariant.1.sum_small, l.before.requires.1 l.loop.i c.loop-test.true)
 
 ceil-div-requires : tie.Need-ceil-div-requires invariant-loop decreases-loop
 ceil-div-requires c κs = search rules
@@ -56,10 +56,10 @@ loop-again c =
     let b = l.before.before in
     let few : l.before.loop.i < 10 = omega (arith, l.loop-test.true, b.requires.0) in
     let own = b.requires.1 l.before.loop.i l.loop-test.true in
-    (search rules, rounded-more few l.before.loop.invariant.1 own c.before.ceil-div.ensures c.ceil-div2.ensures)
+    (search rules, rounded_more few l.before.loop.invariant.1 own c.before.ceil-div.ensures c.ceil-div2.ensures)
 
 returns : tie.Need-returns invariant-loop decreases-loop
-returns c = rounded-all c.loop-test.false c.before.loop.invariant.1
+returns c = rounded_all c.loop-test.false c.before.loop.invariant.1
 
 pub round-up-spec : {M : Type 1} → statement M
 round-up-spec =

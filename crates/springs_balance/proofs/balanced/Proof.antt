@@ -3,7 +3,7 @@ use Prim.Native.Nat.{◌-◌}
 use mathlib.Core.Path.{◌≡◌}
 use native.Mathlib.Omega.{arith}
 use lib.Dec.{lit<}
-use Rattle.springs_balance.proofs.Loops.{Sofar, sofar-start, test, spring-ready, level-ready, failed, sofar-next, sofar-end}
+use Rattle.springs_balance.proofs.Loops.{Sofar, sofar_start, test, spring_ready, level_ready, failed, sofar_next, sofar_end}
 use mir.Syntax.{w64}
 use mir.Val.{to_z}
 use Rattle.arith.proofs.SignedWords.{held}
@@ -31,7 +31,7 @@ forced c = c.before.before.before.before
 loop-holds : tie.Need-loop-init invariant-loop decreases-loop
 loop-holds c =
     let g = c.before.before.before.before.args in
-    sofar-start g.n g.k.now g.kappa.now g.omega.now g.d.now
+    sofar_start g.n g.k.now g.kappa.now g.omega.now g.d.now
 
 sub-j : tie.Need-overflow-sub-j invariant-loop decreases-loop
 sub-j c = search rules
@@ -59,7 +59,7 @@ force-of-requires c κs =
     let l = c.before.before.before.before in
     let b = entered l in
     let g = b.args in
-    spring-ready g.n g.k.now g.kappa.now g.omega.now g.d.now (to_z w64 l.loop.over) l.loop.i (l.loop.i - 1)
+    spring_ready g.n g.k.now g.kappa.now g.omega.now g.d.now (to_z w64 l.loop.over) l.loop.i (l.loop.i - 1)
     (omega arith) b.pre.0.0 b.pre.1.0 l.loop.invariant
 
 mul-in-balance : tie.Need-overflow-mul-in-balance invariant-loop decreases-loop
@@ -88,7 +88,7 @@ in-balance-requires c κs =
     let g = b.args in
     let s = f.force-of.ensures.1 in (
       (simp (held s (lit< tt)) s, l.loop.inv.small),
-      level-ready g.n g.k.now g.kappa.now g.omega.now g.d.now (to_z w64 l.loop.over) l.loop.i (l.loop.i - 1)
+      level_ready g.n g.k.now g.kappa.now g.omega.now g.d.now (to_z w64 l.loop.over) l.loop.i (l.loop.i - 1)
           (omega arith) b.pre.0.0 b.pre.1.0 l.loop.inv,
     )
 
@@ -122,7 +122,7 @@ loop-again c =
     let b = entered l in
     let g = b.args in
     rw (held e.1 (lit< tt), e.0)
-    (sofar-next g.n g.k.now g.kappa.now g.omega.now g.d.now (to_z w64 l.loop.over) l.loop.i (l.loop.i - 1)
+    (sofar_next g.n g.k.now g.kappa.now g.omega.now g.d.now (to_z w64 l.loop.over) l.loop.i (l.loop.i - 1)
     (omega arith) b.pre.0.0 b.pre.1.0 l.loop.inv
     c.before.in-balance.result (result c.before) c.if1.false)
 
@@ -130,7 +130,7 @@ returns-2 : tie.Need-returns-2 invariant-loop decreases-loop
 returns-2 c =
     let l = c.before in
     let g = (entered l).args in
-    sofar-end g.n g.k.now g.kappa.now g.omega.now g.d.now (to_z w64 l.loop.over) l.loop.i (omega arith) l.loop.invariant
+    sofar_end g.n g.k.now g.kappa.now g.omega.now g.d.now (to_z w64 l.loop.over) l.loop.i (omega arith) l.loop.invariant
 
 pub balanced-spec : {M : Type 1} → statement M
 balanced-spec =

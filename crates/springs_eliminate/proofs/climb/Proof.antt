@@ -2,7 +2,7 @@
 use Prim.Native.Nat.{◌+◌, ◌-◌}
 use native.Mathlib.Omega.{arith}
 use native.Mathlib.Numerals.{add-one}
-use Rattle.springs_eliminate.proofs.Loops.{Up, up_start, up-ready, up_next, up_done}
+use Rattle.springs_eliminate.proofs.Loops.{Up, up_start, up_ready, up_next, up_done}
 use borrow.Author.Rules.{rules}
 use Rattle.springs_eliminate.proofs.climb.Statement.{statement}
 use Rattle.springs_eliminate.proofs.climb.Tie as tie
@@ -68,7 +68,7 @@ shift-up-requires c κs =
     let l = c.before.before.before.before.before.before.before in
     let b = entered l in
     let g = b.args in
-    up-ready g.n g.k.now g.kappa.now g.omega.now g.x.now g.y.now l.loop.d l.loop.i (l.loop.i + 1)
+    up_ready g.n g.k.now g.kappa.now g.omega.now g.x.now g.y.now l.loop.d l.loop.i (l.loop.i + 1)
     (add-one l.loop.i)
     (omega arith)
     b.pre.0.0
@@ -95,8 +95,8 @@ loop-again c =
     b.pre.0.0
     b.pre.1.0.0
     l.loop.invariant
-    c.shift-up.result
-    c.shift-up.ensures
+    c.shift_up.result
+    c.shift_up.ensures
 
 same_length : tie.Need-same-length invariant-loop decreases-loop
 same_length c = search rules

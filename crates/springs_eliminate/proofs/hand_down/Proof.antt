@@ -1,7 +1,7 @@
 -- `springs_eliminate::hand_down` meets its contract: at each turn the levels from i up have what is handed down to them (Loops).
 use Prim.Native.Nat.{◌-◌}
 use native.Mathlib.Omega.{arith}
-use Rattle.springs_eliminate.proofs.Loops.{later, Down, down-start, down-ready, down-next}
+use Rattle.springs_eliminate.proofs.Loops.{later, Down, down_start, down_ready, down_next}
 use borrow.Author.Rules.{rules}
 use Rattle.springs_eliminate.proofs.hand_down.Statement.{statement}
 use Rattle.springs_eliminate.proofs.hand_down.Tie as tie
@@ -21,7 +21,7 @@ loop-holds c =
     let b = c.before.before.before.before.before in
     let g = b.args in
     let p = b.requires.1 in
-    down-start g.n g.k.now g.kappa.now g.omega.now g.x.now g.y.now p.0 p.1 p.2 p.3
+    down_start g.n g.k.now g.kappa.now g.omega.now g.x.now g.y.now p.0 p.1 p.2 p.3
 
 sub-j : tie.Need-overflow-sub-j invariant-loop decreases-loop
 sub-j c = search rules
@@ -49,7 +49,7 @@ stiffness-down-requires c κs =
     let l = c.before.before.before.before in
     let b = entered l in
     let g = b.args in
-    (down-ready g.n g.k.now g.kappa.now g.omega.now l.loop.x l.loop.y l.loop.i (l.loop.i - 1) (omega arith)
+    (down_ready g.n g.k.now g.kappa.now g.omega.now l.loop.x l.loop.y l.loop.i (l.loop.i - 1) (omega arith)
     b.pre.0.0 l.loop.invariant).0
 
 mul-load-down : tie.Need-overflow-mul-load-down invariant-loop decreases-loop
@@ -87,7 +87,7 @@ load-down-requires c κs =
     let l = c.before.before.before.before.before.before.before.before.before.before in
     let b = entered l in
     let g = b.args in
-    down-ready g.n g.k.now g.kappa.now g.omega.now l.loop.x l.loop.y l.loop.i (l.loop.i - 1) (omega arith)
+    down_ready g.n g.k.now g.kappa.now g.omega.now l.loop.x l.loop.y l.loop.i (l.loop.i - 1) (omega arith)
     b.pre.0.0 l.loop.invariant
 
 mul-x : tie.Need-overflow-mul-x invariant-loop decreases-loop
@@ -112,7 +112,7 @@ loop-again c =
     let l = t.before in
     let b = entered l in
     let g = b.args in
-    down-next g.n g.k.now g.kappa.now g.omega.now l.loop.x l.loop.y l.loop.i (l.loop.i - 1)
+    down_next g.n g.k.now g.kappa.now g.omega.now l.loop.x l.loop.y l.loop.i (l.loop.i - 1)
     (omega (arith, t.loop-test.true)) b.pre.0.0 l.loop.invariant s.result c.load-down.result s.ensures
     c.load-down.ensures
 

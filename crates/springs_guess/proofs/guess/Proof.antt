@@ -1,6 +1,6 @@
 -- `springs_guess::guess` puts the candidate into its array: what its two loops do, one after the other.
-use Rattle.springs.specs.inner.Candidate.{byLevel}
-use Rattle.springs.proofs.Candidates.{gives-candidate}
+use Rattle.springs.specs.Inner.Candidate.{by_level}
+use Rattle.springs.proofs.Candidates.{gives_candidate}
 use borrow.Author.Rules.{rules}
 use Rattle.springs_guess.proofs.guess.Statement.{statement}
 use Rattle.springs_guess.proofs.guess.Tie as tie
@@ -32,7 +32,7 @@ returns c =
     let s = r.before.before.before.before.before.before in
     let g = s.before.before.before.before.before.before.before.args in
     let found = s.slope.new.1.1.1.1 in
-    gives-candidate g.n g.k.now g.kappa.now g.omega.now (byLevel found.0) (byLevel found.1.0) s.slope.ensures _
+    gives_candidate g.n g.k.now g.kappa.now g.omega.now (by_level found.0) (by_level found.1.0) s.slope.ensures _
     r.rise.ensures
 
 pub guess-spec : {M : Type 1} → statement M

@@ -3,7 +3,7 @@ use Prim.Native.Nat.{ℕ, ◌+◌, ◌-◌}
 use mathlib.Core.Path.{ap}
 use lib.Ieee.{nan}
 use lib.ListN.{get_or}
-use Rattle.springs.specs.inner.Candidate.{byLevel}
+use Rattle.springs.specs.Inner.Candidate.{by_level}
 use native.Mathlib.Omega.{arith}
 use native.Mathlib.Numerals.{add-one}
 use Rattle.springs_guess.proofs.Loops.{Up, up_start, up_next, up_done}
@@ -12,7 +12,7 @@ use Rattle.springs_guess.proofs.rise.Statement.{statement}
 use Rattle.springs_guess.proofs.rise.Tie as tie
 
 abbrev invariant-loop : tie.invariant-loop
-invariant-loop n a w d₀ x₀ i₀ d x i = Up n (byLevel a) (byLevel w) d x i
+invariant-loop n a w d₀ x₀ i₀ d x i = Up n (by_level a) (by_level w) d x i
 
 abbrev decreases-loop : tie.decreases-loop
 decreases-loop n a w d₀ x₀ i₀ d x i = n - i
@@ -25,7 +25,7 @@ loop-holds : tie.Need-loop-init invariant-loop decreases-loop
 loop-holds c =
     let b = c.before.before.before in
     let g = b.args in
-    up_start g.n (byLevel g.a.now) (byLevel g.w.now) g.d.now b.requires.3
+    up_start g.n (by_level g.a.now) (by_level g.w.now) g.d.now b.requires.3
 
 add-j : tie.Need-overflow-add-j invariant-loop decreases-loop
 add-j c = search rules
@@ -60,7 +60,7 @@ loop-again c =
     let b = entered l in
     let g = b.args in
     let up = add-one l.loop.i in
-    up_next g.n (byLevel g.a.now) (byLevel g.w.now) l.loop.d l.loop.x l.loop.i (l.loop.i + 1)
+    up_next g.n (by_level g.a.now) (by_level g.w.now) l.loop.d l.loop.x l.loop.i (l.loop.i + 1)
     up
     (omega arith)
     b.pre.0
@@ -79,7 +79,7 @@ returns : tie.Need-returns invariant-loop decreases-loop
 returns c =
     let l = c.before in
     let g = (entered l).args in
-    up_done g.n (byLevel g.a.now) (byLevel g.w.now) l.loop.d l.loop.x l.loop.i (omega (arith, l.loop.invariant.within))
+    up_done g.n (by_level g.a.now) (by_level g.w.now) l.loop.d l.loop.x l.loop.i (omega (arith, l.loop.invariant.within))
     l.loop.invariant
 
 pub rise-spec : {M : Type 1} → statement M

@@ -3,15 +3,15 @@ use Prim.Native.Nat.{suc, ◌-◌, ◌<◌}
 use mathlib.Core.Path.{◌≡◌, ◌∙◌}
 use native.Mathlib.Omega.{arith}
 use lib.ListN.{length, length-set}
-use Rattle.springs.specs.inner.Candidate.{byLevel}
-use Rattle.springs_guess.proofs.Loops.{Down, stored, down-start, down-next, down-done}
+use Rattle.springs.specs.Inner.Candidate.{by_level}
+use Rattle.springs_guess.proofs.Loops.{Down, stored, down_start, down_next, down_done}
 use borrow.Author.Rules.{rules}
 use Rattle.springs_guess.proofs.slope.Statement.{statement}
 use Rattle.springs_guess.proofs.slope.Tie as tie
 
 abbrev invariant-loop : tie.invariant-loop
 invariant-loop n k kappa omega a₀ w₀ over₀ i₀ a w over i =
-    (length a ≡ 11) × (length w ≡ 11) × Down n k kappa omega (byLevel a) (byLevel w) over i
+    (length a ≡ 11) × (length w ≡ 11) × Down n k kappa omega (by_level a) (by_level w) over i
 
 abbrev decreases-loop : tie.decreases-loop
 decreases-loop n k kappa omega a₀ w₀ over₀ i₀ a w over i = i
@@ -24,7 +24,7 @@ loop-holds : tie.Need-loop-init invariant-loop decreases-loop
 loop-holds c =
     let b = c.before.before.before.before.before in
     let g = b.args in
-    (b.requires.1.0, b.requires.1.1, down-start g.n g.k.now g.kappa.now g.omega.now _ _)
+    (b.requires.1.0, b.requires.1.1, down_start g.n g.k.now g.kappa.now g.omega.now _ _)
 
 sub-j : tie.Need-overflow-sub-j invariant-loop decreases-loop
 sub-j c = search rules
@@ -81,7 +81,7 @@ loop-again c =
     let r = c.step.result in (
       length-set l.loop.a i r.a ∙ v.0,
       length-set l.loop.w i r.w ∙ v.1,
-      down-next g.n g.k.now g.kappa.now g.omega.now _ _ _ _ l.loop.over i (i - 1)
+      down_next g.n g.k.now g.kappa.now g.omega.now _ _ _ _ l.loop.over i (i - 1)
           up
           v.2
           r
@@ -100,7 +100,7 @@ returns : tie.Need-returns invariant-loop decreases-loop
 returns c =
     let l = c.before in
     let g = (entered l).args in
-    down-done g.n g.k.now g.kappa.now g.omega.now _ _ l.loop.over l.loop.i
+    down_done g.n g.k.now g.kappa.now g.omega.now _ _ l.loop.over l.loop.i
     (omega arith)
     l.loop.invariant.2
 

@@ -1,6 +1,6 @@
--- `springs_guess::step` is `stepDown`: the same operations in the same order.
+-- `springs_guess::step` is `step_down`: the same operations in the same order.
 use mathlib.Core.Path.{refl}
-use Rattle.springs.specs.inner.Candidate.{stepDown}
+use Rattle.springs.specs.Inner.Candidate.{step_down}
 use borrow.Author.Rules.{rules}
 use Rattle.springs_guess.proofs.step.Statement.{statement}
 use Rattle.springs_guess.proofs.step.Tie as tie
@@ -15,7 +15,7 @@ float-of-requires-3 : tie.Need-float-of-requires-3
 float-of-requires-3 c κs = search rules
 
 returns : tie.Need-returns
-unfolding stepDown
+unfolding step_down
 returns c = cc
 
 pub step_spec : {M : Type 1} → statement M

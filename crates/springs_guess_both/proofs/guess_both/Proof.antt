@@ -1,7 +1,7 @@
 -- `springs_guess_both::guess_both` puts the candidate of each end into its array: what its two loops do, one after the other.
 use mathlib.Core.Path.{refl}
-use Rattle.springs.specs.inner.Candidate.{everyFourth}
-use Rattle.springs.proofs.Candidates.{gives-candidate}
+use Rattle.springs.specs.Inner.Candidate.{every_fourth}
+use Rattle.springs.proofs.Candidates.{gives_candidate}
 use borrow.Author.Rules.{rules}
 use Rattle.springs_guess_both.proofs.guess_both.Statement.{statement}
 use Rattle.springs_guess_both.proofs.guess_both.Tie as tie
@@ -33,9 +33,9 @@ returns c =
     let g = s.before.before.before.before.before.before.before.before.before.args in
     let found = s.slope-both.new.1.1.1.1.1.1.0 in
     let e = s.slope-both.ensures in (
-      gives-candidate g.n g.k.now g.kappa.now g.omega.now (everyFourth 0 found) (everyFourth 2 found) e.0 _
+      gives_candidate g.n g.k.now g.kappa.now g.omega.now (every_fourth 0 found) (every_fourth 2 found) e.0 _
           r.rise-both.ensures.0,
-      gives-candidate g.n g.h.now g.eta.now g.omega.now (everyFourth 1 found) (everyFourth 3 found) e.1 _
+      gives_candidate g.n g.h.now g.eta.now g.omega.now (every_fourth 1 found) (every_fourth 3 found) e.1 _
           r.rise-both.ensures.1,
     )
 

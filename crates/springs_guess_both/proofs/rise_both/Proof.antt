@@ -5,7 +5,7 @@ use native.Mathlib.Omega.{arith}
 use native.Mathlib.Numerals.{add-one}
 use lib.Ieee.{nan}
 use lib.ListN.{get_or}
-use Rattle.springs.specs.inner.Candidate.{everyFourth}
+use Rattle.springs.specs.Inner.Candidate.{every_fourth}
 use Rattle.springs_guess.proofs.Loops.{Up, up_start, up_next, up_done}
 use borrow.Author.Rules.{rules}
 use Rattle.springs_guess_both.proofs.rise_both.Statement.{statement}
@@ -13,7 +13,7 @@ use Rattle.springs_guess_both.proofs.rise_both.Tie as tie
 
 abbrev invariant-loop : tie.invariant-loop
 invariant-loop n slopes d₀ e₀ x₀ y₀ i₀ d e x y i =
-    Up n (everyFourth 0 slopes) (everyFourth 2 slopes) d x i × Up n (everyFourth 1 slopes) (everyFourth 3 slopes) e y i
+    Up n (every_fourth 0 slopes) (every_fourth 2 slopes) d x i × Up n (every_fourth 1 slopes) (every_fourth 3 slopes) e y i
 
 abbrev decreases-loop : tie.decreases-loop
 decreases-loop n slopes d₀ e₀ x₀ y₀ i₀ d e x y i = n - i
@@ -26,8 +26,8 @@ loop-holds : tie.Need-loop-init invariant-loop decreases-loop
 loop-holds c =
     let b = c.before.before.before in
     let g = b.args in (
-      up_start g.n (everyFourth 0 g.slopes.now) (everyFourth 2 g.slopes.now) g.d.now b.requires.2,
-      up_start g.n (everyFourth 1 g.slopes.now) (everyFourth 3 g.slopes.now) g.e.now b.requires.3,
+      up_start g.n (every_fourth 0 g.slopes.now) (every_fourth 2 g.slopes.now) g.d.now b.requires.2,
+      up_start g.n (every_fourth 1 g.slopes.now) (every_fourth 3 g.slopes.now) g.e.now b.requires.3,
     )
 
 add-j : tie.Need-overflow-add-j invariant-loop decreases-loop
@@ -108,7 +108,7 @@ loop-again c =
     let i = l.loop.i in
     let s = g.slopes.now in
     let start : 4 * i ≡ 4 * i + 0 = omega arith in (
-      up_next g.n (everyFourth 0 s) (everyFourth 2 s) l.loop.d l.loop.x i (i + 1)
+      up_next g.n (every_fourth 0 s) (every_fourth 2 s) l.loop.d l.loop.x i (i + 1)
           (add-one i)
           (omega arith)
           b.pre.0
@@ -119,7 +119,7 @@ loop-again c =
           refl
           one.near.result
           one.near.ensures.0,
-      up_next g.n (everyFourth 1 s) (everyFourth 3 s) l.loop.e l.loop.y i (i + 1)
+      up_next g.n (every_fourth 1 s) (every_fourth 3 s) l.loop.e l.loop.y i (i + 1)
           (add-one i)
           (omega arith)
           b.pre.0
@@ -145,8 +145,8 @@ returns c =
     let s = g.slopes.now in
     let i = l.loop.i in
     let all : i ≡ g.n = omega (arith, l.loop.invariant.0.within) in (
-      up_done g.n (everyFourth 0 s) (everyFourth 2 s) l.loop.d l.loop.x i all l.loop.invariant.0,
-      up_done g.n (everyFourth 1 s) (everyFourth 3 s) l.loop.e l.loop.y i all l.loop.invariant.1,
+      up_done g.n (every_fourth 0 s) (every_fourth 2 s) l.loop.d l.loop.x i all l.loop.invariant.0,
+      up_done g.n (every_fourth 1 s) (every_fourth 3 s) l.loop.e l.loop.y i all l.loop.invariant.1,
     )
 
 pub rise-both-spec : {M : Type 1} → statement M

@@ -3,17 +3,17 @@ use Prim.Native.Nat.{suc, ◌+◌, ◌*◌, ◌-◌, ◌<◌}
 use mathlib.Core.Path.{◌≡◌, ◌∙◌}
 use native.Mathlib.Omega.{arith}
 use lib.ListN.{length, length-set}
-use Rattle.springs.specs.inner.Candidate.{everyFourth}
-use Rattle.springs_guess.proofs.Loops.{Down, down-start, down-next, down-done}
-use Rattle.springs_guess_both.proofs.Fours.{length-four, first, second, third, fourth}
+use Rattle.springs.specs.Inner.Candidate.{every_fourth}
+use Rattle.springs_guess.proofs.Loops.{Down, down_start, down_next, down_done}
+use Rattle.springs_guess_both.proofs.Fours.{length_four, first, second, third, fourth}
 use borrow.Author.Rules.{rules}
 use Rattle.springs_guess_both.proofs.slope_both.Statement.{statement}
 use Rattle.springs_guess_both.proofs.slope_both.Tie as tie
 
 abbrev invariant-loop : tie.invariant-loop
 invariant-loop n k h kappa eta omega slopes₀ door₀ closed₀ i₀ slopes door closed i =
-    (length slopes ≡ 40) × Down n k kappa omega (everyFourth 0 slopes) (everyFourth 2 slopes) door i
-    × Down n h eta omega (everyFourth 1 slopes) (everyFourth 3 slopes) closed i
+    (length slopes ≡ 40) × Down n k kappa omega (every_fourth 0 slopes) (every_fourth 2 slopes) door i
+    × Down n h eta omega (every_fourth 1 slopes) (every_fourth 3 slopes) closed i
 
 abbrev decreases-loop : tie.decreases-loop
 decreases-loop n k h kappa eta omega slopes₀ door₀ closed₀ i₀ slopes door closed i = i
@@ -31,8 +31,8 @@ loop-holds c =
     let b = c.before.before.before.before.before.before in
     let g = b.args in (
       b.requires.1.1,
-      down-start g.n g.k.now g.kappa.now g.omega.now _ _,
-      down-start g.n g.h.now g.eta.now g.omega.now _ _,
+      down_start g.n g.k.now g.kappa.now g.omega.now _ _,
+      down_start g.n g.h.now g.eta.now g.omega.now _ _,
     )
 
 sub-j : tie.Need-overflow-sub-j invariant-loop decreases-loop
@@ -179,10 +179,10 @@ loop-again c =
     let y = c.step2.result in
     let s = l.loop.slopes in
     let inside : 4 * (i - 1) + 3 < length s = omega (arith, near.0, near.1) in (
-      length-four s (i - 1) x.a y.a x.w y.w inside ∙ near.1,
-      down-next g.n g.k.now g.kappa.now g.omega.now _ _ _ _ l.loop.door i (i - 1) up l.loop.invariant.1 x
+      length_four s (i - 1) x.a y.a x.w y.w inside ∙ near.1,
+      down_next g.n g.k.now g.kappa.now g.omega.now _ _ _ _ l.loop.door i (i - 1) up l.loop.invariant.1 x
           one.step.ensures (first s (i - 1) x.a y.a x.w y.w inside) (third s (i - 1) x.a y.a x.w y.w inside),
-      down-next g.n g.h.now g.eta.now g.omega.now _ _ _ _ l.loop.closed i (i - 1) up l.loop.invariant.2 y
+      down_next g.n g.h.now g.eta.now g.omega.now _ _ _ _ l.loop.closed i (i - 1) up l.loop.invariant.2 y
           c.step2.ensures (second s (i - 1) x.a y.a x.w y.w inside) (fourth s (i - 1) x.a y.a x.w y.w inside),
     )
 
@@ -194,8 +194,8 @@ returns c =
     let l = c.before in
     let g = (entered l).args in
     let i = l.loop.i in (
-      down-done g.n g.k.now g.kappa.now g.omega.now _ _ l.loop.door i (omega arith) l.loop.invariant.1,
-      down-done g.n g.h.now g.eta.now g.omega.now _ _ l.loop.closed i (omega arith) l.loop.invariant.2,
+      down_done g.n g.k.now g.kappa.now g.omega.now _ _ l.loop.door i (omega arith) l.loop.invariant.1,
+      down_done g.n g.h.now g.eta.now g.omega.now _ _ l.loop.closed i (omega arith) l.loop.invariant.2,
     )
 
 pub slope-both-spec : {M : Type 1} → statement M

@@ -3,9 +3,9 @@ use mathlib.Core.Path.{sym}
 use Prim.Native.Nat.{◌+◌, ◌*◌}
 use native.Mathlib.Nat.{mul-le-mul_right}
 use native.Mathlib.Omega.{arith}
-use Rattle.springs.specs.inner.Elimination.{loadDown}
+use Rattle.springs.specs.Inner.Elimination.{load_down}
 use Rattle.springs.proofs.Ranges.{scalable, load_fits}
-use Rattle.springs_steps.proofs.Unheld.{load-unheld}
+use Rattle.springs_steps.proofs.Unheld.{load_unheld}
 use borrow.Author.Rules.{rules}
 use Rattle.springs_steps.proofs.load_down.Statement.{statement}
 use Rattle.springs_steps.proofs.load_down.Tie as tie
@@ -17,7 +17,7 @@ add-load : tie.Need-overflow-add-load
 add-load c = search rules
 
 returns : tie.Need-returns
-returns c = let a = c.before.args in sym (load-unheld a.k a.kappa a.x (omega arith) c.if1.true a.omega a.y)
+returns c = let a = c.before.args in sym (load_unheld a.k a.kappa a.x (omega arith) c.if1.true a.omega a.y)
 
 mul-scaled : tie.Need-overflow-mul-scaled
 mul-scaled c = let a = c.before.args in omega (arith, mul-le-mul_right (a.omega + a.y) c.before.requires.0.high)
@@ -36,7 +36,7 @@ scaled-requires c κs =
     (load_fits a.k a.kappa a.x b.requires.0 (a.omega + a.y) b.requires.1)
 
 returns-2 : tie.Need-returns-2
-unfolding loadDown
+unfolding load_down
 returns-2 c = search rules
 
 pub load-down-spec : {M : Type 1} → statement M

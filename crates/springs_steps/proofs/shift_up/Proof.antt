@@ -3,9 +3,9 @@ use mathlib.Core.Path.{sym}
 use Prim.Native.Nat.{◌+◌, ◌*◌}
 use native.Mathlib.Nat.{mul-le-mul_right, div-le_self}
 use native.Mathlib.Omega.{arith}
-use Rattle.springs.specs.inner.Elimination.{shiftUp}
+use Rattle.springs.specs.Inner.Elimination.{shift_up}
 use Rattle.springs.proofs.Ranges.{scalable, shift_fits}
-use Rattle.springs_steps.proofs.Unheld.{shift-unheld}
+use Rattle.springs_steps.proofs.Unheld.{shift_unheld}
 use borrow.Author.Rules.{rules}
 use Rattle.springs_steps.proofs.shift_up.Statement.{statement}
 use Rattle.springs_steps.proofs.shift_up.Tie as tie
@@ -23,7 +23,7 @@ add-result : tie.Need-overflow-add-result
 add-result c = let a = c.before.args in omega (arith, div-le_self (a.omega + a.y) a.k, c.before.requires.1, c.before.requires.2)
 
 returns : tie.Need-returns
-returns c = let a = c.before.args in sym (shift-unheld a.k a.kappa a.x (omega arith) c.if1.true a.omega a.y a.p)
+returns c = let a = c.before.args in sym (shift_unheld a.k a.kappa a.x (omega arith) c.if1.true a.omega a.y a.p)
 
 mul-scaled : tie.Need-overflow-mul-scaled
 mul-scaled c = let b = c.before in omega (arith, mul-le-mul_right b.args.p b.requires.0.high, b.requires.2)
@@ -45,7 +45,7 @@ scaled-requires c κs =
     (shift_fits a.k a.kappa a.x b.requires.0 (a.omega + a.y) a.p b.requires.1 b.requires.2)
 
 returns-2 : tie.Need-returns-2
-unfolding shiftUp
+unfolding shift_up
 returns-2 c = search rules
 
 pub shift-up-spec : {M : Type 1} → statement M

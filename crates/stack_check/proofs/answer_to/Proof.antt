@@ -1,7 +1,7 @@
 -- `stack_check::answer_to`: a short buffer, or the answer by its figures (CheckLaws).
 use mathlib.Core.Path.{refl, sym}
 use Rattle.answer_encode.proofs.AnswerLaws.{sized}
-use Rattle.stack_check.proofs.CheckLaws.{short-room, answered, both_ends, by-rule}
+use Rattle.stack_check.proofs.CheckLaws.{short_room, answered, both_ends, by_rule}
 use borrow.Author.Rules.{rules}
 use Rattle.stack_check.proofs.answer_to.Statement.{statement}
 use Rattle.stack_check.proofs.answer_to.Tie as tie
@@ -20,8 +20,8 @@ returns : tie.Need-returns
 returns c =
     let b = c.before.before in
     let a = b.args in
-    let named = short-room a.rule a.t a.answer.now c.if1.true in
-    (by-rule a.rule a.t a.answer.now b.requires.0 named, named)
+    let named = short_room a.rule a.t a.answer.now c.if1.true in
+    (by_rule a.rule a.t a.answer.now b.requires.0 named, named)
 
 slice-aggregate-figures-by : tie.Need-slice-aggregate-figures-by
 slice-aggregate-figures-by c = search rules
@@ -47,22 +47,22 @@ figures-by-requires c κs =
     (b.requires, ((refl, refl, refl), (refl, refl, refl)))
 
 slice-aggregate-write-answer : tie.Need-slice-aggregate-write-answer
-slice-aggregate-write-answer c = sym (figured c.before).figures-by.ensures.0.1.of-racking
+slice-aggregate-write-answer c = sym (figured c.before).figures-by.ensures.0.1.of_racking
 
 slice-aggregate-write-answer-2 : tie.Need-slice-aggregate-write-answer-2
-slice-aggregate-write-answer-2 c = sym (figured c.before.before).figures-by.ensures.0.1.of-levels
+slice-aggregate-write-answer-2 c = sym (figured c.before.before).figures-by.ensures.0.1.of_levels
 
 slice-aggregate-write-answer-3 : tie.Need-slice-aggregate-write-answer-3
-slice-aggregate-write-answer-3 c = sym (figured c.before.before.before).figures-by.ensures.0.1.of-forces
+slice-aggregate-write-answer-3 c = sym (figured c.before.before.before).figures-by.ensures.0.1.of_forces
 
 slice-aggregate-write-answer-4 : tie.Need-slice-aggregate-write-answer-4
-slice-aggregate-write-answer-4 c = sym (figured c.before.before.before.before).figures-by.ensures.1.1.of-racking
+slice-aggregate-write-answer-4 c = sym (figured c.before.before.before.before).figures-by.ensures.1.1.of_racking
 
 slice-aggregate-write-answer-5 : tie.Need-slice-aggregate-write-answer-5
-slice-aggregate-write-answer-5 c = sym (figured c.before.before.before.before.before).figures-by.ensures.1.1.of-levels
+slice-aggregate-write-answer-5 c = sym (figured c.before.before.before.before.before).figures-by.ensures.1.1.of_levels
 
 slice-aggregate-write-answer-6 : tie.Need-slice-aggregate-write-answer-6
-slice-aggregate-write-answer-6 c = sym (figured c.before.before.before.before.before.before).figures-by.ensures.1.1.of-forces
+slice-aggregate-write-answer-6 c = sym (figured c.before.before.before.before.before.before).figures-by.ensures.1.1.of_forces
 
 write-answer-requires : tie.Need-write-answer-requires
 write-answer-requires c κs =
@@ -85,7 +85,7 @@ returns-2 c =
     let e = w.write-answer.ensures in
     let both = both_ends a.rule a.t f.figures-by.ensures.0.0 f.figures-by.ensures.1.0 in
     let named = answered a.rule a.t a.answer.now r.if1.left both e.0 e.1 in
-    (by-rule a.rule a.t a.answer.now b.pre.0 named, named)
+    (by_rule a.rule a.t a.answer.now b.pre.0 named, named)
 
 pub answer-to-spec : {M : Type 1} → statement M
 answer-to-spec =

@@ -2,11 +2,11 @@
 use mathlib.Core.Path.{◌≡◌, sym, ap, ◌∙◌}
 use borrow.Author.Rules.{rules}
 use Rattle.sheet.specs.declared.Reading.TheVariants.{Taken}
-use Rattle.sheet.specs.Layout.{sheetOf}
-use Rattle.sheet.specs.Refusals.{first, sheetRows}
-use Rattle.sheet.proofs.Clear.{parts, head-there}
-use Rattle.sheet.proofs.TakenSheets.{taken-fits}
-use Rattle.statics.specs.inner.Computed.{loadRuleBy}
+use Rattle.sheet.specs.Layout.{sheet_of}
+use Rattle.sheet.specs.Refusals.{first, sheet_rows}
+use Rattle.sheet.proofs.Clear.{parts, head_there}
+use Rattle.sheet.proofs.TakenSheets.{taken_fits}
+use Rattle.statics.specs.Inner.Computed.{load_rule_by}
 use Rattle.stack_check.proofs.CheckLaws.{refused, taken}
 use Rattle.stack_check.proofs.check.Statement.{statement}
 use Rattle.stack_check.proofs.check.Tie as tie
@@ -18,7 +18,7 @@ entered c = c.before.before.before
 abbrev tested : tie.After-enum-told → tie.After-test-sheet
 tested c = c.before.before
 
-passed : (c : tie.After-enum-told) → first (sheetRows (entered (tested c)).args.sheet.now) ≡ Taken
+passed : (c : tie.After-enum-told) → first (sheet_rows (entered (tested c)).args.sheet.now) ≡ Taken
 passed c = sym (tested c).test-sheet.ensures ∙ c.enum_told.given.1
 
 test-sheet-requires : tie.Need-test-sheet-requires
@@ -33,11 +33,11 @@ enum_told c = search rules
 head-of-requires : tie.Need-head-of-requires
 head-of-requires c κs =
     let s = (entered (tested c)).args.sheet.now in
-    head-there s (parts s (passed c)).head
+    head_there s (parts s (passed c)).head
 
 rule-of-requires : tie.Need-rule-of-requires
-unfolding sheetOf
-rule-of-requires c κs = rw c.head_of.ensures (taken-fits _ (passed c.before)).route
+unfolding sheet_of
+rule-of-requires c κs = rw c.head_of.ensures (taken_fits _ (passed c.before)).route
 
 own-tiers-requires : tie.Need-own-tiers-requires
 own-tiers-requires c κs = passed c.before.before
@@ -48,7 +48,7 @@ answer-with-requires c κs =
     let r = o.before in
     let e = passed r.before.before in
     let g = r.rule-of.ensures in
-    (e, rw o.own-tiers.ensures (taken-fits _ e), g.1, g.2)
+    (e, rw o.own-tiers.ensures (taken_fits _ e), g.1, g.2)
 
 returns : tie.Need-returns
 returns c =
@@ -60,14 +60,14 @@ same_length : tie.Need-same-length
 same_length c = search rules
 
 returns-2 : tie.Need-returns-2
-unfolding sheetOf
+unfolding sheet_of
 returns-2 c =
     let w = c.before.before in
     let o = w.before.before in
     let r = o.before in
     let h = r.before in
     let a = (entered (tested h.before)).args in
-    taken a.sheet.now a.answer.now (passed h.before) (r.rule-of.ensures.0 ∙ ap loadRuleBy h.head_of.ensures)
+    taken a.sheet.now a.answer.now (passed h.before) (r.rule-of.ensures.0 ∙ ap load_rule_by h.head_of.ensures)
     o.own-tiers.ensures w.answer-with.ensures.1
 
 pub check-spec : {M : Type 1} → statement M

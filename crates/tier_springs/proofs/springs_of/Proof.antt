@@ -6,8 +6,8 @@ use native.Mathlib.Omega.{arith}
 use lib.ListN.{get_or, length, take}
 use lib.Seq.{get_or-take, length-take-le}
 use borrow.Author.Rules.{rules}
-use Rattle.sheet.specs.Layout.{blankTier}
-use Rattle.tier_springs.proofs.SpringLaws.{Springs, springs-none, springs-more, springs-all}
+use Rattle.sheet.specs.Layout.{blank_tier}
+use Rattle.tier_springs.proofs.SpringLaws.{Springs, springs_none, springs_more, springs_all}
 use Rattle.tier_springs.proofs.springs_of.Statement.{statement}
 use Rattle.tier_springs.proofs.springs_of.Tie as tie
 
@@ -27,16 +27,16 @@ stacked c = length-take-le c.args.n c.args.t2 (omega (arith, c.requires.0, c.wel
 own :
     (c : tie.In-loop invariant-loop decreases-loop) →
     let a = (start c.before).args in
-    get_or (take a.n a.t2) c.before.loop.i blankTier ≡ get_or a.t2 c.before.loop.i blankTier
+    get_or (take a.n a.t2) c.before.loop.i blank_tier ≡ get_or a.t2 c.before.loop.i blank_tier
 own c =
     let a = (start c.before).args in
-    get_or-take a.n a.t2 c.before.loop.i blankTier c.loop-test.true
+    get_or-take a.n a.t2 c.before.loop.i blank_tier c.loop-test.true
 
 loop-holds : tie.Need-loop-init invariant-loop decreases-loop
 loop-holds c =
     let b = c.before.before in
     let ts = take b.args.n b.args.t2 in
-    rw (b.requires.1, b.requires.2) (omega arith, springs-none 3730 15690 ts, springs-none 15690 3730 ts)
+    rw (b.requires.1, b.requires.2) (omega arith, springs_none 3730 15690 ts, springs_none 15690 3730 ts)
 
 mul-t : tie.Need-overflow-mul-t invariant-loop decreases-loop
 mul-t c = search rules
@@ -80,8 +80,8 @@ loop-again c =
     let ts = take b.args.n b.args.t2 in
     let room : l.i < 10 = omega (arith, t.loop-test.true, b.pre.0) in (
       omega arith,
-      rw (add-one l.i) (springs-more 3730 15690 ts room (rw (own t) c.before.spring-of.ensures) l.invariant.1),
-      rw (add-one l.i) (springs-more 15690 3730 ts room (rw (own t) c.spring-of2.ensures) l.invariant.2),
+      rw (add-one l.i) (springs_more 3730 15690 ts room (rw (own t) c.before.spring-of.ensures) l.invariant.1),
+      rw (add-one l.i) (springs_more 15690 3730 ts room (rw (own t) c.spring-of2.ensures) l.invariant.2),
     )
 
 same_length : tie.Need-same-length invariant-loop decreases-loop
@@ -95,8 +95,8 @@ returns c =
     let l = c.before.loop in
     let b = start c.before in
     let ts = take b.args.n b.args.t2 in (
-      springs-all 3730 15690 ts (omega (arith, c.loop-test.false, stacked b)) l.invariant.1,
-      springs-all 15690 3730 ts (omega (arith, c.loop-test.false, stacked b)) l.invariant.2,
+      springs_all 3730 15690 ts (omega (arith, c.loop-test.false, stacked b)) l.invariant.1,
+      springs_all 15690 3730 ts (omega (arith, c.loop-test.false, stacked b)) l.invariant.2,
     )
 
 pub springs-of-spec : {M : Type 1} → statement M

@@ -5,7 +5,7 @@ use native.Mathlib.Omega.{arith}
 use lib.ListN.{length, drop}
 use borrow.Author.Rules.{rules}
 use Rattle.twenties.specs.Judgements.{all_fit}
-use Rattle.twenties.proofs.Masses.{fit-here, fit-not, fit-end}
+use Rattle.twenties.proofs.Masses.{fit_here, fit_not, fit_end}
 use Rattle.twenties.proofs.all_fit.Statement.{statement}
 use Rattle.twenties.proofs.all_fit.Tie as tie
 
@@ -27,7 +27,7 @@ shared-slice-read-mass c = search rules
 returns : tie.Need-returns invariant-loop decreases-loop
 returns c =
     let l = c.before.before.before in
-    sym (fit-not l.before.args.masses.now l.loop.i (omega arith) c.if1.true) ∙ l.loop.invariant
+    sym (fit_not l.before.args.masses.now l.loop.i (omega arith) c.if1.true) ∙ l.loop.invariant
 
 add-i : tie.Need-overflow-add-i invariant-loop decreases-loop
 add-i c = search rules
@@ -38,12 +38,12 @@ loop-less c = search rules
 loop-again : tie.Need-loop-preserved invariant-loop decreases-loop
 loop-again c =
     let l = c.before.before.before in
-    sym (fit-here l.before.args.masses.now l.loop.i (omega arith) c.if1.false) ∙ l.loop.invariant
+    sym (fit_here l.before.args.masses.now l.loop.i (omega arith) c.if1.false) ∙ l.loop.invariant
 
 returns-2 : tie.Need-returns-2 invariant-loop decreases-loop
 returns-2 c =
     let l = c.before in
-    sym (fit-end l.before.args.masses.now l.loop.i (omega arith)) ∙ l.loop.invariant
+    sym (fit_end l.before.args.masses.now l.loop.i (omega arith)) ∙ l.loop.invariant
 
 pub all-fit-spec : {M : Type 1} → statement M
 all-fit-spec =

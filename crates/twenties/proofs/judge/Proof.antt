@@ -3,12 +3,12 @@ use mathlib.Core.Bool.{not}
 use mathlib.Core.Path.{ap, sym, ◌∙◌}
 use borrow.Author.Rules.{rules}
 use Rattle.twenties.specs.Judgements.{verdict}
-use Rattle.twenties.proofs.Outcomes.{refused-22, refused-23, given, ranges}
+use Rattle.twenties.proofs.Outcomes.{refused_22, refused_23, given, ranges}
 use Rattle.twenties.proofs.judge.Statement.{statement}
 use Rattle.twenties.proofs.judge.Tie as tie
 
 returns : tie.Need-returns
-returns c = let a = c.before.before.args in sym (refused-22 a.table a.acceleration a.masses.now c.if1.true)
+returns c = let a = c.before.before.args in sym (refused_22 a.table a.acceleration a.masses.now c.if1.true)
 
 all-fit-requires : tie.Need-all-fit-requires
 all-fit-requires c κs = search rules
@@ -17,7 +17,7 @@ returns-2 : tie.Need-returns-2
 returns-2 c =
     let a = c.before.before.before.before.args in
     let unfit = ap not (sym c.before.all_fit.ensures) ∙ c.if2.true in
-    sym (refused-23 a.table a.acceleration a.masses.now c.before.before.if1.false unfit)
+    sym (refused_23 a.table a.acceleration a.masses.now c.before.before.if1.false unfit)
 
 total-above-requires : tie.Need-total-above-requires
 total-above-requires c κs =

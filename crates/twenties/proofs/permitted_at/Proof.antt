@@ -4,7 +4,7 @@ use mathlib.Core.Path.{refl}
 use native.Mathlib.Omega.{arith}
 use borrow.Author.Rules.{rules}
 use Rattle.twenties.proofs.Falling.{most}
-use Rattle.twenties.proofs.Rows.{permitted-most}
+use Rattle.twenties.proofs.Rows.{permitted_most}
 use Rattle.twenties.proofs.permitted_at.Statement.{statement}
 use Rattle.twenties.proofs.permitted_at.Tie as tie
 
@@ -35,7 +35,7 @@ sub-result c = search rules
 mul-result-2 : tie.Need-overflow-mul-result-2
 mul-result-2 c =
     let a = c.before.args in
-    let whole = rw (← c.entry.ensures) at (permitted-most a.table a.acceleration a.tiers c.before.requires.3) in
+    let whole = rw (← c.entry.ensures) at (permitted_most a.table a.acceleration a.tiers c.before.requires.3) in
     record { fits = omega arith }
 
 returns : tie.Need-returns

@@ -6,7 +6,7 @@ use native.Mathlib.Omega.{arith}
 use lib.ListN.{length, drop}
 use borrow.Author.Rules.{rules}
 use Rattle.twenties.specs.Judgements as J
-use Rattle.twenties.proofs.Masses.{sum-here, sum-end}
+use Rattle.twenties.proofs.Masses.{sum_here, sum_end}
 use Rattle.twenties.proofs.total_above.Statement.{statement}
 use Rattle.twenties.proofs.total_above.Tie as tie
 
@@ -40,12 +40,12 @@ loop-less c = search rules
 loop-again : tie.Need-loop-preserved invariant-loop decreases-loop
 loop-again c =
     let l = c.before.before.before in
-    (omega (arith, sum-here l.before.before.args.masses.now l.loop.i (omega arith)), omega arith, search rules)
+    (omega (arith, sum_here l.before.before.args.masses.now l.loop.i (omega arith)), omega arith, search rules)
 
 returns : tie.Need-returns invariant-loop decreases-loop
 returns c =
     let l = c.before in
-    omega (arith, sum-end l.before.before.args.masses.now l.loop.i (omega arith))
+    omega (arith, sum_end l.before.before.args.masses.now l.loop.i (omega arith))
 
 pub total-above-spec : {M : Type 1} → statement M
 total-above-spec =

@@ -3,8 +3,8 @@ use Prim.Native.Nat.{◌-◌, ◌/◌, ◌≤◌}
 use mathlib.Core.Path.{◌≡◌, refl, sym, ◌∙◌}
 use native.Mathlib.Omega.{arith}
 use lib.ListN.{length}
-use Rattle.cases.specs.inner.Fields.{heldFrom}
-use Rattle.cases.proofs.FieldLaws.{held-not, held_more, held_all, held-other}
+use Rattle.cases.specs.Inner.Fields.{held_from}
+use Rattle.cases.proofs.FieldLaws.{held_not, held_more, held_all, held_other}
 use borrow.Author.Rules.{rules}
 use Rattle.cases.proofs.fields.hold.Statement.{statement}
 use Rattle.cases.proofs.fields.hold.Tie as tie
@@ -13,7 +13,7 @@ abbrev invariant-loop : tie.invariant-loop
 invariant-loop input from to buffer n at₀ place₀ at place =
     (at ≤ to)
     × (place ≤ length buffer)
-    × (heldFrom input buffer n ((to - at) / 9) at place ≡ heldFrom input buffer n ((to - at₀) / 9) at₀ place₀)
+    × (held_from input buffer n ((to - at) / 9) at place ≡ held_from input buffer n ((to - at₀) / 9) at₀ place₀)
 
 abbrev decreases-loop : tie.decreases-loop
 decreases-loop input from to buffer n at₀ place₀ at place = to - at
@@ -33,7 +33,7 @@ returns c =
     let l = w.before.before in
     let a = l.before.before.before.args in
     let e =
-    held-not a.input.now a.buffer.now a.n a.to l.loop.at l.loop.place (omega arith) w.within.ensures.0
+    held_not a.input.now a.buffer.now a.n a.to l.loop.at l.loop.place (omega arith) w.within.ensures.0
     c.if1.true in
     sym e ∙ l.loop.invariant.2
 
@@ -60,7 +60,7 @@ returns-2 : tie.Need-returns-2 invariant-loop decreases-loop
 returns-2 c =
     let l = c.before.before in
     let a = l.before.before.before.args in
-    sym (held-other a.input.now a.buffer.now a.n a.to l.loop.at l.loop.place (omega arith) c.if2.true)
+    sym (held_other a.input.now a.buffer.now a.n a.to l.loop.at l.loop.place (omega arith) c.if2.true)
     ∙ l.loop.invariant.2
 
 returns-3 : tie.Need-returns-3 invariant-loop decreases-loop

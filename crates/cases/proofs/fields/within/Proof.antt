@@ -1,7 +1,7 @@
 -- `cases::fields::within`, by the size that the field asks for.
 use native.Mathlib.Omega.{arith}
 use borrow.Author.Tests.{lt-ltb, le-ltb, eq-eqb, ne_eqb}
-use Rattle.cases.specs.inner.Fields.{sizeWithin}
+use Rattle.cases.specs.Inner.Fields.{size_within}
 use borrow.Author.Rules.{rules}
 use Rattle.cases.proofs.fields.within.Statement.{statement}
 use Rattle.cases.proofs.fields.within.Tie as tie
@@ -25,7 +25,7 @@ sub-if1 : tie.Need-overflow-sub-if1
 sub-if1 c = search rules
 
 returns : tie.Need-returns
-unfolding sizeWithin
+unfolding size_within
 returns c =
     let r = c.before.before.before in
     (simp (← r.read1.ensures.0, lt-ltb _ _ c.if1.true), omega arith)
@@ -37,7 +37,7 @@ size-if-requires : tie.Need-size-if-requires
 size-if-requires c κs = search rules
 
 returns-2 : tie.Need-returns-2
-unfolding sizeWithin
+unfolding size_within
 returns-2 c =
     let t = c.before.before in
     let e = t.before in
@@ -62,7 +62,7 @@ size-if-requires-2 : tie.Need-size-if-requires-2
 size-if-requires-2 c κs = search rules
 
 returns-3 : tie.Need-returns-3
-unfolding sizeWithin
+unfolding size_within
 returns-3 c =
     let t = c.before.before in
     let e = t.before.before in
@@ -82,7 +82,7 @@ returns-3 c =
     )
 
 returns-4 : tie.Need-returns-4
-unfolding sizeWithin
+unfolding size_within
 returns-4 c =
     let e = c.before.before in
     let r = e.before.before.before in

@@ -3,14 +3,14 @@ use Prim.Native.Nat.{◌-◌}
 use mathlib.Core.Path.{◌≡◌, refl, sym, ◌∙◌}
 use native.Mathlib.Omega.{arith}
 use lib.ListN.{length, drop}
-use Rattle.cases.specs.inner.Marks.{allMarked}
-use Rattle.cases.proofs.MarkLaws.{marked-here, marked-not, marked-end}
+use Rattle.cases.specs.Inner.Marks.{all_marked}
+use Rattle.cases.proofs.MarkLaws.{marked_here, marked_not, marked_end}
 use borrow.Author.Rules.{rules}
 use Rattle.cases.proofs.space.untouched.Statement.{statement}
 use Rattle.cases.proofs.space.untouched.Tie as tie
 
 abbrev invariant-loop : tie.invariant-loop
-invariant-loop buffer from i₀ i = allMarked i (drop i buffer) ≡ allMarked i₀ (drop i₀ buffer)
+invariant-loop buffer from i₀ i = all_marked i (drop i buffer) ≡ all_marked i₀ (drop i₀ buffer)
 
 abbrev decreases-loop : tie.decreases-loop
 decreases-loop buffer from i₀ i = length buffer - i
@@ -29,7 +29,7 @@ returns c =
     let m = c.before in
     let l = m.before.before.before in
     let b = l.before.before.args.buffer.now in
-    sym (marked-not b l.loop.i (omega arith) (λ e. c.if1.true (e ∙ sym m.mark.ensures))) ∙ l.loop.invariant
+    sym (marked_not b l.loop.i (omega arith) (λ e. c.if1.true (e ∙ sym m.mark.ensures))) ∙ l.loop.invariant
 
 add-i : tie.Need-overflow-add-i invariant-loop decreases-loop
 add-i c = search rules
@@ -42,12 +42,12 @@ loop-again c =
     let m = c.before in
     let l = m.before.before.before in
     let b = l.before.before.args.buffer.now in
-    sym (marked-here b l.loop.i (omega arith) (c.if1.false ∙ m.mark.ensures)) ∙ l.loop.invariant
+    sym (marked_here b l.loop.i (omega arith) (c.if1.false ∙ m.mark.ensures)) ∙ l.loop.invariant
 
 returns-2 : tie.Need-returns-2 invariant-loop decreases-loop
 returns-2 c =
     let l = c.before in
-    sym (marked-end l.before.before.args.buffer.now l.loop.i (omega arith)) ∙ l.loop.invariant
+    sym (marked_end l.before.before.args.buffer.now l.loop.i (omega arith)) ∙ l.loop.invariant
 
 pub untouched-spec : {M : Type 1} → statement M
 untouched-spec =

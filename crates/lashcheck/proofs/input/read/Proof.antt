@@ -4,7 +4,7 @@ use mathlib.Core.Path.{◌≡◌, ap}
 use native.Mathlib.Omega.{arith}
 use borrow.Author.Rules.{rules}
 use lib.ListN.{length}
-use Rattle.lashcheck.specs.inner.Texts.{counted}
+use Rattle.lashcheck.specs.Inner.Texts.{counted}
 use Rattle.lashcheck.proofs.Text.{counts_of}
 use Rattle.lashcheck.proofs.input.read.Statement.{statement}
 use Rattle.lashcheck.proofs.input.read.Tie as tie

@@ -2,7 +2,7 @@
 use lib.ListN.{length-take, length-drop}
 use native.Mathlib.Omega.{arith}
 use borrow.Author.Rules.{rules}
-use Rattle.lashcheck.proofs.Text.{few-digits, put_of}
+use Rattle.lashcheck.proofs.Text.{few_digits, put_of}
 use Rattle.lashcheck.proofs.output.put_number.Statement.{statement}
 use Rattle.lashcheck.proofs.output.put_number.Tie as tie
 
@@ -28,14 +28,14 @@ copy-requires : tie.Need-copy-requires
 copy-requires c κs =
     let d = c.before.before in
     let a = d.before.before.before in
-    let few = few-digits a.args.n d.decimal.result a.ranges.n.fits d.decimal.ensures.1.0 in
+    let few = few_digits a.args.n d.decimal.result a.ranges.n.fits d.decimal.ensures.1.0 in
     simp (length-take, length-drop) (omega arith)
 
 add-result : tie.Need-overflow-add-result
 add-result c =
     let d = c.before.before.before.before.before in
     let a = d.before.before.before in
-    let few = few-digits a.args.n d.decimal.result a.ranges.n.fits d.decimal.ensures.1.0 in
+    let few = few_digits a.args.n d.decimal.result a.ranges.n.fits d.decimal.ensures.1.0 in
     omega arith
 
 same_length : tie.Need-same-length

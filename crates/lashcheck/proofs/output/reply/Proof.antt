@@ -1,7 +1,7 @@
 -- `lashcheck::output::reply` puts what is written for a sheet at the start of its buffer, by the cases of the check.
 use native.Mathlib.Omega.{arith}
 use borrow.Author.Rules.{rules}
-use Rattle.lashcheck.proofs.Outcomes.{answer-fits, reply-taken, reply-refused}
+use Rattle.lashcheck.proofs.Outcomes.{answer_fits, reply_taken, reply_refused}
 use Rattle.lashcheck.proofs.Text.{counts_of}
 use Rattle.lashcheck.proofs.output.reply.Statement.{statement}
 use Rattle.lashcheck.proofs.output.reply.Tie as tie
@@ -22,14 +22,14 @@ returns : tie.Need-returns
 returns c =
     let check = c.before.before.before.check in
     let is = c.before.outcome.given.1 in (
-      counts_of c.before.outcome.given.0.0 check.new.1.0 (omega (arith, answer-fits (omega arith) check.ensures.0 is)),
-      reply-taken (omega arith) check.ensures.0 is,
+      counts_of c.before.outcome.given.0.0 check.new.1.0 (omega (arith, answer_fits (omega arith) check.ensures.0 is)),
+      reply_taken (omega arith) check.ensures.0 is,
     )
 
 returns-2 : tie.Need-returns-2
 returns-2 c = (
   c.put-line.ensures.0,
-  reply-refused (omega arith) c.before.before.before.before.before.check.ensures.0 c.before.before.before.outcome2.given.1
+  reply_refused (omega arith) c.before.before.before.before.before.check.ensures.0 c.before.before.before.outcome2.given.1
       c.put-line.ensures.1,
 )
 

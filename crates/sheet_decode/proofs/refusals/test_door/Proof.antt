@@ -13,7 +13,7 @@ test-end-requires : tie.Need-test-end-requires
 test-end-requires c κs = search rules
 
 returns : tie.Need-returns
-returns c = rw (c.before.before.byte-at.ensures.0, c.before.door-place.ensures.0) at c.test-end.ensures
+returns c = rw (c.before.before.byte_at_lem.ensures.0, c.before.door_place_lem.ensures.0) at c.test-end.ensures
 
 pub test-door-spec : {M : Type 1} → statement M
 test-door-spec =

@@ -8,18 +8,18 @@ use borrow.Author.Tests.{ltb-false}
 use lib.ListN.{length}
 use Rattle.arith.specs.Lists.{from, below}
 use Rattle.sheet.specs.declared.Reading.TheVariants.{Taken}
-use Rattle.sheet.specs.Layout.{lashPlace}
-use Rattle.sheet.specs.Refusals.{first, lashRows}
+use Rattle.sheet.specs.Layout.{lash_place}
+use Rattle.sheet.specs.Refusals.{first, lash_rows}
 use Rattle.sheet.proofs.Clear.{clear}
-use Rattle.sheet.proofs.Rows.{entry-taken, entry-refused, no-entry-left}
-use Rattle.sheet_limits.specs.inner.Ranks.{leastRank}
-use Rattle.sheet_limits.proofs.Ranks.{least-next}
+use Rattle.sheet.proofs.Rows.{entry_taken, entry_refused, no_entry_left}
+use Rattle.sheet_limits.specs.Inner.Ranks.{least_rank}
+use Rattle.sheet_limits.proofs.Ranks.{least_next}
 use Rattle.sheet_decode.proofs.refusals.test_each_lash.Statement.{statement}
 use Rattle.sheet_decode.proofs.refusals.test_each_lash.Tie as tie
 
 abbrev invariant-loop : tie.invariant-loop
 invariant-loop n s at count k₀ least₀ k least =
-    (k ≤ count) × (least ≡ leastRank s at k) × (first (flat_map (lashRows n s at) (from k (count - k))) ≡ first (flat_map (lashRows n s at) (below count)))
+    (k ≤ count) × (least ≡ least_rank s at k) × (first (flat_map (lash_rows n s at) (from k (count - k))) ≡ first (flat_map (lash_rows n s at) (below count)))
 
 abbrev decreases-loop : tie.decreases-loop
 decreases-loop n s at count k₀ least₀ k least = count - k
@@ -39,7 +39,7 @@ returns c =
     let l = m.before.before in
     let a = l.before.before.args in
     sym
-    (entry-refused (lashRows a.n a.s.now a.at) l.loop.k _ m.before.loop-test.true
+    (entry_refused (lash_rows a.n a.s.now a.at) l.loop.k _ m.before.loop-test.true
     (sym m.test-lash.ensures ∙ c.before.number.given.1))
     ∙ l.loop.invariant.2
 
@@ -51,7 +51,7 @@ passed :
     (c : tie.After-enum-told invariant-loop decreases-loop) →
     let l = c.before.before.before.before in
     let a = l.before.before.args in
-    first (lashRows a.n a.s.now a.at l.loop.k) ≡ Taken
+    first (lash_rows a.n a.s.now a.at l.loop.k) ≡ Taken
 passed c = sym c.before.before.test-lash.ensures ∙ c.enum_told.given.1
 
 add-lash-of : tie.Need-overflow-add-lash-of invariant-loop decreases-loop
@@ -67,8 +67,8 @@ lash-of-requires : tie.Need-lash-of-requires invariant-loop decreases-loop
 lash-of-requires c κs =
     let l = c.before.before.before.before in
     let a = l.before.before.args in
-    ltb-false (length a.s.now) (lashPlace a.at l.loop.k + 20)
-    (clear (lashRows a.n a.s.now a.at l.loop.k) (passed c)).0
+    ltb-false (length a.s.now) (lash_place a.at l.loop.k + 20)
+    (clear (lash_rows a.n a.s.now a.at l.loop.k) (passed c)).0
 
 rank-requires : tie.Need-rank-requires invariant-loop decreases-loop
 rank-requires c κs = search rules
@@ -90,15 +90,15 @@ loop-again c =
     let a = l.before.before.args in
     let r = rw c.before.lash-of.ensures at c.rank.ensures.0 in (
       search rules,
-      rw r (least-next a.s.now a.at l.loop.k),
-      sym (entry-taken (lashRows a.n a.s.now a.at) l.loop.k _ m.before.loop-test.true (passed e)) ∙ l.loop.invariant.2,
+      rw r (least_next a.s.now a.at l.loop.k),
+      sym (entry_taken (lash_rows a.n a.s.now a.at) l.loop.k _ m.before.loop-test.true (passed e)) ∙ l.loop.invariant.2,
     )
 
 returns-2 : tie.Need-returns-2 invariant-loop decreases-loop
 returns-2 c =
     let l = c.before in
     let a = l.before.before.args in
-    sym (no-entry-left (lashRows a.n a.s.now a.at) l.loop.k _ c.loop-test.false) ∙ l.loop.invariant.2
+    sym (no_entry_left (lash_rows a.n a.s.now a.at) l.loop.k _ c.loop-test.false) ∙ l.loop.invariant.2
 
 pub test-each-lash-spec : {M : Type 1} → statement M
 test-each-lash-spec =

@@ -5,13 +5,13 @@ use mathlib.Core.Path.{◌≡◌, sym, ◌∙◌}
 use native.Mathlib.Nat.{sub-zero}
 use borrow.Author.Rules.{rules}
 use Rattle.arith.specs.Lists.{from, below}
-use Rattle.sheet.specs.Refusals.{first, tierRows}
-use Rattle.sheet.proofs.Rows.{entry-taken, entry-refused, no-entry-left}
+use Rattle.sheet.specs.Refusals.{first, tier_rows}
+use Rattle.sheet.proofs.Rows.{entry_taken, entry_refused, no_entry_left}
 use Rattle.sheet_decode.proofs.refusals.test_each_tier.Statement.{statement}
 use Rattle.sheet_decode.proofs.refusals.test_each_tier.Tie as tie
 
 abbrev invariant-loop : tie.invariant-loop
-invariant-loop s n k₀ k = (k ≤ n) × (first (flat_map (tierRows s) (from k (n - k))) ≡ first (flat_map (tierRows s) (below n)))
+invariant-loop s n k₀ k = (k ≤ n) × (first (flat_map (tier_rows s) (from k (n - k))) ≡ first (flat_map (tier_rows s) (below n)))
 
 abbrev decreases-loop : tie.decreases-loop
 decreases-loop s n k₀ k = n - k
@@ -31,7 +31,7 @@ returns c =
     let l = m.before.before in
     let a = l.before.before.args in
     sym
-    (entry-refused (tierRows a.s.now) l.loop.k _ m.before.loop-test.true
+    (entry_refused (tier_rows a.s.now) l.loop.k _ m.before.loop-test.true
     (sym m.test-tier.ensures ∙ c.before.number.given.1))
     ∙ l.loop.invariant.1
 
@@ -51,7 +51,7 @@ loop-again c =
     let a = l.before.before.args in (
       search rules,
       sym
-          (entry-taken (tierRows a.s.now) l.loop.k _ m.before.loop-test.true
+          (entry_taken (tier_rows a.s.now) l.loop.k _ m.before.loop-test.true
           (sym m.test-tier.ensures ∙ c.enum_told.given.1))
           ∙ l.loop.invariant.1,
     )
@@ -60,7 +60,7 @@ returns-2 : tie.Need-returns-2 invariant-loop decreases-loop
 returns-2 c =
     let l = c.before in
     let a = l.before.before.args in
-    sym (no-entry-left (tierRows a.s.now) l.loop.k _ c.loop-test.false) ∙ l.loop.invariant.1
+    sym (no_entry_left (tier_rows a.s.now) l.loop.k _ c.loop-test.false) ∙ l.loop.invariant.1
 
 pub test-each-tier-spec : {M : Type 1} → statement M
 test-each-tier-spec =

@@ -19,7 +19,7 @@ returns-2 : tie.Need-returns-2
 unfolding first
 returns-2 c =
     let b = c.before in
-    simp (le-ltb _ _ b.before.if1.false, ← b.byte-at.ensures.0, lt-ltb _ _ c.if2.true)
+    simp (le-ltb _ _ b.before.if1.false, ← b.byte_at_lem.ensures.0, lt-ltb _ _ c.if2.true)
 
 test-each-lash-requires : tie.Need-test-each-lash-requires
 test-each-lash-requires c κs = search rules
@@ -30,7 +30,7 @@ returns-3 c =
     let b = c.before.before in
     simp (
       le-ltb _ _ b.before.if1.false,
-      ← b.byte-at.ensures.0,
+      ← b.byte_at_lem.ensures.0,
       le-ltb _ _ c.before.if2.false,
     )
     c.test-each-lash.ensures

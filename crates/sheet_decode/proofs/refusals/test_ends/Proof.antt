@@ -3,7 +3,7 @@ use mathlib.Core.Path.{sym, ◌∙◌}
 use borrow.Author.Rules.{rules}
 use borrow.Author.Tests.{lt-ltb, le-ltb}
 use Rattle.sheet.specs.Refusals.{first}
-use Rattle.sheet.proofs.Rows.{door-refused, closed-refused, ends-taken}
+use Rattle.sheet.proofs.Rows.{door_refused, closed_refused, ends_taken}
 use Rattle.sheet_decode.proofs.refusals.test_ends.Statement.{statement}
 use Rattle.sheet_decode.proofs.refusals.test_ends.Tie as tie
 
@@ -16,7 +16,7 @@ enum-known-number c = search rules
 returns : tie.Need-returns
 returns c =
     let d = c.before.before.before in
-    sym (door-refused d.before.before.args.s.now (sym d.test-door.ensures ∙ c.before.number.given.1))
+    sym (door_refused d.before.before.args.s.now (sym d.test-door.ensures ∙ c.before.number.given.1))
 
 enum_told : tie.Need-enum-told
 enum_told c = search rules
@@ -33,7 +33,7 @@ returns-2 c =
     let d = f.before.before.before in
     let door = sym d.test-door.ensures ∙ f.before.enum_told.given.1 in
     let closed = sym f.test-closed.ensures ∙ c.before.number2.given.1 in
-    sym (closed-refused d.before.before.args.s.now door closed)
+    sym (closed_refused d.before.before.args.s.now door closed)
 
 enum-told-2 : tie.Need-enum-told-2
 enum-told-2 c = search rules
@@ -49,7 +49,7 @@ returns-3 c =
     let d = f.before.before.before in
     let door = sym d.test-door.ensures ∙ f.before.enum_told.given.1 in
     let closed = sym f.test-closed.ensures ∙ t.enum-told2.given.1 in
-    rw (ends-taken d.before.before.args.s.now door closed) (simp (← c.before.spare-place.ensures, lt-ltb _ _ c.if1.true))
+    rw (ends_taken d.before.before.args.s.now door closed) (simp (← c.before.spare_place_lem.ensures, lt-ltb _ _ c.if1.true))
 
 returns-4 : tie.Need-returns-4
 unfolding first
@@ -59,7 +59,7 @@ returns-4 c =
     let d = f.before.before.before in
     let door = sym d.test-door.ensures ∙ f.before.enum_told.given.1 in
     let closed = sym f.test-closed.ensures ∙ t.enum-told2.given.1 in
-    rw (ends-taken d.before.before.args.s.now door closed) (simp (← c.before.spare-place.ensures, le-ltb _ _ c.if1.false))
+    rw (ends_taken d.before.before.args.s.now door closed) (simp (← c.before.spare_place_lem.ensures, le-ltb _ _ c.if1.false))
 
 pub test-ends-spec : {M : Type 1} → statement M
 test-ends-spec =

@@ -1,7 +1,7 @@
 -- `sheet_decode::refusals::test_sheet`: the head, the tiers, then the ends.
 use mathlib.Core.Path.{sym, ◌∙◌}
 use borrow.Author.Rules.{rules}
-use Rattle.sheet.proofs.Rows.{head-refused, tiers-refused, tiers-taken}
+use Rattle.sheet.proofs.Rows.{head_refused, tiers_refused, tiers_taken}
 use Rattle.sheet_decode.proofs.refusals.test_sheet.Statement.{statement}
 use Rattle.sheet_decode.proofs.refusals.test_sheet.Tie as tie
 
@@ -14,7 +14,7 @@ enum-known-number c = search rules
 returns : tie.Need-returns
 returns c =
     let h = c.before.before.before in
-    sym (head-refused h.before.before.args.s.now (sym h.test-head.ensures ∙ c.before.number.given.1))
+    sym (head_refused h.before.before.args.s.now (sym h.test-head.ensures ∙ c.before.number.given.1))
 
 enum_told : tie.Need-enum-told
 enum_told c = search rules
@@ -31,7 +31,7 @@ returns-2 c =
     let h = t.before.before.before in
     let head = sym h.test-head.ensures ∙ t.before.enum_told.given.1 in
     let tiers = sym t.test-tiers.ensures ∙ c.before.number2.given.1 in
-    sym (tiers-refused h.before.before.args.s.now head tiers)
+    sym (tiers_refused h.before.before.args.s.now head tiers)
 
 enum-told-2 : tie.Need-enum-told-2
 enum-told-2 c = search rules
@@ -45,7 +45,7 @@ returns-3 c =
     let h = t.before.before.before in
     let head = sym h.test-head.ensures ∙ t.before.enum_told.given.1 in
     let tiers = sym t.test-tiers.ensures ∙ c.before.enum-told2.given.1 in
-    c.test-ends.ensures ∙ sym (tiers-taken h.before.before.args.s.now head tiers)
+    c.test-ends.ensures ∙ sym (tiers_taken h.before.before.args.s.now head tiers)
 
 pub test-sheet-spec : {M : Type 1} → statement M
 test-sheet-spec =

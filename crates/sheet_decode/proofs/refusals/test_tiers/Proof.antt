@@ -17,16 +17,16 @@ returns-2 : tie.Need-returns-2
 unfolding first
 returns-2 c =
     let b = c.before in
-    simp (le-ltb _ _ b.before.if1.false, ← b.byte-at.ensures.0, c.if2.true)
+    simp (le-ltb _ _ b.before.if1.false, ← b.byte_at_lem.ensures.0, c.if2.true)
 
 test-each-tier-requires : tie.Need-test-each-tier-requires
-test-each-tier-requires c κs = (count_fits c.before.byte-at.result c.if2.false).1
+test-each-tier-requires c κs = (count_fits c.before.byte_at_lem.result c.if2.false).1
 
 returns-3 : tie.Need-returns-3
 unfolding first
 returns-3 c =
     let b = c.before.before in
-    simp (le-ltb _ _ b.before.if1.false, ← b.byte-at.ensures.0, c.before.if2.false) c.test-each-tier.ensures
+    simp (le-ltb _ _ b.before.if1.false, ← b.byte_at_lem.ensures.0, c.before.if2.false) c.test-each-tier.ensures
 
 pub test-tiers-spec : {M : Type 1} → statement M
 test-tiers-spec =

@@ -1,8 +1,0 @@
--- Contract of an inner function; nothing here need be believed.
-use Rattle.std.specs.Prelude.{cond, ℕ, ltb}
-use Rattle.answer.specs.Limits.{cornerTensionLimit}
-use Rattle.limits.specs.declared.PullLimit.{PullLimit}
-
--- what a tension is checked against: the lower of the corner's limit and the lock's, under the kind of that one
-abbrev pub lowerOf : ℕ → PullLimit
-lowerOf lock = cond (ltb lock cornerTensionLimit) (record { kind = 4; limit = lock }) (record { kind = 3; limit = cornerTensionLimit })
