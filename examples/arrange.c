@@ -2,7 +2,7 @@
    lashes first. The sheet's own lashes at the door end are the gear aboard.
    Exit status 0: some choice is accepted; 1: none is; 2: refused, or bad use.
 
-   cc examples/arrange.c target/staticlib/liblash.a -o arrange        after `rt staticlib lash`, in the repository's folder
+   cc examples/arrange.c target/staticlib/liblash.a -o arrange        after `python3 -m lashlib.build`, in the repository's folder
    ./lash examples/gear-aboard.toml --write - | ./arrange */
 #include "../include/lash_check.h"
 

@@ -1,7 +1,7 @@
 /* Checks the bay whose sheet is on standard input and says in words what each row, from port to starboard, came to.
    Exit status 0: every loaded row is accepted; 1: not; 2: refused, or bad use.
 
-   cc examples/bay.c target/staticlib/liblash.a -o bay        after `rt staticlib lash`, in the repository's folder
+   cc examples/bay.c target/staticlib/liblash.a -o bay        after `python3 -m lashlib.build`, in the repository's folder
    ./lash bay examples/bays/open-gap.toml --write - | ./bay */
 #include "../include/lash_check.h"
 

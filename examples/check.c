@@ -1,7 +1,7 @@
 /* Checks the stack sheet in a file, with three numbers more by the forecast of a short voyage, and says the result in words.
    Exit status 0: accepted; 1: not accepted; 2: refused, or no sheet to read.
 
-   cc examples/check.c target/staticlib/liblash.a -o check        after `rt staticlib lash`, in the repository's folder
+   cc examples/check.c target/staticlib/liblash.a -o check        after `python3 -m lashlib.build`, in the repository's folder
    ./check SHEET
    ./check SHEET 300 2500 48                                      wave height and breadth in cm, voyage in hours */
 #include "../include/lash_check.h"

@@ -1,7 +1,7 @@
 /* Says what another mass in one tier would do to the stack whose sheet is on standard input, before the box is moved.
    Exit status 0: the stack would be accepted; 1: it would not; 2: refused, or bad use.
 
-   cc examples/preview.c target/staticlib/liblash.a -o preview        after `rt staticlib lash`, in the repository's folder
+   cc examples/preview.c target/staticlib/liblash.a -o preview        after `python3 -m lashlib.build`, in the repository's folder
    ./preview 4 28000 <sheet                                           tier 4, counted from 1 at the bottom, with 28,000 kg */
 #include "../include/lash_check.h"
 

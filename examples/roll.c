@@ -1,7 +1,7 @@
 /* Works out a box's accelerations from the ship's roll, as a tier of a stack sheet has them, and says them in words.
    Exit status 0: given; 2: refused, or bad use.
 
-   cc examples/roll.c target/staticlib/liblash.a -o roll        after `rt staticlib lash`, in the repository's folder
+   cc examples/roll.c target/staticlib/liblash.a -o roll        after `python3 -m lashlib.build`, in the repository's folder
    ./roll 4226 9063 2012 2500 2000 300000 15000 150000 20000 30000
         sine, cosine and a0 in ten-thousandths, hundredths of a degree and of a second, in mm length, roll centre, x, y, z */
 #include "../include/lash_check.h"

@@ -2,7 +2,7 @@
    limit, and how far each level shifts lengthwise.
    Exit status 0: accepted; 1: not accepted; 2: refused, or bad use.
 
-   cc examples/side.c target/staticlib/liblash.a -o side              after `rt staticlib lash`, in the repository's folder
+   cc examples/side.c target/staticlib/liblash.a -o side              after `python3 -m lashlib.build`, in the repository's folder
    ./side 300 310 320 <sheet                                          A_L of each tier in thousandths of g, lowest first */
 #include "../include/lash_check.h"
 

@@ -1,7 +1,7 @@
 /* Asks whether the masses of a stack of 20-ft boxes in 40-ft cell guides are permitted, and says it in words.
    Exit status 0: permitted; 1: not permitted; 2: refused, or bad use.
 
-   cc examples/twenties.c target/staticlib/liblash.a -o twenties        after `rt staticlib lash`, in the repository's folder
+   cc examples/twenties.c target/staticlib/liblash.a -o twenties        after `python3 -m lashlib.build`, in the repository's folder
    ./twenties 0 412 24000 22000 20000 18000        table 0 without, 1 with a 40-ft box on top; thousandths of g; kg, lowest first */
 #include "../include/lash_check.h"
 

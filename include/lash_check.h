@@ -5,7 +5,7 @@
    for a box's accelerations from the ship's roll: numbers in, one number out. All want the floating-point environment that a C program
    starts with: no traps, rounding to the nearest.
 
-   rt staticlib lash                                                      proves the check and writes target/staticlib/liblash.a
+   python3 -m lashlib.build                                               proves the check and writes target/staticlib/liblash.a
    cc -Iinclude yours.c target/staticlib/liblash.a -o yours               a program over it, on x86-64 Linux
    cc -shared -Wl,--whole-archive target/staticlib/liblash.a -Wl,--no-whole-archive -o liblash.so          a shared library of it */
 #ifndef LASH_CHECK_H

@@ -1,11 +1,16 @@
-"""Makes the library, the program and C programs over them in target/, anew where the crates have changed since."""
+"""Makes the library, the program and C programs over them in target/, anew where the crates have changed since.
+
+usage: python3 -m lashlib.build     makes the library and prints where it lies
+"""
 
 import fcntl
 import os
 import shutil
 import subprocess
+import sys
 import time
 from contextlib import contextmanager
+from dataclasses import dataclass
 from pathlib import Path
 
 from lashlib import progress
@@ -18,6 +23,20 @@ PARTS = ("src", "specs", "proofs")  # of a crate: what its proof and its code ar
 
 class BuildFailed(Exception):
     """Something could not be built, with the reason."""
+
+
+@dataclass(frozen=True)
+class Product:
+    """What rt makes of a crate, in the crate's out/, and where in target/ it is kept."""
+
+    crate: str
+    name: str
+    folder: str
+    command: tuple  # in the crate's folder
+
+
+LIBRARY = Product("lash", "liblash.a", "staticlib", ("rt", "lib"))
+PROGRAM = Product("lashcheck", "lashcheck", "bin", ("rt", "run"))  # which has no other command that builds a program
 
 
 def library():
@@ -43,10 +62,10 @@ class Checkout:
         self.target = root / "target"
 
     def library(self):
-        return self.proved(self.target / "staticlib" / "liblash.a", "lash", ("rt", "staticlib", "lash"))
+        return self.proved(LIBRARY)
 
     def program(self):
-        return self.proved(self.target / "bin" / "lashcheck", "lashcheck", ("rt", "check", "lashcheck"))
+        return self.proved(PROGRAM)
 
     def shared_library(self):
         archive = self.library()
@@ -57,6 +76,9 @@ class Checkout:
                     share(archive, made)
         return made
 
+    def place(self, product):
+        return self.target / product.folder / product.name
+
     def newest_source(self):
         """When a file of the crates, or a folder of theirs by gaining or losing one, last changed."""
         times = [(self.root / "crates.txt").stat().st_mtime]
@@ -66,12 +88,13 @@ class Checkout:
                     times += [os.stat(path).st_mtime for path in (folder, *(os.path.join(folder, n) for n in names))]
         return max(times)
 
-    def proved(self, made, crate, command):
+    def proved(self, product):
         """A file that rt makes of a crate, made anew if it is missing or older than a source."""
+        made = self.place(product)
         if not self.current(made):
             with self.locked():
                 if not self.current(made):
-                    self.prove(made, crate, command)
+                    self.prove(product)
         return made
 
     def current(self, made):
@@ -80,25 +103,30 @@ class Checkout:
         except OSError as error:
             raise BuildFailed(f"{error.filename}: {error.strerror}") from None
 
-    def prove(self, made, crate, command):
-        why = f"{made.name} is older than its sources" if made.is_file() else f"there is no {made.name} yet"
-        found(command, f"to prove and build {made.name}")
-        self.forget_lost()
+    def prove(self, product):
+        why = f"{product.name} is older than its sources" if self.place(product).is_file() else f"there is no {product.name} yet"
+        found(product.command, f"to prove and build {product.name}")
         # Dated by the build's begin, so that a source changed meanwhile is newer; but never before a source, whose clock may be
         # fast. And dated at all, since rt leaves a program as it was if only the times of its sources changed.
         began = max(time.time(), self.newest_source())
-        last, status = progress.run(self.root, crate, command, why)
-        if status != 0 or not made.is_file():
-            words = f"`{' '.join(last)}` ended with status {status} and left no current {made}"
-            raise BuildFailed(f"{words}; {progress.log(self.root)} has what it said")
-        os.utime(made, (began, began))
+        last, status = progress.run(self.root, product, why)
+        if status != 0:
+            raise BuildFailed(f"`{' '.join(last)}` in crates/{product.crate} ended with status {status}; {self.said()}")
+        self.keep(product, began)
 
-    def forget_lost(self):
-        """Drops rt's marks of proved crates whose libraries or programs are gone: rt would take them for made."""
-        for stamp in (self.target / "stamp").glob("*"):
-            kinds = (self.target / "rlib" / f"{stamp.name}.rlib", self.target / "bin" / stamp.name)
-            if not any(path.exists() for path in kinds):
-                stamp.unlink()
+    def said(self):
+        return f"{progress.log(self.root)} has what it said"
+
+    def keep(self, product, began):
+        """Copies what was made of a crate to its place, dated so: one that is in use is never written over, only replaced."""
+        made, place = self.root / "crates" / product.crate / "out" / product.name, self.place(product)
+        if not made.is_file():
+            raise BuildFailed(f"rt left no {made}; {self.said()}")
+        place.parent.mkdir(parents=True, exist_ok=True)
+        fresh = place.with_name(f"{place.name}.{os.getpid()}")
+        shutil.copy(made, fresh)
+        os.utime(fresh, (began, began))
+        fresh.replace(place)
 
     @contextmanager
     def locked(self):
@@ -128,8 +156,11 @@ def share(archive, made):
 
 
 def found(command, purpose):
-    if shutil.which(command[0]) is None:
+    """Where the command's program lies."""
+    path = shutil.which(command[0])
+    if path is None:
         raise BuildFailed(f"{command[0]} is not on the PATH; it is needed {purpose}")
+    return Path(path)
 
 
 def run(command, purpose):
@@ -146,3 +177,16 @@ def compiled(name, *words):
     made = OUTPUT / name
     run(("cc", *C_WORDS, *words, "-lm", "-o", made), f"to compile {name}")
     return made
+
+
+def main():
+    try:
+        print(library())
+    except BuildFailed as reason:
+        print(f"lashlib.build: {reason}", file=sys.stderr)
+        return 1
+    return 0
+
+
+if __name__ == "__main__":
+    sys.exit(main())

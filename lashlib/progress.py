@@ -1,14 +1,16 @@
 """Runs rt and shows a line a crate; all that it and the prover say goes to a log."""
 
+import os
 import re
 import subprocess
 import sys
-import time
 
-PROVED = re.compile(r"rt: (\w+) proved \((\d+) s\)")
-UNCHANGED = re.compile(r"rt: (\w+) proved \(unchanged")
-FUNCTIONS = re.compile(r"logic=proved functions=(\d+)")
-FAULT = re.compile(r"rt: .*(NOT PROVED|FAILED)|rt: crates.txt")
+CRATE = re.compile(r"== (\w+)$")  # heads what rt says of a crate
+PROVED = re.compile(r"logic=proved functions=(\d+)")
+TOLD = re.compile(r"rt: (mend these first|the library \w+ did not build|.*crates\.txt|.*waiting for)|\w+: (failed \(|not run, since )")
+NOT_PROVED = re.compile(r"logic=(?!proved )|rattle build: nothing was built")
+RUNS = re.compile(r"rt: running out/")  # the program, once it is proved and built
+MEMORY = 2_000_000  # kB that the check of a crate may take
 
 
 def log(root):
@@ -16,10 +18,10 @@ def log(root):
 
 
 def dependencies(root, crate):
-    """The crates that a crate names in crates.txt."""
+    """The libraries that a crate names in crates.txt."""
     for line in (root / "crates.txt").read_text().splitlines():
         name, _, words = line.partition("#")[0].partition(":")
-        if name.strip() == crate:
+        if name.split()[:1] == [crate]:
             return words.split()
     return []
 
@@ -35,31 +37,42 @@ def reached(root, crate):
     return seen
 
 
-def run(root, crate, command, why):
-    """Runs a command that makes something of a crate; the last command run and its status."""
-    lines = Lines(reached(root, crate), crate)
+def at_once():
+    """How many crates are proved side by side: one a processor, where memory is free for each."""
+    processors = len(os.sched_getaffinity(0))
+    try:
+        with open("/proc/meminfo") as lines:
+            free = next(int(line.split()[1]) for line in lines if line.startswith("MemAvailable:"))
+    except (OSError, StopIteration):
+        return processors
+    return max(1, min(processors, free // MEMORY))
+
+
+def run(root, product, why):
+    """Runs what proves a crate and makes something of it; the last command run and its status."""
+    lines = Lines(reached(root, product.crate))
     say(f"{why}: proving and building it, which takes some minutes the first time (all that the prover says: {log(root)})")
-    below = [name for name in dependencies(root, crate) if (root / "crates" / name).is_dir()]
-    # `rt check` proves crates side by side, `rt staticlib` one after the other.
-    commands = [("rt", "check", *below), command] if below else [command]
+    # `rt all check` proves the crates under it side by side, `rt lib` and `rt run` one after the other.
+    first = ("rt", "all", "check", "--jobs", str(at_once()))
     with open(log(root), "w") as notes:
-        for words in commands:
-            status = follow(root, words, notes, lines)
+        for words in (first, product.command):
+            status = follow(root / "crates" / product.crate, words, notes, lines)
             if status != 0:
-                return words, status
-    lines.last()
+                break
     return words, status
 
 
-def follow(root, command, notes, lines):
-    """Runs a command, with its output in the log, and gives its status."""
+def follow(folder, command, notes, lines):
+    """Runs a command, with its output in the log, and gives its status; of a program that it runs, 0 whatever the program's is."""
     notes.write(f"$ {' '.join(command)}\n")
     streams = {"stdin": subprocess.DEVNULL, "stdout": subprocess.PIPE, "stderr": subprocess.STDOUT}
-    with subprocess.Popen(command, cwd=root, text=True, errors="replace", **streams) as running:
+    runs = False
+    with subprocess.Popen(command, cwd=folder, text=True, errors="replace", **streams) as running:
         for line in running.stdout:
             notes.write(line)
             lines.take(line)
-    return running.returncode
+            runs = runs or bool(RUNS.match(line))
+    return 0 if runs else running.returncode
 
 
 def say(text):
@@ -72,44 +85,37 @@ def say(text):
 
 
 class Lines:
-    """What is shown of rt's output: each crate proved now, with its place in the count, its functions and its time."""
+    """What is shown of rt's output: each crate proved now, with its place in the count and its functions."""
 
-    def __init__(self, crates, last):
+    def __init__(self, crates):
         self.due = set(crates)
         self.total = len(self.due)
-        self.final = last
-        self.functions = 0
+        self.name = None  # the crate that rt speaks of
+        self.functions = None  # how many of it were proved now
+        self.failed = False
         self.before = 0  # crates proved before that nothing was said of yet
-        self.began = time.monotonic()
 
     def take(self, line):
-        counted = FUNCTIONS.match(line)
-        done, unchanged = PROVED.match(line), UNCHANGED.match(line)
-        if counted:
+        head, counted = CRATE.match(line), PROVED.match(line)
+        if head:
+            self.close()
+            self.name, self.functions, self.failed = head[1], None, False
+        elif counted:
             self.functions = int(counted[1])
-        elif done:
-            self.proved(done[1], done[2])
-        elif unchanged and unchanged[1] in self.due:
-            self.due.remove(unchanged[1])
-            self.before += 1
-            self.began = time.monotonic()
-        elif FAULT.match(line):
+        elif NOT_PROVED.match(line):
+            self.failed = True
+        elif TOLD.match(line):
             say(line.rstrip())
 
-    def proved(self, name, seconds):
-        self.began = time.monotonic()
-        if name not in self.due:
+    def close(self):
+        """rt says nothing of a crate whose library stands as it was proved before."""
+        if self.name not in self.due or self.failed:
             return
-        if self.before:
-            say(f"{self.count()}  proved before")
-            self.before = 0
-        self.due.remove(name)
+        self.due.remove(self.name)
+        if self.functions is None:
+            self.before += 1
+            return
         what = f"{self.functions} function{'' if self.functions == 1 else 's'}" if self.functions else "theorems"
-        say(f"{self.count()}  {name}: {what} proved, {seconds} s")
-
-    def count(self):
-        return f"  {self.total - len(self.due):>2} of {self.total}"
-
-    def last(self):
-        """rt says nothing of its own on the crate that a static library is made of."""
-        self.proved(self.final, round(time.monotonic() - self.began))
+        also = f", {self.before} proved before" if self.before else ""
+        self.before = 0
+        say(f"  {self.total - len(self.due):>2} of {self.total}  {self.name}: {what} proved{also}")

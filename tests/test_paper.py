@@ -114,8 +114,8 @@ def unnamed(text):
         return any(re.search(name, span) for row in rows for span in SPAN.findall(row[-1]))
 
     missing += [f"refusal {k}" for k in range(1, 14) if not has(HEADINGS[2], f"{k}, ", rf"^row{k}$")]
-    missing += [f"kind {k}" for k in range(1, 8) if not has(HEADINGS[7], f"{k} ", rf"^kindCode \w+ = {k}$")]
-    missing += [f"figure ({c})" for c in "abcdefghij" if not has(HEADINGS[8], f"({c}) ", rf"^Table\.{c}(-\w+)?$")]
+    missing += [f"kind {k}" for k in range(1, 8) if not has(HEADINGS[7], f"{k} ", rf"^kind_code \w+ = {k}$")]
+    missing += [f"figure ({c})" for c in "abcdefghij" if not has(HEADINGS[8], f"({c}) ", rf"^Table\.{c}(_\w+)?$")]
     missing += [f"demand {k}" for k in range(1, 6) if not any(row[0].startswith(f"{k}. ") for row in found.get(HEADINGS[11], []))]
     missing += [f"a row of {heading}" for heading in HEADINGS[:-1] if not found.get(heading)]
     missing += [
@@ -139,7 +139,8 @@ class Pages(unittest.TestCase):
         rows = [row for section in sections(text).values() for row in section]
         self.assertGreater(len(rows), 20)
         self.assertEqual([row[0] for row in rows if len(row) != 3 or not SPAN.search(row[2])], [])
-        for line in ("kept = 9", "errorHundredths = 5", "rackingPad = 15729", "lashPad = 13365", "alongPad = 21176", "postPad = 893912"):
+        pads = ("racking_pad = 15729", "lash_pad = 13365", "along_pad = 21176", "post_pad = 893912")
+        for line in ("kept = 9", "error_hundredths = 5", *pads):
             self.assertIn(f"`{line}`", text)
 
 
@@ -181,7 +182,7 @@ class Reading(unittest.TestCase):
 
     def test_a_name_of_the_paper_changed(self):
         text = PAPER.read_text(encoding="utf-8")
-        for old, new in (("`row7`", "`row14`"), ("`Table.e-shift`", "`Table.e-shifts`"), ("finding_count.edit", "findings_count.edit")):
+        for old, new in (("`row7`", "`row14`"), ("`Table.e_shift`", "`Table.e_shifts`"), ("finding_count.edit", "findings_count.edit")):
             self.assertIn(old, text)
             self.assertNotEqual(faults(text.replace(old, new)), [], old)
 

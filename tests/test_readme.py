@@ -70,7 +70,7 @@ class Readme(unittest.TestCase):
             self.assertTrue((ROOT / link).exists(), link)
 
     def test_statements_stand_where_it_says(self):
-        files = re.findall(r"`(crates/\w+/specs/(?:inner/)?\w+)`", README)
+        files = re.findall(r"`(crates/\w+/specs/(?:Inner/)?\w+)`", README)
         self.assertGreater(len(files), 10)
         for name in files:
             self.assertTrue((ROOT / f"{name}.antt").is_file(), name)

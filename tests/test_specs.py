@@ -35,13 +35,13 @@ OWN = {
         110,
     ),
 }
-LISTS = {"Lib.antt", "inner.antt"}  # lists of modules
+LISTS = {"Lib.antt", "Inner.antt"}  # lists of modules
 FOLLOWS = {  # proved of the rest
     "Theorems.antt", "Table.antt", "SafeLoads.antt", "Turned.antt", "Trials.antt", "Relief.antt", "FleetStandard.antt",
     "OnePull.antt", "Consequences.antt", "Written.antt", "Heavier.antt", "NotIncluded.antt",
 }
 USE = re.compile(r"(pub )?use ")
-CITED = re.compile(r"Rattle·(\w+?)(?:·specs)?\.specs\.((?:inner\.)?\w+)")
+CITED = re.compile(r"Rattle\.(\w+)\.specs\.((?:Inner\.)?\w+)")
 CALL = re.compile(r"pub (?:extern \"C\" )?fn (\w+)")
 
 
@@ -57,7 +57,7 @@ def counted_lines(text):
 
 
 def believed(root=ROOT):
-    """The files that must be believed: specs/ outside inner/, without the lists and without what is proved."""
+    """The files that must be believed: specs/ outside Inner/, without the lists and without what is proved."""
     files = sorted(root.glob("crates/*/specs/*.antt"))
     return [path for path in files if path.name not in LISTS | FOLLOWS]
 
@@ -86,7 +86,7 @@ class Specs(unittest.TestCase):
     def test_what_must_be_believed_rests_on_nothing_else(self):
         for path in believed():
             for crate, module in cited(path.read_text(encoding="utf-8")):
-                outside = module.startswith("inner.") or f"{module}.antt" in FOLLOWS
+                outside = module.startswith("Inner.") or f"{module}.antt" in FOLLOWS
                 self.assertFalse(outside, f"{path.relative_to(ROOT)} takes definitions from {crate}, {module}")
 
     def test_no_public_call_lacks_a_statement(self):
@@ -103,9 +103,9 @@ class Counting(unittest.TestCase):
         self.assertEqual(counted_lines("-- first\nuse a.{b}\nuse a.{\n  b,\n  c,\n}\n\nx : N\nx = 1\n"), 3)
 
     def test_citations(self):
-        text = "use Rattle·statics.specs.inner.Computed.{figuresBy}\nuse Rattle·answer·specs.specs.Places as P\n"
-        text += "-- use Rattle·a.specs.B\n"
-        self.assertEqual(cited(text), {("statics", "inner.Computed"), ("answer", "Places")})
+        text = "use Rattle.statics.specs.Inner.Computed.{figures_by}\npub use Rattle.answer.specs.Places as P\n"
+        text += "-- use Rattle.a.specs.B\n"
+        self.assertEqual(cited(text), {("statics", "Inner.Computed"), ("answer", "Places")})
 
     def test_calls(self):
         stated = "pub fn a(x: u8) -> u8\n    ensures { r }\n{\n    x\n}\n"

@@ -23,7 +23,7 @@ use Rattle.answer.specs.declared.Outcome.{Outcome}
 use Rattle.answer.specs.Findings.{Kind, racking, compression, corner_tension, lock_tension, lash_tension, lash_vertical, lash_athwart}
 use Rattle.answer.specs.Findings.{kinds}
 use Rattle.answer.specs.Findings.{Finding, end_code, kind_code, figures_of, first_index, index_count, size_at, named, findings_from}
-use Rattle.answer.specs.Findings.{end_findings, findings_by, findings, verdict}
+use Rattle.answer.specs.Findings.{end_findings, findings_by, findings}
 use Rattle.answer.specs.Checked.{AnswerTo, Answered, AnsweredAs, Checked}
 use Rattle.answer.specs.Places.{EndReadBack, no_finding, ReadBack, force_in, reported_in, figures_in}
 use Rattle.answer.specs.Consequences.{CheckedAt, Justified, AnswerSays}

@@ -11,7 +11,7 @@ use Rattle.statics.specs.declared.Figures.{Figures}
 use Rattle.sheet.specs.Ends.{End, door, closed, lashes_of}
 use Rattle.answer.specs.Findings.{Kind, racking, compression, corner_tension, lock_tension, lash_tension, lash_vertical, lash_athwart}
 use Rattle.answer.specs.Findings.{Finding, end_code, kind_code, figures_of, named, findings_from, end_findings, findings_by, findings}
-use Rattle.answer.specs.Answers.{answerBytes}
+use Rattle.answer.specs.Answers.{answer_bytes}
 use Rattle.answer.proofs.TwoLimits.{never_both}
 use Rattle.answer.proofs.ReadBack.{end_length, bytes_length}
 
@@ -78,8 +78,8 @@ module _ (t : Sheet) (f : Figures) where
         rw (length-append (end_findings named t f door) (end_findings named t f closed))
         (omega (arith, end_few door, end_few closed, lashes door, lashes closed))
 
-    pub answer_most : length (answerBytes t f) ≤ 774
-    unfolding answerBytes
+    pub answer_most : length (answer_bytes t f) ≤ 774
+    unfolding answer_bytes
     answer_most =
         simp length-append
         (omega (

@@ -1,7 +1,7 @@
 -- The numbers read back from an answer's bytes are the counts, figures, findings and verdict that they were written from.
 use mathlib.Core.Path.{◌≡◌, refl, sym, ap, ap₂, ◌∙◌}
 use mathlib.Core.List.{List, [], ◌∷◌, ◌++◌, flat_map, append_assoc}
-use Prim.Native.Nat.{ℕ, zero, suc, ◌+◌, ◌*◌, ◌-◌, ◌<◌, ◌^◌}
+use Prim.Native.Nat.{ℕ, zero, suc, ◌+◌, ◌*◌, ◌<◌, ◌^◌}
 use native.Mathlib.Nat.{add-zero, zero-add}
 use native.Mathlib.Omega.{arith}
 use lib.IntN.{ℤ, pos, negsuc, nat_abs}
@@ -15,7 +15,7 @@ use Rattle.statics.specs.declared.EndFigures.{EndFigures}
 use Rattle.statics.specs.declared.Figures.{Figures}
 use Rattle.sheet.specs.Ends.{End, door, closed, lashes_of}
 use Rattle.answer.specs.Findings.{Finding, figures_of, findings, verdict}
-use Rattle.answer.specs.Answers.{endBytes, findingBytes, answerBytes}
+use Rattle.answer.specs.Answers.{end_bytes, finding_bytes, answer_bytes}
 use Rattle.arith.specs.Lists.{counted, from, below}
 use Rattle.statics.specs.Forces as F
 use Rattle.statics.specs.Reported.{reported_number, reported_size, Fitting}
@@ -148,35 +148,35 @@ module _ (t : Sheet) (e : End) (f : EndFigures) where
   three_length =
       length-append two (counted n drawn) ∙ ap₂ (λ (x y : ℕ). x + y) two_length (section_length drawn 4 (λ i. refl) n)
 
-  pub end_length : length (endBytes t e f) ≡ end_size t e
-  unfolding endBytes
+  pub end_length : length (end_bytes t e f) ≡ end_size t e
+  unfolding end_bytes
   end_length =
       omega (arith, length-append three (counted m lashed), three_length, section_length lashed 12 (λ j. refl) m)
 
-  module _ {l : List ℕ} (fits : Fitting f) (s : Stands l (end_place t e) (endBytes t e f)) where
+  module _ {l : List ℕ} (fits : Fitting f) (s : Stands l (end_place t e) (end_bytes t e f)) where
     abbrev at : ℕ
     at = end_place t e
 
     rackings_there : Stands l at (counted n racked)
-    unfolding endBytes
+    unfolding end_bytes
     rackings_there =
         first_part (counted n racked) (counted (suc n) pressed) (first_part two (counted n drawn) (first_part three (counted m lashed) s))
 
     compressions_there : Stands l (section_place t e F.compression) (counted (suc n) pressed)
-    unfolding endBytes
+    unfolding end_bytes
     compressions_there =
         rw (section_length racked 4 (λ i. refl) n) at
         (second_part (counted n racked) (counted (suc n) pressed)
         (first_part two (counted n drawn) (first_part three (counted m lashed) s)))
 
     tensions_there : Stands l (section_place t e F.tension) (counted n drawn)
-    unfolding endBytes
+    unfolding end_bytes
     tensions_there =
         let p : at + length two ≡ section_place t e F.tension = omega (arith, two_length) in
         rw p at (second_part two (counted n drawn) (first_part three (counted m lashed) s))
 
     lashes_there : Stands l (lashes_place t e) (counted m lashed)
-    unfolding endBytes
+    unfolding end_bytes
     lashes_there =
         let p : at + length three ≡ lashes_place t e = omega (arith, three_length) in
         rw p at (second_part three (counted m lashed) s)
@@ -222,7 +222,7 @@ module _ (t : Sheet) (e : End) (f : EndFigures) where
     end_back = record { counts = counts; forces = forces }
 
 -- findings, three bytes each
-pub bytes_length : (xs : List Finding) → length (flat_map findingBytes xs) ≡ 3 * length xs
+pub bytes_length : (xs : List Finding) → length (flat_map finding_bytes xs) ≡ 3 * length xs
 unfolding flat_map
 bytes_length [] = refl
 bytes_length (x ∷ xs) = omega (arith, bytes_length xs)
@@ -233,7 +233,7 @@ finding_from l p = record { end = byte_at l p; kind = byte_at l (p + 1); index =
 one_finding :
     {l : List ℕ} (at k : ℕ) (xs : List Finding) →
     k < length xs →
-    Stands l at (flat_map findingBytes xs) →
+    Stands l at (flat_map finding_bytes xs) →
     finding_from l (at + 3 * k) ≡ get_or xs k no_finding
 unfolding flat_map
 one_finding at k [] h s = absurd (none h)
@@ -243,7 +243,7 @@ one_finding at k [] h s = absurd (none h)
 one_finding {l} at zero (x ∷ xs) h s =
     let e : at + 3 * 0 ≡ at = omega arith in
     let g : at + 1 + 1 ≡ at + 2 = omega arith in
-    let rest = flat_map findingBytes xs in
+    let rest = flat_map finding_bytes xs in
     let b = behind x.end (x.kind ∷ x.index ∷ rest) s in
     let first = first_byte x.end (x.kind ∷ x.index ∷ rest) s in
     let second = first_byte x.kind (x.index ∷ rest) b in
@@ -251,45 +251,45 @@ one_finding {l} at zero (x ∷ xs) h s =
     rw e (λ i. record { end = first i; kind = second i; index = third i })
 one_finding {l} at (suc k) (x ∷ xs) h s =
     let e : at + 3 * suc k ≡ at + 3 + 3 * k = omega arith in
-    rw e (one_finding (at + 3) k xs (omega arith) (second_part (findingBytes x) (flat_map findingBytes xs) s))
+    rw e (one_finding (at + 3) k xs (omega arith) (second_part (finding_bytes x) (flat_map finding_bytes xs) s))
 
 -- the whole answer, whatever stands behind it
 module _ (t : Sheet) (f : Figures) (fits : (e : End) → Fitting (figures_of e f)) (rest : List ℕ) where
   abbrev s : List ℕ
-  s = answerBytes t f ++ rest
+  s = answer_bytes t f ++ rest
 
   abbrev mark : List ℕ
   mark = verdict (findings t f) ∷ []
 
   abbrev tail : List ℕ
-  tail = length (findings t f) ∷ flat_map findingBytes (findings t f)
+  tail = length (findings t f) ∷ flat_map finding_bytes (findings t f)
 
   abbrev both : List ℕ
-  both = mark ++ endBytes t door f.door ++ endBytes t closed f.closed
+  both = mark ++ end_bytes t door f.door ++ end_bytes t closed f.closed
 
   all_there : Stands s 0 (both ++ tail)
-  unfolding answerBytes
+  unfolding answer_bytes
   all_there = record { front = []; back = rest; split = refl; place = refl }
 
-  ends_there : Stands s 0 (mark ++ endBytes t door f.door)
-  ends_there = first_part (mark ++ endBytes t door f.door) (endBytes t closed f.closed) (first_part both tail all_there)
+  ends_there : Stands s 0 (mark ++ end_bytes t door f.door)
+  ends_there = first_part (mark ++ end_bytes t door f.door) (end_bytes t closed f.closed) (first_part both tail all_there)
 
-  door_there : Stands s (end_place t door) (endBytes t door f.door)
-  door_there = second_part mark (endBytes t door f.door) ends_there
+  door_there : Stands s (end_place t door) (end_bytes t door f.door)
+  door_there = second_part mark (end_bytes t door f.door) ends_there
 
-  front_length : length (mark ++ endBytes t door f.door) ≡ end_place t closed
-  front_length = length-append mark (endBytes t door f.door) ∙ ap (λ (k : ℕ). 1 + k) (end_length t door f.door)
+  front_length : length (mark ++ end_bytes t door f.door) ≡ end_place t closed
+  front_length = length-append mark (end_bytes t door f.door) ∙ ap (λ (k : ℕ). 1 + k) (end_length t door f.door)
 
-  closed_there : Stands s (end_place t closed) (endBytes t closed f.closed)
+  closed_there : Stands s (end_place t closed) (end_bytes t closed f.closed)
   closed_there =
-      let p : 0 + length (mark ++ endBytes t door f.door) ≡ end_place t closed = zero-add _ ∙ front_length in
-      rw p at (second_part (mark ++ endBytes t door f.door) (endBytes t closed f.closed) (first_part both tail all_there))
+      let p : 0 + length (mark ++ end_bytes t door f.door) ≡ end_place t closed = zero-add _ ∙ front_length in
+      rw p at (second_part (mark ++ end_bytes t door f.door) (end_bytes t closed f.closed) (first_part both tail all_there))
 
   findings_there : Stands s (findings_place t) tail
   findings_there =
       let p : 0 + length both ≡ findings_place t =
       zero-add _
-      ∙ length-append (mark ++ endBytes t door f.door) (endBytes t closed f.closed)
+      ∙ length-append (mark ++ end_bytes t door f.door) (end_bytes t closed f.closed)
       ∙ ap₂ (λ (j k : ℕ). j + k) front_length (end_length t closed f.closed) in
       rw p at (second_part both tail all_there)
 
@@ -301,11 +301,11 @@ module _ (t : Sheet) (f : Figures) (fits : (e : End) → Fitting (figures_of e f
   pub read_back : ReadBack t f s
   read_back =
       record {
-        verdict = first_byte (verdict (findings t f)) [] (first_part mark (endBytes t door f.door) ends_there);
+        verdict = first_byte (verdict (findings t f)) [] (first_part mark (end_bytes t door f.door) ends_there);
         ends = an_end;
-        count = first_byte (length (findings t f)) (flat_map findingBytes (findings t f)) findings_there;
+        count = first_byte (length (findings t f)) (flat_map finding_bytes (findings t f)) findings_there;
         finding =
             λ k h.
             one_finding (findings_place t + 1) k (findings t f) h
-            (behind (length (findings t f)) (flat_map findingBytes (findings t f)) findings_there);
+            (behind (length (findings t f)) (flat_map finding_bytes (findings t f)) findings_there);
       }

@@ -119,8 +119,8 @@ module _ (e : End) (t : Sheet) (f : EndFigures) (i : ℕ) where
   pub named_exceeded : (k : Kind) → named e t f k i ≡ true → exceeded e t f k i ≡ true
   named_exceeded racking h = h
   named_exceeded compression h = h
-  named_exceeded corner_tension h = (B.and-true (over corner_tension) _ h).0
-  named_exceeded lock_tension h = (B.and-true (over lock_tension) _ h).0
+  named_exceeded corner_tension h = (B.and_true (over corner_tension) _ h).0
+  named_exceeded lock_tension h = (B.and_true (over lock_tension) _ h).0
   named_exceeded lash_tension h = h
   named_exceeded lash_vertical h = h
   named_exceeded lash_athwart h = h

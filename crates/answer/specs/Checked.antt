@@ -14,7 +14,7 @@ use Rattle.statics.specs.Reported.{EndFigured}
 use Rattle.answer.specs.declared.Outcome.{Outcome}
 use Rattle.answer.specs.declared.Outcome.TheVariants as O
 use Rattle.answer.specs.Findings.{figures_of}
-use Rattle.answer.specs.Answers.{answerBytes}
+use Rattle.answer.specs.Answers.{answer_bytes}
 
 -- the two numbers that document 01 returns: 0 and the answer's length, or a refusal's number and second number
 abbrev pub number : Outcome → ℕ
@@ -26,10 +26,10 @@ second (O.Taken n) = n
 second (O.Refused c p) = p
 
 -- bytes that answer a sheet t, with what its loads go by: those of figures that are within `margin` N of the exact forces at each end,
--- whose equations have one solution. Findings and verdict are the rule's from these figures, by answerBytes
+-- whose equations have one solution. Findings and verdict are the rule's from these figures, by answer_bytes
 pub record AnswerTo (margin : ℕ) (rule : Rule) (t : Sheet) (bytes : List ℕ) : Type 0 where
   pub figures : Figures
-  pub encoded : bytes ≡ answerBytes t figures
+  pub encoded : bytes ≡ answer_bytes t figures
   pub reports : (e : End) → EndFigured margin rule e t (figures_of e figures)
   pub one : (e : End) → OneSolution rule e t
 

@@ -1,9 +1,9 @@
 -- The answer's bytes as the code writes them: the verdict, the two ends, the findings behind their count.
 use mathlib.Core.Path.{◌≡◌, refl, sym, ap, ◌∙◌}
-use mathlib.Core.Bool.{true, cond, true≢false}
+use mathlib.Core.Bool.{cond, true≢false}
 use native.Mathlib.Nat.{lt_of_not-le}
 use mathlib.Core.List.{List, [], ◌∷◌, flat_map}
-use Prim.Native.Nat.{ℕ, zero, suc, ◌<◌, ◌+◌, ◌*◌, ◌/◌, ◌≤◌}
+use Prim.Native.Nat.{ℕ, zero, suc, ◌<◌, ◌+◌, ◌≤◌}
 use native.Mathlib.Numerals.{add-one}
 use native.Mathlib.Omega.{arith}
 use borrow.Author.Tests.{ne_eqb}
@@ -18,15 +18,15 @@ use Rattle.statics.specs.declared.EndFigures.{EndFigures}
 use Rattle.statics.specs.declared.Figures.{Figures}
 use Rattle.sheet.specs.Ends.{End, door, closed, lashes_of}
 use Rattle.answer.specs.Findings.{Finding, findings, verdict}
-use Rattle.answer.specs.Answers.{endBytes, answerBytes, findingBytes}
+use Rattle.answer.specs.Answers.{end_bytes, answer_bytes}
 use Rattle.answer_put.specs.Inner.Puts.{word_bytes}
 use Rattle.answer_findings.specs.Inner.Findings.{PutFindings, Sized}
 use Rattle.answer_write.specs.Inner.Encoding.{Wrote, end_bytes_of}
 use Rattle.answer_write.proofs.Stores.{run, then}
 
 -- an end's bytes, by its counts
-pub end_is : (t : Sheet) (e : End) (f : EndFigures) (m : ℕ) → length (lashes_of e t) ≡ m → endBytes t e f ≡ end_bytes_of t.ntiers m f
-unfolding endBytes end_bytes_of
+pub end_is : (t : Sheet) (e : End) (f : EndFigures) (m : ℕ) → length (lashes_of e t) ≡ m → end_bytes t e f ≡ end_bytes_of t.ntiers m f
+unfolding end_bytes end_bytes_of
 end_is t e f m few = rw (few, add-one t.ntiers) refl
 
 -- the verdict, by the count of findings
@@ -47,8 +47,8 @@ module _ (t : Sheet) (f : Figures) (s : Sized t) {before held : List ℕ} {count
       Wrote m at (end_bytes_of t.ntiers t.nclosed f.closed) n q →
       o ≡ sets n q (count ∷ []) →
       Wrote o (q + 1) (flat_map word_bytes (take count held)) z r →
-      Wrote l 0 (answerBytes t f) z r
-  unfolding answerBytes flat_map
+      Wrote l 0 (answer_bytes t f) z r
+  unfolding answer_bytes flat_map
   whole {v = v} e g a b d h =
       let u : v ≡ verdict (findings t f) = g ∙ ap (λ (x : ℕ). cond (eqb x 0) 0 1) p.counts ∙ verdict_is (findings t f) in
       let mark = run {bytes = verdict (findings t f) ∷ []} {next = 1} (rw u at e) refl in

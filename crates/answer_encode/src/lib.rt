@@ -1,8 +1,10 @@
 // Document 01, "The answer sheet": its bytes, one section behind another.
 
+#![tactic(auto)]
+
 ghost use Rattle.std.specs.Prelude.{◌≡◌, cond, ◌≤◌, eqb, length};
 ghost use Rattle.statics.specs.Inner.InArrays.{Lengths};
-ghost use Rattle.answer.specs.Answers.{answerBytes};
+ghost use Rattle.answer.specs.Answers.{answer_bytes};
 ghost use Rattle.answer_findings.specs.Inner.Findings.{Sized, both_in};
 ghost use Rattle.answer_encode.specs.Inner.Stored.{Stored};
 
@@ -35,7 +37,7 @@ pub fn write_answer(
 ) -> usize
     requires { Sized t × (834 ≤ length answer.old) × Lengths doorRacking.now doorLevels.now doorForces.now
         × Lengths closedRacking.now closedLevels.now closedForces.now }
-    ensures { Stored (answerBytes t
+    ensures { Stored (answer_bytes t
         (both_in doorRacking.now doorLevels.now doorForces.now
         closedRacking.now closedLevels.now closedForces.now))
         answer.old answer.new result }

@@ -19,7 +19,7 @@ use Rattle.answer.specs.Limits.{corner_tension_limit, safe_load}
 use Rattle.answer.specs.Findings.{Finding, Kind, racking, compression, corner_tension, lock_tension, lash_tension, lash_vertical, lash_athwart}
 use Rattle.answer.specs.Findings.{end_code, kind_code, figures_of, first_index, index_count, size_at, limit_at, exceeded, named, findings_from}
 use Rattle.answer.specs.Findings.{end_findings, findings_by, findings, accepted}
-use Rattle.answer.specs.Answers.{findingBytes}
+use Rattle.answer.specs.Answers.{finding_bytes}
 use Rattle.arith.specs.Lists.{from}
 use Rattle.limits.specs.declared.PullLimit.{PullLimit}
 use Rattle.limits.specs.Inner.LowerOf.{lower_of}
@@ -53,14 +53,14 @@ over_same end kind first n size a b h =
     entries_same _ _ 0 n (λ k _ u. ap (λ (x : ℕ). finding_where end kind (first + k) (size (first + k)) x) (h (first + k) (omega arith)))
 
 -- findings in bytes: of a list and a list
-bytes_append : (xs ys : List Finding) → flat_map findingBytes (xs ++ ys) ≡ flat_map findingBytes xs ++ flat_map findingBytes ys
+bytes_append : (xs ys : List Finding) → flat_map finding_bytes (xs ++ ys) ≡ flat_map finding_bytes xs ++ flat_map finding_bytes ys
 unfolding flat_map
 bytes_append [] ys = refl
-bytes_append (x ∷ xs) ys = ap (λ (l : List ℕ). findingBytes x ++ l) (bytes_append xs ys)
+bytes_append (x ∷ xs) ys = ap (λ (l : List ℕ). finding_bytes x ++ l) (bytes_append xs ys)
 
 where_found :
     (b : Bool) (x : Finding) (xs : List Finding) →
-    flat_map findingBytes (cond b (x ∷ xs) xs) ≡ cond b (findingBytes x) [] ++ flat_map findingBytes xs
+    flat_map finding_bytes (cond b (x ∷ xs) xs) ≡ cond b (finding_bytes x) [] ++ flat_map finding_bytes xs
 unfolding flat_map
 where_found true x xs = refl
 where_found false x xs = refl
@@ -71,7 +71,7 @@ module _ (e : End) (t : Sheet) (f : EndFigures) (k : Kind) where
   entry i = finding_where (end_code e) (kind_code k) i (size_at f k i) (limit_at e t k i)
 
   module _ (each : (i : ℕ) → named e t f k i ≡ exceeded e t f k i) where
-    from_bytes : (i n : ℕ) → flat_map findingBytes (findings_from named e t f k i n) ≡ flat_map entry (from i n)
+    from_bytes : (i n : ℕ) → flat_map finding_bytes (findings_from named e t f k i n) ≡ flat_map entry (from i n)
     unfolding findings_from flat_map from finding_where
     from_bytes i zero = refl
     from_bytes i (suc n) =
@@ -82,7 +82,7 @@ module _ (e : End) (t : Sheet) (f : EndFigures) (k : Kind) where
         (n : ℕ) (limit : ℕ → ℕ) →
         index_count e t k ≡ n →
         ((i : ℕ) → i < first_index k + n → limit_at e t k i ≡ limit i) →
-        flat_map findingBytes (findings_from named e t f k (first_index k) (index_count e t k)) ≡
+        flat_map finding_bytes (findings_from named e t f k (first_index k) (index_count e t k)) ≡
         findings_over (end_code e) (kind_code k) (first_index k) (size_at f k) limit n
     unfolding findings_over
     kind_bytes n limit c h =
@@ -92,9 +92,9 @@ module _ (e : End) (t : Sheet) (f : EndFigures) (k : Kind) where
         ∙ (rw z at (entries_from entry (first_index k) 0 n))
         ∙ over_same (end_code e) (kind_code k) (first_index k) n (size_at f k) (limit_at e t k) limit h)
 
-  none_bytes : ((i : ℕ) → named e t f k i ≡ false) → (i n : ℕ) → flat_map findingBytes (findings_from named e t f k i n) ≡ []
+  none_bytes : ((i : ℕ) → named e t f k i ≡ false) → (i n : ℕ) → flat_map finding_bytes (findings_from named e t f k i n) ≡ []
   unfolding flat_map
-  none_bytes none i n = ap (flat_map findingBytes) (nowhere named e t f k i n (λ j l u. none j))
+  none_bytes none i n = ap (flat_map finding_bytes) (nowhere named e t f k i n (λ j l u. none j))
 
 -- kinds 3 and 4: the one with the lower limit alone
 module _ (e : End) (t : Sheet) (f : EndFigures) where
@@ -102,7 +102,7 @@ module _ (e : End) (t : Sheet) (f : EndFigures) where
   lock = safe_load t.head.lockMaterial t.head.lockBreakingLoad
 
   abbrev tensions : Kind → List ℕ
-  tensions k = flat_map findingBytes (findings_from named e t f k 0 t.ntiers)
+  tensions k = flat_map finding_bytes (findings_from named e t f k 0 t.ntiers)
 
   abbrev pulls : PullLimit → List ℕ
   pulls p = findings_over (end_code e) p.kind 0 (λ i. get_or f.tension i 0) (λ i. p.limit) t.ntiers
@@ -142,7 +142,7 @@ module _ (t : Sheet) (f : Figures) (e : End) (ls : List Lash) (m : ℕ) (few : l
   pub end_bytes :
       tier_findings (end_code e) t.ntiers (lower_of (safe_load t.head.lockMaterial t.head.lockBreakingLoad)) (figures_of e f)
       ++ lash_findings (end_code e) ls m (figures_of e f)
-      ≡ flat_map findingBytes (end_findings named t f e)
+      ≡ flat_map finding_bytes (end_findings named t f e)
   unfolding tier_findings lash_findings flat_map
   end_bytes =
       let g = figures_of e f in
@@ -181,7 +181,7 @@ module _ (t : Sheet) (f : Figures) (s : Sized t) (pull : PullLimit)
 
   both_bytes :
       end_put 0 t.door t.ndoor f.door ++ end_put 1 t.closed t.nclosed f.closed
-      ≡ flat_map findingBytes (findings t f)
+      ≡ flat_map finding_bytes (findings t f)
   unfolding findings_by
   both_bytes =
       rw (lower, bytes_append)

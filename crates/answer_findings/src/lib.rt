@@ -1,5 +1,7 @@
 // Document 01, "The answer sheet": a finding wherever a reported size exceeds its limit; one for a tension (02, P11).
 
+#![tactic(auto)]
+
 ghost use Rattle.std.specs.Prelude.{◌≡◌, ◌++◌, ◌+◌, ◌*◌, ◌≤◌, length};
 ghost use Rattle.statics.specs.Inner.InArrays.{Lengths, figures_in};
 ghost use Rattle.answer.specs.Findings.{accepted};

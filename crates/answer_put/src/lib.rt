@@ -1,5 +1,7 @@
 // Findings of one kind, a word each, put into a buffer wherever a size exceeds its limit (document 01, "The answer sheet").
 
+#![tactic(auto)]
+
 ghost use Rattle.std.specs.Prelude.{◌≡◌, cond, [], ◌∷◌, ◌+◌, ◌-◌, ◌*◌, ◌<◌, ◌≤◌, pos, nat_abs, ltb, length, get_or, set};
 ghost use Rattle.answer.specs.Limits.{racking_limit};
 ghost use Rattle.answer_put.specs.Inner.Puts.{Put, lash_limit, findings_over};

@@ -1,5 +1,7 @@
 // Document 01, "The answer sheet": the bytes of its sections, an end's and the findings'.
 
+#![tactic(auto)]
+
 ghost use mathlib.Core.List.{flat_map};
 ghost use Rattle.std.specs.Prelude.{◌≡◌, ◌+◌, ◌*◌, ◌≤◌, pos, length, get_or, take};
 ghost use Rattle.std.proofs.lemmas.List.Edits.{sets};

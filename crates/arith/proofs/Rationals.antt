@@ -3,7 +3,6 @@ use mathlib.Core.Path.{◌≡◌, refl}
 use mathlib.Core.Logic.{◌⊎◌, inl, inr}
 use mathlib.Core.HLevel.{hedberg, Π_prop}
 use mathlib.Core.Bool.{Bool, true, false, not, cond, Bool-discrete}
-use mathlib.Core.Quot
 use mathlib.Core.Quot.{Quot, sound, Quot-set, lift, ind}
 use Prim.Native.Nat.{ℕ}
 use lib.Dec.{T, T_prop, T_not}

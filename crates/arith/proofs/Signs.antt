@@ -1,11 +1,11 @@
 -- Absolute values and signs of ℤ and ℚ, and the way between whole numbers and ℚ. From the algebra.
 use mathlib.Core.Path.{◌≡◌, refl, sym, ap, subst, ◌∙◌}
 use mathlib.Core.Bool.{Bool, true, false, not, cond}
-use Prim.Native.Nat.{zero, suc, ◌+◌, ◌*◌, ◌≤◌}
+use Prim.Native.Nat.{zero, suc}
 use lib.Dec.{T}
 use lib.IntN.{ℤ, pos, negsuc, neg_ℤ, ◌*ℤ◌}
 use Rattle.arith.proofs.Polynomials.{v, ◌⊖◌, ⊖◌}
-use Rattle.arith.proofs.Rings.{ORing, ∀₁, ∀₂, ∀₃, ∀₄, by_ring, by_cert, by_eqs, to, times, mul_eq, num, ◌⊞◌, ◌⊠◌, ◌⊹◌}
+use Rattle.arith.proofs.Rings.{ORing, ∀₁, ∀₂, ∀₃, ∀₄, by_ring, by_cert, by_eqs, to, mul_eq, num, ◌⊞◌, ◌⊠◌, ◌⊹◌}
 use Rattle.arith.proofs.Integers.{ℤR, ◌≼◌, antisym}
 use Rattle.arith.proofs.IntegerTerms.{zq}
 use Rattle.arith.proofs.IntegerOrder.{abs, abs_nn, abs_ge, abs_ge_neg}

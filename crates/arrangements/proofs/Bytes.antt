@@ -13,7 +13,7 @@ use Rattle.sheet.specs.declared.Lash.{Lash}
 use Rattle.sheet.specs.declared.Sheet.{Sheet}
 use Rattle.statics.specs.declared.Figures.{Figures}
 use Rattle.answer.specs.Findings.{Finding, findings, verdict, accepted}
-use Rattle.answer.specs.Answers.{answerBytes}
+use Rattle.answer.specs.Answers.{answer_bytes}
 use Rattle.answer_write.specs.Inner.Encoding.{Wrote}
 use Rattle.answer_write.proofs.Stores.{run}
 use Rattle.choices.specs.Choices.{choices, those}
@@ -26,8 +26,8 @@ verdict_none : (fs : List Finding) → eqb (verdict fs) 0 ≡ eqb (length fs) 0
 verdict_none [] = refl
 verdict_none (x ∷ fs) = rw (ne_eqb (suc (length fs)) 0 (λ e. omega arith)) refl
 
-pub verdict_byte : (t : Sheet) (f : Figures) → eqb (byte_at (answerBytes t f) 0) 0 ≡ accepted t f
-unfolding answerBytes
+pub verdict_byte : (t : Sheet) (f : Figures) → eqb (byte_at (answer_bytes t f) 0) 0 ≡ accepted t f
+unfolding answer_bytes
 verdict_byte t f = verdict_none (findings t f)
 
 those_same : {A : Type 0} (p q : A → Bool) → ((x : A) → p x ≡ q x) → (l : List A) → those p l ≡ those q l

@@ -16,7 +16,7 @@ use Rattle.sheet.specs.Refusals.{decoded, longest_answer}
 use Rattle.sheet.proofs.Refusal.{decoded_sheet, all_taken}
 use Rattle.statics.specs.Loads.{Rule, rule_of}
 use Rattle.answer.specs.declared.Outcome.{Outcome}
-use Rattle.answer.specs.Answers.{answerBytes}
+use Rattle.answer.specs.Answers.{answer_bytes}
 use Rattle.answer.specs.Checked.{AnswerTo, kept, demanded}
 use Rattle.answer.specs.Consequences.{WithinLimits}
 use Rattle.answer.specs.Findings.{Finding, findings, verdict}
@@ -42,7 +42,7 @@ use Rattle.arrangements.proofs.Standing.{stands_among, among_stands, ranked_amon
 -- an answer by its verdict byte
 module _ {margin : ℕ} (rule : Rule) (t : Sheet) {bytes : List ℕ} (a : AnswerTo margin rule t bytes) where
   verdict_is : byte_at bytes 0 ≡ verdict (findings t a.figures)
-  unfolding answerBytes
+  unfolding answer_bytes
   verdict_is = ap (λ (b : List ℕ). byte_at b 0) a.encoded
 
   within : byte_at bytes 0 ≡ 0 → WithinLimits rule t
@@ -136,7 +136,7 @@ module _ (s g before : List ℕ) (c : ℕ) (answer : List ℕ) (in-sheet : InByt
   same = sym (decoded_sheet bytes taken) ∙ ap (λ (d : Decoded). d.sheet) held
 
   verdict_same : byte_at (N.written bytes answer) 0 ≡ byte_at (answer_with (sheet_of s) (gear_lashes g) c) 0
-  unfolding N.written answerBytes
+  unfolding N.written answer_bytes
   verdict_same = rw (all_taken bytes (length answer) taken room, same) refl
 
   abbrev with_each : ℕ → List ℕ

@@ -1,6 +1,8 @@
 // Every arrangement of the gear aboard (document 02, P13): bytes of a stack sheet without lashes and of a gear section in, the list of the
 // choices that the check accepts out.
 
+#![tactic(auto)]
+
 ghost use Rattle.std.specs.Prelude.{◌≡◌, ◌≤◌, length, take};
 ghost use Rattle.sheet.specs.Fits.{Fits};
 ghost use Rattle.answer.specs.Checked.{kept};

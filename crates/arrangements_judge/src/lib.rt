@@ -1,5 +1,7 @@
 // Whether the check accepts a stack with the same lashes at both ends (document 02, P13). What does not depend on the lashes is given.
 
+#![tactic(auto)]
+
 ghost use Rattle.std.specs.Prelude.{◌≡◌, List, take};
 ghost use Rattle.sheet.specs.Fits.{Fits};
 ghost use Rattle.sheet.specs.declared.Tier.{Tier};

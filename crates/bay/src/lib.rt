@@ -1,6 +1,8 @@
 // The whole bay in one report (document 02, P6): every row is tested first, then each is answered as the check answers its stack with
 // the wind codes that the rows beside it give it.
 
+#![tactic(auto)]
+
 ghost use Rattle.std.specs.Prelude.{◌≡◌, [], ◌∷◌, ◌++◌, ◌<◌, ◌≤◌, length, drop};
 ghost use Rattle.std.proofs.lemmas.List.Edits.{sets};
 ghost use Rattle.arith.specs.Bytes.{bytes4};
@@ -13,7 +15,7 @@ use bay_answer::Totals;
 use bay_rows::BayReading;
 
 // What a report returns: its length, or the two numbers of a refusal and the row, from 1, or 0 where it is about none.
-#[derive(Drop)]
+#[derive(Clone, Copy)]
 pub enum BayOutcome {
     Taken(usize),
     Refused(u64, usize, usize),

@@ -1,5 +1,7 @@
 // What the report of a bay takes from a row's answer (document 02, P6).
 
+#![tactic(auto)]
+
 ghost use Rattle.std.specs.Prelude.{◌≡◌, cond, ◌+◌, ◌*◌, ◌≤◌, ◌^◌, eqb, nat_abs, length};
 ghost use Rattle.arith.specs.Bytes.{signed4};
 ghost use Rattle.sheet.specs.Layout.{tiers_in};
@@ -10,7 +12,7 @@ ghost use Rattle.bay_answer.specs.Inner.Totalled.{greatest_at, greatest_with, to
 use arith::bytes;
 
 // What is said of one row, or of several together: bytes of the report, accepted rows, mass in kg, greatest racking in size.
-#[derive(Drop)]
+#[derive(Clone, Copy)]
 pub struct Totals {
     pub length: usize,
     pub accepted: u64,

@@ -1,5 +1,7 @@
 // Up to which height the rows beside a row of a bay cover its boxes (document 02, P6), and whether a box shows above that.
 
+#![tactic(auto)]
+
 ghost use Rattle.std.specs.Prelude.{◌≡◌};
 ghost use Rattle.bay_cover.specs.Inner.Covers.{cover_above, cover_beside, smaller, cover_of, shown_above};
 

@@ -1,5 +1,7 @@
 // The rows of a bay as those beside them see them (document 02, P6), by the bay's bytes.
 
+#![tactic(auto)]
+
 ghost use Rattle.std.specs.Prelude.{◌≡◌, map, ◌+◌, ◌*◌, ◌≤◌, length};
 ghost use Rattle.arith.specs.Lists.{below, padded};
 ghost use Rattle.sheet.specs.declared.Reading.TheVariants.{Taken};
@@ -13,7 +15,7 @@ ghost use Rattle.bay_rows.specs.Refusals.{row_reading, rows_refusal};
 use bay_wind::Outline;
 
 // The outlines of up to 24 rows, by their heights and their sizes; 0 behind the last row.
-#[derive(Drop)]
+#[derive(Clone, Copy)]
 pub struct Measures {
     pub heights: [u32; 24],
     pub sizes: [u8; 24],

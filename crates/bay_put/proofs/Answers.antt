@@ -21,7 +21,7 @@ use Rattle.statics.specs.declared.LoadRule.{LoadRule}
 use Rattle.statics.specs.Inner.Computed.{load_rule_of, figures_by}
 use Rattle.answer.specs.declared.Outcome.{Outcome}
 use Rattle.answer.specs.declared.Outcome.TheVariants as O
-use Rattle.answer.specs.Answers.{answerBytes}
+use Rattle.answer.specs.Answers.{answer_bytes}
 use Rattle.answer.specs.Checked.{room_for}
 use Rattle.answer.specs.Places.{entry_place, end_place}
 use Rattle.answer.specs.Inner.Named.{answer_by, returned_as, written_as}
@@ -55,11 +55,11 @@ pub never_refused : {A : Type 0} {m c p : ℕ} → O.Refused c p ≡ O.Taken m �
 never_refused e = let z : ◌≡◌ {A = ℕ} 0 1 = cc in absurd (omega arith)
 
 -- the rackings of an end whose bytes begin at `at`
-pub end_racking :
+pub end_racking_lem :
     (t : Sheet) (answer : List ℕ) (e : End) (at : ℕ) →
     at ≡ end_place t e →
     greatest_of (λ i. nat_abs (signed4 answer (entry_place at 4 i))) t.ntiers ≡ end_racking t answer e
-end_racking t answer e at is =
+end_racking_lem t answer e at is =
     ap (λ p. greatest_of (λ i. nat_abs (signed4 answer (entry_place p 4 i))) t.ntiers) is
     ∙ ap (λ (f : ℕ → ℕ). greatest_of f t.ntiers)
     (λ j i. nat_abs (signed4 answer (sym (add-zero (entry_place (end_place t e) 4 i)) j)))
@@ -77,7 +77,7 @@ module _ {t : Sheet} (f : Fits t) where
   answer_short = answer_most t (figures_by (load_rule_of t) t) f.few lashes
 
   pub answer_long : 10 + 16 * t.ntiers + 12 * t.ndoor ≤ length (answer_of t)
-  unfolding answerBytes
+  unfolding answer_bytes
   answer_long =
       let g = figures_by (load_rule_of t) t in
       simp length-append
@@ -86,10 +86,10 @@ module _ {t : Sheet} (f : Fits t) where
   -- the rackings of both ends, and what is said of the row
   rackings : (answer : List ℕ) → greatest_with answer t.ntiers t.ndoor ≡ racking_in t answer
   unfolding racking_in
-  rackings answer = ap₂ larger (end_racking t answer door 1 refl) (end_racking t answer closed _ closed_place_lem)
+  rackings answer = ap₂ larger (end_racking_lem t answer door 1 refl) (end_racking_lem t answer closed _ closed_place_lem)
 
-  pub row_totals : (answer : List ℕ) → totals_with answer t.ntiers t.ndoor (mass_of t) ≡ row_totals t answer
-  row_totals answer =
+  pub row_totals_lem : (answer : List ℕ) → totals_with answer t.ntiers t.ndoor (mass_of t) ≡ row_totals t answer
+  row_totals_lem answer =
       let e = rackings answer in
       λ i. record { length = 2 + length answer; accepted = accepted_in answer; mass = mass_of t; racking = e i }
 

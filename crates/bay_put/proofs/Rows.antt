@@ -26,7 +26,7 @@ use Rattle.bay_answer.specs.declared.Totals.{Totals}
 use Rattle.bay_answer.specs.Rows.{row_bytes, accepted_in, mass_of, racking_in}
 use Rattle.bay_answer.specs.Inner.Totalled.{answer_of, row_totals, totals_with, Bounded}
 use Rattle.bay_put.specs.Inner.Answered.{answer_in, RowPut}
-use Rattle.bay_put.proofs.Answers.{answer_short, answer-long, row-totals}
+use Rattle.bay_put.proofs.Answers.{answer_short, answer_long, row_totals_lem}
 
 abbrev nothing : Totals
 nothing = record { length = 2; accepted = 0; mass = 0; racking = 0 }
@@ -90,7 +90,7 @@ module _ (near : Neighbours) where
         (read : bytes ≡ answer_of in_bay) where
       pub counts_fit : (n ≤ 10) × (lashes ≤ 8) × (10 + 16 * n + 12 * lashes ≤ length bytes) × (length bytes ≤ 834)
       unfolding sheet_of
-      counts_fit = rw (e, g, read) (fits.few, fits.door.few, answer-long fits, omega (arith, answer_short fits))
+      counts_fit = rw (e, g, read) (fits.few, fits.door.few, answer_long fits, omega (arith, answer_short fits))
 
       pub totals_are :
           {mass : ℕ} {r : Totals} →
@@ -98,7 +98,7 @@ module _ (near : Neighbours) where
           r ≡ totals_with bytes n lashes mass →
           r ≡ row_totals in_bay (answer_of in_bay)
       unfolding sheet_of
-      totals_are is said = said ∙ rw (is, e, g, read, ← mass_is) (row-totals fits (answer_of in_bay))
+      totals_are is said = said ∙ rw (is, e, g, read, ← mass_is) (row_totals_lem fits (answer_of in_bay))
 
     -- what the buffer holds then
     pub put :

@@ -1,5 +1,7 @@
 // The rows of a bay that has no refusal, answered one behind another in the report (document 02, P6).
 
+#![tactic(auto)]
+
 ghost use Rattle.std.specs.Prelude.{◌≡◌, ◌++◌, ◌<◌, ◌≤◌, ◌^◌, length, drop};
 ghost use Rattle.bay_rows.specs.declared.BayReading.TheVariants as R;
 ghost use Rattle.bay_rows.specs.Bay.{row_count};

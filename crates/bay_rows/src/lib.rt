@@ -1,5 +1,7 @@
 // A bay sheet read from its bytes (document 02, P6): where its rows lie, and what turns it back.
 
+#![tactic(auto)]
+
 ghost use Rattle.std.specs.Prelude.{◌≡◌, ◌+◌, ◌<◌, ◌≤◌, length};
 ghost use Rattle.arith.specs.Bytes.{le2};
 ghost use Rattle.arith.specs.Lists.{below};
@@ -9,7 +11,7 @@ ghost use Rattle.bay_rows.specs.Refusals.{row16, row_reading, first_of, rows_ref
 use sheet::Reading;
 
 // What comes of reading a bay: it is taken, or refused with the two numbers of a refusal and the row, from 1, or 0 where it is about none.
-#[derive(Drop)]
+#[derive(Clone, Copy)]
 pub enum BayReading {
     Taken,
     Refused(u64, usize, usize),

@@ -1,5 +1,5 @@
 -- The tiers of a row that has no refusal, under the height that covers all of them.
-use Prim.Native.Nat.{ℕ, suc, ◌+◌, ◌<◌, ◌≤◌}
+use Prim.Native.Nat.{ℕ, suc, ◌<◌, ◌≤◌}
 use mathlib.Core.List.{List, map}
 use mathlib.Core.Path.{◌≡◌, sym, ap, ◌∙◌}
 use native.Mathlib.Nat.{zero-add}
@@ -11,7 +11,7 @@ use Rattle.arith.proofs.Arrays.{length_entries, entry, entries_are, entry_at}
 use Rattle.sheet.specs.declared.Tier.{Tier}
 use Rattle.sheet.specs.declared.Reading.TheVariants.{Taken}
 use Rattle.sheet.specs.Layout.{tier_count, tier_place, tier_in, tiers_in, blank_tier, sheet_of}
-use Rattle.sheet.specs.Fits.{tier_at, Fits}
+use Rattle.sheet.specs.Fits.{tier_at}
 use Rattle.sheet.specs.Refusals.{first, sheet_rows}
 use Rattle.sheet.proofs.Clear.{parts, some_tier, few_tiers, tiers_there}
 use Rattle.sheet.proofs.Items.{tier_size}

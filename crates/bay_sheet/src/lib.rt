@@ -1,5 +1,7 @@
 // A row's tiers as they stand in its bay (document 02, P6): read from its bytes, their wind parts worked out afresh.
 
+#![tactic(auto)]
+
 ghost use Rattle.std.specs.Prelude.{◌≡◌};
 ghost use Rattle.sheet.specs.declared.Reading.TheVariants.{Taken};
 ghost use Rattle.sheet.specs.Layout.{wind_code, tier_count, sheet_of};

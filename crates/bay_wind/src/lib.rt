@@ -1,24 +1,26 @@
 // The rows beside a row of a bay (document 02, P6): the nearest loaded one on either side, and how many empty ones lie between.
 
+#![tactic(auto)]
+
 ghost use Rattle.std.specs.Prelude.{◌≡◌, reverse, suc, ◌<◌, ◌≤◌, length, take, drop};
 ghost use Rattle.bay_wind.specs.Exposure.{nearest_of, neighbours_of};
 ghost use Rattle.bay_wind.specs.Inner.Paired.{paired};
 
 // A row as the rows beside it see it: the height of its boxes together, in mm, and their size in feet, 0 in an empty row.
-#[derive(Drop)]
+#[derive(Clone, Copy)]
 pub struct Outline {
     pub height: u32,
     pub size: u8,
 }
 
 // The nearest loaded row on one side, behind so many empty ones.
-#[derive(Drop)]
+#[derive(Clone, Copy)]
 pub enum Nearest {
     Nothing,
     Loaded(usize, Outline),
 }
 
-#[derive(Drop)]
+#[derive(Clone, Copy)]
 pub struct Neighbours {
     pub port: Nearest,
     pub starboard: Nearest,

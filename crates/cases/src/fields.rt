@@ -5,7 +5,7 @@ ghost use Rattle.cases.specs.Inner.Fields.{size_if, size_within, held_from};
 use arith::bytes;
 
 // The answer is what the fields say, or differs first at a place.
-#[derive(Drop)]
+#[derive(Clone, Copy)]
 pub enum Held {
     Inside,
     Outside(usize),

@@ -5,7 +5,7 @@ ghost use Rattle.cases.specs.Inner.Places.{ItemAt, item_there};
 use arith::bytes;
 
 // The places of its name, its sheet and its fields, and of what follows it; the length of its answer buffer.
-#[derive(Drop)]
+#[derive(Clone, Copy)]
 pub struct Case {
     pub name: usize,
     pub sheet: usize,
@@ -14,7 +14,7 @@ pub struct Case {
     pub room: usize,
 }
 
-#[derive(Drop)]
+#[derive(Clone, Copy)]
 pub enum Item {
     Whole(Case),
     Bad,

@@ -8,6 +8,8 @@
 // these bounds and nothing more, else `outside at` the place of the first that is not; last `untouched` where the buffer behind
 // the answer, on a refusal all of it, is as it was, else `changed`.
 
+#![tactic(auto)]
+
 mod fields; // fields.rt: an answer held to the fields of its case
 mod layout; // layout.rt: where the parts of a case stand
 mod space; // space.rt: the answer buffer, filled before each case
@@ -18,7 +20,10 @@ ghost use Rattle.cases.specs.Inner.Places.{Placed};
 use answer::Outcome;
 use fields::Held;
 use layout::{Case, Item};
-use libc::{STDIN_FILENO, STDOUT_FILENO};
+
+// File descriptors of standard input and output.
+const STDIN_FILENO: i32 = 0;
+const STDOUT_FILENO: i32 = 1;
 
 fn main() {
     let mut input = io::large_buffer();

@@ -4,11 +4,16 @@
 // sheet and the section. Numbers lie least byte first. For each a line: `taken`, the list's length, its count and each of its choices; or
 // `refused` and the two numbers.
 
+#![tactic(auto)]
+
 ghost use Rattle.std.specs.Prelude.{◌+◌, ◌≤◌, ◌<◌, length};
 
 use answer::Outcome;
 use arith::bytes;
-use libc::{STDIN_FILENO, STDOUT_FILENO};
+
+// File descriptors of standard input and output.
+const STDIN_FILENO: i32 = 0;
+const STDOUT_FILENO: i32 = 1;
 
 fn main() {
     let mut input = io::large_buffer();

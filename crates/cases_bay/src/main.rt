@@ -5,11 +5,16 @@
 // of accepted rows, the total mass, whether the greatest racking is `inside` or `outside`, then of each row the answer's length and, where
 // that is not 0, the verdict; or `refused` and the three numbers.
 
+#![tactic(auto)]
+
 ghost use Rattle.std.specs.Prelude.{◌+◌, ◌≤◌, length};
 
 use arith::bytes;
 use bay::BayOutcome;
-use libc::{STDIN_FILENO, STDOUT_FILENO};
+
+// File descriptors of standard input and output.
+const STDIN_FILENO: i32 = 0;
+const STDOUT_FILENO: i32 = 1;
 
 fn main() {
     let mut input = io::large_buffer();

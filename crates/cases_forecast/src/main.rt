@@ -5,11 +5,16 @@
 // For each a line: wave height, breadth, hours; the factor, where the breadth is not 0; then `taken`, the answer's length, its verdict
 // and whether that racking is `inside` or `outside`; or `refused` and the two numbers.
 
+#![tactic(auto)]
+
 ghost use Rattle.std.specs.Prelude.{◌+◌, ◌≤◌, ◌<◌, length};
 
 use answer::Outcome;
 use arith::bytes;
-use libc::{STDIN_FILENO, STDOUT_FILENO};
+
+// File descriptors of standard input and output.
+const STDIN_FILENO: i32 = 0;
+const STDOUT_FILENO: i32 = 1;
 
 fn main() {
     let mut input = io::large_buffer();

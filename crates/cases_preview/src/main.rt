@@ -5,11 +5,16 @@
 // length of the answer buffer and the two numbers returned; then `same` where the buffer is as the check of the copy leaves one, else
 // `other`.
 
+#![tactic(auto)]
+
 ghost use Rattle.std.specs.Prelude.{◌+◌, ◌≤◌, length};
 
 use answer::Outcome;
 use arith::bytes;
-use libc::{STDIN_FILENO, STDOUT_FILENO};
+
+// File descriptors of standard input and output.
+const STDIN_FILENO: i32 = 0;
+const STDOUT_FILENO: i32 = 1;
 
 fn main() {
     let mut input = io::large_buffer();

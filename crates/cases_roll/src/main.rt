@@ -3,11 +3,17 @@
 // A condition is 40 bytes: sine, cosine, heave, angle, period, length, centre, x, y, z, each in 4 bytes, least byte first, the last four
 // in two's complement. For each a line: `given`, A_T, A_Vmax and A_Vmin, or `refused` and the two numbers.
 
+#![tactic(auto)]
+
 ghost use Rattle.std.specs.Prelude.{◌+◌, ◌≤◌, ◌<◌, length};
 
 use arith::bytes;
-use libc::{STDIN_FILENO, STDOUT_FILENO};
 use roll::{Accelerations, Condition, Rolled};
+
+// File descriptors of standard input and output.
+const STDIN_FILENO: i32 = 0;
+
+const STDOUT_FILENO: i32 = 1;
 
 fn main() {
     let mut input = io::large_buffer();

@@ -4,11 +4,16 @@
 // two sheets. Numbers lie least byte first. For each a line: `taken`, the side answer's length, its verdict, and racking and shift of
 // each tier from the lowest; or `refused` and the two numbers.
 
+#![tactic(auto)]
+
 ghost use Rattle.std.specs.Prelude.{◌+◌, ◌≤◌, ◌<◌, length};
 
 use answer::Outcome;
 use arith::bytes;
-use libc::{STDIN_FILENO, STDOUT_FILENO};
+
+// File descriptors of standard input and output.
+const STDIN_FILENO: i32 = 0;
+const STDOUT_FILENO: i32 = 1;
 
 fn main() {
     let mut input = io::large_buffer();

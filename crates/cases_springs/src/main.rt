@@ -5,13 +5,19 @@
 // the tiers the lashes' stiffness in 2^-22 N/mm and the load in 2^-28 N; the least and the most that their shifts may be, in 2^-28 mm.
 // For each a line: `eliminated` and `solved`, each with `inside` or `outside`, or `not solvable`.
 
+#![tactic(auto)]
+
 ghost use Rattle.std.specs.Prelude.{true, ◌≡◌, ◌+◌, ◌*◌, ◌≤◌, ◌<◌, length};
 ghost use Rattle.cases_springs.specs.Inner.Within.{Within};
 
 use arith::bytes;
-use libc::{STDIN_FILENO, STDOUT_FILENO};
 use springs_eliminate::eliminate;
 use springs_solve::solve;
+
+// File descriptors of standard input and output.
+const STDIN_FILENO: i32 = 0;
+
+const STDOUT_FILENO: i32 = 1;
 
 fn main() {
     let mut input = io::large_buffer();

@@ -4,11 +4,17 @@
 // 4 bytes, least byte first. For each a line: table, acceleration, count; then `yes` or `no`, total and permitted mass, or `refused`
 // and the two numbers.
 
+#![tactic(auto)]
+
 ghost use Rattle.std.specs.Prelude.{◌≡◌, ◌+◌, ◌≤◌, length};
 
 use arith::bytes;
-use libc::{STDIN_FILENO, STDOUT_FILENO};
 use twenties::{Judgement, Verdict};
+
+// File descriptors of standard input and output.
+const STDIN_FILENO: i32 = 0;
+
+const STDOUT_FILENO: i32 = 1;
 
 fn main() {
     let mut input = io::large_buffer();

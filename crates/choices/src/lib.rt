@@ -1,5 +1,7 @@
 // The choices of at most eight lashes (document 02, P13), in their order.
 
+#![tactic(auto)]
+
 ghost use Rattle.std.specs.Prelude.{◌≡◌, ◌<◌, get_or};
 ghost use Rattle.choices.specs.Choices.{choices};
 

@@ -1,5 +1,7 @@
 // The lashes of one choice of the gear (document 02, P13), with lengths and stiffnesses that were found once for all choices.
 
+#![tactic(auto)]
+
 ghost use Rattle.std.specs.Prelude.{◌≡◌, ℕ, ◌<◌, ◌≤◌, take, get_or, length, replicate};
 ghost use Rattle.sheet.specs.Layout.{blank_lash};
 ghost use Rattle.sheet.specs.Inner.Limits.{LashLimits};
@@ -11,7 +13,7 @@ use sheet::Lash;
 use sheet_fields::blank_lash;
 
 // The lashes that a choice uses; entries behind the count are blank.
-#[derive(Drop)]
+#[derive(Clone, Copy)]
 pub struct Chosen {
     pub lashes: [Lash; 8],
     pub count: usize,

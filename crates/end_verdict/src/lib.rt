@@ -1,5 +1,7 @@
 // Whether an end of a stack has no finding (document 01, "The answer sheet"), where the findings themselves are not asked for.
 
+#![tactic(auto)]
+
 ghost use Rattle.std.specs.Prelude.{◌≡◌, ◌+◌, ◌≤◌, ◌-◌, pos, nat_abs, length, get_or};
 ghost use Rattle.answer.specs.Limits.{racking_limit};
 ghost use Rattle.answer_put.specs.Inner.Puts.{lash_limit};

@@ -1,5 +1,7 @@
 // Every reported force of a stack: rackings, posts and lashes of both ends.
 
+#![tactic(auto)]
+
 ghost use Rattle.std.specs.Prelude.{ℕ, ◌^◌, ◌≤◌, List, [], ◌≡◌, pos, get_or, length, replicate, take};
 ghost use Rattle.sheet.specs.Ends.{door, closed, tiers_of, lashes_of};
 ghost use Rattle.sheet.specs.Fits.{Fits};

@@ -1,5 +1,7 @@
 // Lashes: their lengths and stiffnesses, and their forces at the shifts of the levels. Scales: see statics/specs/inner/WholeNumbers.
 
+#![tactic(auto)]
+
 ghost use Rattle.std.specs.Prelude.{◌≡◌, ℕ, ◌<◌, ◌≤◌, ◌^◌, take, drop, get_or, length, replicate};
 ghost use Rattle.sheet.specs.Layout.{blank_lash};
 ghost use Rattle.sheet.specs.Inner.Limits.{LashLimits};

@@ -1,5 +1,7 @@
 // Rackings of the tiers and forces on the posts, from the top level down, each by figures_posts.
 
+#![tactic(auto)]
+
 ghost use Rattle.std.specs.Prelude.{◌≡◌, ◌<◌, pos, length, take, drop, get_or, replicate};
 ghost use Rattle.figures_levels.specs.Inner.Levels.{LevelInputs, LevelsFigured};
 

@@ -1,5 +1,7 @@
 // A tier's racking and the forces on the posts of one level. Scales are those of statics/specs/inner/WholeNumbers.
 
+#![tactic(auto)]
+
 ghost use Rattle.std.specs.Prelude.{◌≡◌, ◌+◌, ◌*◌, ◌/◌, ◌≤◌, ◌^◌, pos, nat_abs, neg_ℤ, ◌+ℤ◌, ◌-ℤ◌, ◌*ℤ◌};
 ghost use Rattle.std.specs.Int.Signed.{quot_z, shr_z};
 ghost use Rattle.arith.specs.Inner.Rounding.{rounded_up_z};
@@ -114,7 +116,7 @@ fn word_of(figure: u64) -> u32
 }
 
 // The sums of the two posts of a level but for the weight above: what the moment adds, and the vertical parts.
-#[derive(Drop)]
+#[derive(Clone, Copy)]
 struct PostSums {
     lee: i64,
     windward: i64,

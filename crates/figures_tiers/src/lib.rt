@@ -1,6 +1,8 @@
 // The load on each level, half of the weight above it, and the heights: the same for both ends. Scales are those of
 // statics/specs/inner/WholeNumbers.
 
+#![tactic(auto)]
+
 ghost use Rattle.std.specs.Prelude.{◌≡◌, ℕ, ◌+◌, ◌*◌, ◌-◌, ◌/◌, ◌<◌, ◌≤◌, ◌^◌, length, take, get_or, replicate};
 ghost use Rattle.sheet.specs.Layout.{blank_tier};
 ghost use Rattle.sheet.specs.Inner.Limits.{TierLimits};
@@ -41,7 +43,7 @@ fn wind_of(t: Tier) -> u64
 }
 
 // What a tier pushes with: mass × A_T, and the wind.
-#[derive(Drop)]
+#[derive(Clone, Copy)]
 struct TierLoad {
     transverse: u64,
     wind: u64,

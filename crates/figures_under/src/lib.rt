@@ -1,5 +1,7 @@
 // The level under a tier: the forces on its posts, and what it hands down to the levels below, by figures_posts.
 
+#![tactic(auto)]
+
 ghost use Rattle.std.specs.Prelude.{◌≡◌, ◌+◌, ◌*◌, ◌≤◌, ◌^◌, pos, ◌+ℤ◌, ◌*ℤ◌};
 ghost use Rattle.arith.specs.Inner.Sizes.{Small};
 ghost use Rattle.statics.specs.Inner.WholeNumbers.{compression_from, tension_from};
@@ -9,13 +11,13 @@ use figures_posts::{compression_of, couple_of, moment_under, tension_of};
 use statics::PostParts;
 
 // What stands above a level: the moment of the tiers, and the vertical parts of the lashes at this level or above.
-#[derive(Drop)]
+#[derive(Clone, Copy)]
 pub struct Above {
     pub moment: i64,
     pub parts: PostParts,
 }
 
-#[derive(Drop)]
+#[derive(Clone, Copy)]
 pub struct Level {
     pub above: Above,
     pub compression: u32,

@@ -1,5 +1,7 @@
 // Whole numbers as floats and back. Of a float nothing is claimed but its name: what is found by floats is tested in whole numbers.
 
+#![tactic(auto)]
+
 ghost use Rattle.std.specs.Prelude.{◌≡◌, ◌<◌};
 ghost use Rattle.floats.specs.Inner.Floats.{float_of, low_bits, near_of, below_of};
 

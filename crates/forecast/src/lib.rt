@@ -1,5 +1,7 @@
 // Short voyages by forecast (document 02, P9): the check of a sheet with the factor of a forecast in place of the route factor.
 
+#![tactic(auto)]
+
 ghost use Rattle.std.specs.Prelude.{◌≡◌, length};
 ghost use Rattle.sheet.specs.declared.Reading.TheVariants.{Taken};
 ghost use Rattle.sheet.specs.Layout.{sheet_of};

@@ -1,11 +1,13 @@
 // The factor of a short voyage by its forecast (document 02, P9), found by halving and without a root.
 
+#![tactic(auto)]
+
 ghost use Rattle.std.specs.Prelude.{◌≡◌, ◌+◌, ◌≤◌, ◌<◌};
 ghost use Rattle.forecast_factor.specs.Factor.{factor};
 ghost use Rattle.forecast_factor.specs.Inner.Search.{Between, Halved};
 
 // The search as far as it has come: the factor is one of `least` to `most`, and so many comparisons were made.
-#[derive(Drop)]
+#[derive(Clone, Copy)]
 struct Search {
     least: u64,
     most: u64,
@@ -13,7 +15,7 @@ struct Search {
 }
 
 // The factor in thousandths, and how many comparisons found it.
-#[derive(Drop)]
+#[derive(Clone, Copy)]
 pub struct Found {
     pub factor: u64,
     pub compared: u64,

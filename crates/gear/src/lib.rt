@@ -1,5 +1,7 @@
 // The gear section of a call for arrangements (document 02, P13): its lashes, or why it is turned back.
 
+#![tactic(auto)]
+
 ghost use Rattle.std.specs.Prelude.{◌≡◌, ◌<◌};
 ghost use Rattle.sheet.specs.Refusals.{first};
 ghost use Rattle.gear.specs.Gear.{gear_rows, gear_decoded};
@@ -7,7 +9,7 @@ ghost use Rattle.gear.specs.Gear.{gear_rows, gear_decoded};
 use sheet::{Lash, Reading};
 
 // A section decoded. Entries of the array behind the count are blank.
-#[derive(Drop)]
+#[derive(Clone, Copy)]
 pub struct Gear {
     pub reading: Reading,
     pub lashes: [Lash; 8],

@@ -1,4 +1,7 @@
 // The calls for programs in C: what each returns, in one number.
+
+#![tactic(auto)]
+
 ghost use Rattle.std.specs.Prelude.{◌≡◌, ◌+◌, ◌*◌, ◌≤◌, length};
 ghost use Rattle.answer.specs.Checked.{Checked, kept};
 ghost use Rattle.answer.specs.Inner.Named.{returned, written};

@@ -1,5 +1,5 @@
 -- The whole numbers of a lash: the steps to its stiffness and its forces stay in range.
-use Prim.Native.Nat.{ℕ, suc, ◌+◌, ◌*◌, ◌-◌, ◌/◌, ◌%◌, ◌^◌, ◌<◌, ◌≤◌}
+use Prim.Native.Nat.{ℕ, suc, ◌+◌, ◌*◌, ◌/◌, ◌%◌, ◌^◌, ◌<◌, ◌≤◌}
 use mathlib.Core.Path.{◌≡◌}
 use native.Mathlib.Nat.{mul-le-mul, mul-le-mul_left, div-le_of_le-mul}
 use native.Mathlib.Omega.{arith}

@@ -1,5 +1,7 @@
 // One lash: its hook, its stiffness, and its forces at a shift of its hook. Scales: see statics/specs/inner/WholeNumbers.
 
+#![tactic(auto)]
+
 ghost use Rattle.std.specs.Prelude.{◌≡◌, ◌+◌, ◌*◌, ◌/◌, ◌<◌, ◌≤◌, ◌^◌};
 ghost use Rattle.arith.specs.Inner.Rounding.{rounded_up};
 ghost use Rattle.sheet.specs.Lashings.{level_of};
@@ -80,7 +82,7 @@ fn figure_along(padded: u64, side: u64, inv: u64) -> u32
 }
 
 // The figures of one lash.
-#[derive(Drop)]
+#[derive(Clone, Copy)]
 pub struct LashForces {
     pub tension: u32,
     pub athwart: u32,

@@ -1,5 +1,7 @@
 // The length of a lash, by a search that squares one length.
 
+#![tactic(auto)]
+
 ghost use Rattle.std.specs.Prelude.{cond, ◌≡◌, ◌+◌, ◌*◌, ◌-◌, ◌<◌, ◌≤◌, max, leb, length};
 ghost use Rattle.sheet.specs.Inner.Limits.{LashLimits};
 ghost use Rattle.statics.specs.Lashes.{squares, lash_length};
@@ -8,7 +10,7 @@ ghost use Rattle.lash_length.specs.Trials.{longest, others, nearer, guess, start
 use sheet::Lash;
 
 // A lash's sides: the sum of their squares, the longest of them and the sum of the other two.
-#[derive(Drop)]
+#[derive(Clone, Copy)]
 struct Sides {
     squares: u32,
     longest: u32,
@@ -16,7 +18,7 @@ struct Sides {
 }
 
 // The search as far as it has come: a length that is enough, and how many trials were squared.
-#[derive(Drop)]
+#[derive(Clone, Copy)]
 pub struct Progress {
     pub length: u64,
     pub squared: u64,

@@ -1,5 +1,5 @@
 -- A quotient of a product that 64 bits do not hold, certified by its remainder, which is found by parts.
-use mathlib.Core.Path.{◌≡◌, sym, ap, ◌∙◌}
+use mathlib.Core.Path.{◌≡◌, sym, ap}
 use Prim.Native.Nat.{ℕ, ◌+◌, ◌*◌, ◌-◌, ◌/◌, ◌%◌, ◌<◌, ◌≤◌, ◌^◌}
 use native.Mathlib.Nat.{add-mul, one-mul, mul-le-mul, div-add-mod', div-eq_of_lt-le, div-le_of_le-mul, mod-lt}
 use native.Mathlib.Omega.{arith}

@@ -1,6 +1,8 @@
 // A lash's athwart stiffness in 2^-22 N/mm: modulus × area, here its load, times LY², its side, over the cube of its length. A quotient of
 // floats is tested in whole numbers; where it is not the right one, divisions find it, which take longer.
 
+#![tactic(auto)]
+
 ghost use Rattle.std.specs.Prelude.{◌≡◌, true, ◌*◌, ◌/◌, ◌<◌, ◌≤◌, ◌^◌};
 
 use arith::rounding::{scaled, scaled_twice};

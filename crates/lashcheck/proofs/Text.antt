@@ -1,17 +1,16 @@
 -- A text copied into a part of a buffer, and the line that two numbers make.
 use Prim.Native.Nat.{ℕ, ◌+◌, ◌-◌, ◌^◌, ◌<◌, ◌≤◌}
 use mathlib.Core.Bool.{Bool, true, false}
-use mathlib.Core.List.{List, [], ◌∷◌, ◌++◌}
+use mathlib.Core.List.{List, [], ◌∷◌, ◌++◌, append_assoc}
 use mathlib.Core.Path.{◌≡◌, refl, sym, ap, ◌∙◌}
 use native.Mathlib.Nat.{pow-le-pow_right}
 use native.Mathlib.Numerals.{add-one}
 use native.Mathlib.Omega.{arith}
 use borrow.Author.Tests.{ltb-true, ltb-false}
-use borrow.Rule.Slice.PartMut.{mid_of, put_mid}
+use borrow.Rule.Slice.PartMut.{put_mid}
 use lib.Dec.{ltb}
 use lib.ListN.{length, take, drop, set, length-append}
-use lib.Seq.{length-take-le, take_at, take-length, take-suc-set}
-use Rattle.arith.proofs.Parts.{part_put}
+use lib.Seq.{length-take-le, take_at, take-suc-set, drop-drop}
 use Rattle.io.specs.Counts.{IsPrefixLen}
 use Rattle.io.specs.Digits.{last_digits, IsDigitCount}
 use Rattle.lashcheck.specs.Lines.{Line}
@@ -31,27 +30,23 @@ few_digits n k h f = go (ltb 20 k) refl
 
 -- the first k bytes of `text`, the digits of n, copied there
 pub put_of :
-    (n at k : ℕ) (text before copied : List ℕ) →
+    (n at k room : ℕ) (text before copied : List ℕ) →
     n < 2 ^ 64 →
     IsPrefixLen k text →
     IsDigitCount 10 1 n k →
     take k text ≡ last_digits 10 k n →
     at + 20 ≤ length before →
-    copied ≡ take (length (take k text)) (take k text) ++ drop (length (take k text)) (mid_of at (length before - at) before) →
-    Put n at (at + k) before (put_mid at (length before - at) before copied)
-put_of n at k text before copied small counts fewest spelled room stored =
+    room ≡ k →
+    copied ≡ take k text →
+    Put n at (at + k) before (put_mid at room before copied)
+put_of n at k room text before copied small counts fewest spelled long same stored =
     record {
       text = take k text;
       in_decimal = record { count = k; fewest = fewest; spelled = spelled };
       ends = ap (λ l. at + l) counts.1;
-      short = omega (arith, few);
-      stored =
-          ap (put_mid at (length before - at) before) (rw (take-length (take k text), ← counts.1) at stored)
-          ∙ part_put before (take k text) at k counts.1 (omega (arith, few));
+      short = omega (arith, few_digits n k small fewest, counts.1);
+      stored = rw (stored, same, drop-drop k at before, append_assoc);
     }
-  where
-    few : k ≤ 20
-    few = few_digits n k small fewest
 
 -- a count within a buffer, as io::count gives it
 pub counts_of : (n : ℕ) (xs : List ℕ) → n ≤ length xs → IsPrefixLen n xs

@@ -1,43 +1,24 @@
 // Standard input.
-ghost use Rattle.std.specs.Prelude.{◌+◌, ◌≤◌, length};
+ghost use Rattle.std.specs.Prelude.{◌≡◌, ◌<◌, length, take, IfOk};
+ghost use Rattle.std.specs.Io.KnownBytes.{Consumes, IsAtEnd};
 ghost use Rattle.io.specs.Counts.{IsPrefixLen};
 ghost use Rattle.lashcheck.specs.Inner.Texts.{counted};
 
-use libc::STDIN_FILENO;
+use std::io::{Read, Result};
 
-// What reading gives: how many bytes stand at the start of the buffer, or that a read failed.
-#[derive(Drop)]
-pub enum Input {
-    Bytes(usize),
-    Failed,
-}
-
-// Reads until the buffer is full or the input ends.
-pub fn read(buf: &mut [u8]) -> Input
-    ensures { IsPrefixLen (counted result) buf.new }
+// Reads until the buffer is full or the input ends, and answers how many bytes stand at the start of the buffer.
+pub fn read<R: Read>(reader: &mut R, buf: &mut [u8]) -> Result<usize>
+    ensures prefix_len { IsPrefixLen (counted result) buf.new }
+    ensures bytes { IfOk result (λ n. Consumes (R.remaining reader.old) (R.remaining reader.new) (take n buf.new)) }
+    ensures end { IfOk result (λ n. n < length buf.new → IsAtEnd (R.remaining reader.new)) }
 {
     let mut done = 0;
     while done < buf.len() {
-        let Input::Bytes(n) = read_more(buf, done) else {
-            return Input::Failed;
-        };
+        let n = reader.read(&mut buf[done..])?;
         if n == 0 {
             break;
         }
         done += n;
     }
-    Input::Bytes(done)
-}
-
-// One read into the buffer from the index `from` on.
-fn read_more(buf: &mut [u8], from: usize) -> Input
-    requires { from ≤ length buf.old }
-    ensures { from + counted result ≤ length buf.old }
-{
-    let rest = &mut buf[from..];
-    let got = libc::read(STDIN_FILENO, rest);
-    if got < 0 {
-        return Input::Failed;
-    }
-    Input::Bytes(io::count(got, rest))
+    Ok(done)
 }

@@ -39,6 +39,6 @@ fn put_number(n: u64, out: &mut [u8], at: usize) -> usize
 {
     let mut text = [0u8; 20];
     let k = io::decimal(n, &mut text);
-    bytes::copy(&text[..k], &mut out[at..]);
+    out[at..at + k].copy_from_slice(&text[..k]);
     at + k
 }

@@ -1,11 +1,13 @@
 // Document 01, "Permissible loads", in N.
 
+#![tactic(auto)]
+
 ghost use Rattle.std.specs.Prelude.{cond, ◌≡◌, ◌≤◌};
 ghost use Rattle.answer.specs.Limits.{safe_load};
 ghost use Rattle.limits.specs.Inner.LowerOf.{lower_of};
 
 // The limits of CR Table 2-3.
-#[derive(Drop)]
+#[derive(Clone, Copy)]
 pub struct Limits {}
 
 impl Limits {
@@ -38,7 +40,7 @@ pub fn safe_load(material: u8, breaking: u32) -> u32
 }
 
 // The limit that a level's tension is checked against, and the kind that names it.
-#[derive(Drop)]
+#[derive(Clone, Copy)]
 pub struct PullLimit {
     pub kind: u8,
     pub limit: u32,

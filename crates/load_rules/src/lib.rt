@@ -1,5 +1,7 @@
 // What the loads of a sheet go by, in whole numbers.
 
+#![tactic(auto)]
+
 ghost use Rattle.std.specs.Prelude.{◌≤◌, ◌≡◌};
 ghost use Rattle.statics.specs.Inner.Computed.{share_twentieths, load_rule_by};
 

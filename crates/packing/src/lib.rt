@@ -1,5 +1,7 @@
 // Results packed in one number for C: the first number in the low 8 bits.
 
+#![tactic(auto)]
+
 ghost use Rattle.std.specs.Prelude.{cond, ◌≡◌, ◌+◌, ◌*◌, ◌<◌, ◌^◌};
 ghost use Rattle.answer.specs.Checked.{number, second};
 ghost use Rattle.packing.specs.AccelerationsIn.{AccelerationsIn};

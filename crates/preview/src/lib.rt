@@ -1,6 +1,8 @@
 // Preview of a move (document 02, P7): what the check would return and write on a copy of the sheet with another mass in one tier.
 // No bytes are copied: the mass is put into the tiers that are read from the sheet.
 
+#![tactic(auto)]
+
 ghost use Rattle.std.specs.Prelude.{◌≡◌};
 ghost use Rattle.sheet.specs.declared.Reading.TheVariants.{Taken};
 ghost use Rattle.sheet.specs.Layout.{sheet_of};

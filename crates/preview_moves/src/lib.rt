@@ -1,5 +1,7 @@
 // Preview of a move (document 02, P7): the tiers of a sheet with another mass in one of them.
 
+#![tactic(auto)]
+
 ghost use Rattle.std.specs.Prelude.{◌≡◌, ◌<◌, set};
 ghost use Rattle.sheet.specs.Fits.{tier_at};
 ghost use Rattle.preview_moves.specs.Inner.Moved.{weighing};

@@ -1,5 +1,7 @@
 // Accelerations from roll (document 02, P8): Condition A of CR 5.2.4(a), one box a call, in exact whole numbers.
 
+#![tactic(auto)]
+
 ghost use Rattle.std.specs.Prelude.{◌≡◌, ◌*◌, ◌≤◌, ◌^◌, pos};
 ghost use Rattle.arith.specs.Fractions.{Frac, nat, absq, ◌*q◌, ◌≈◌};
 ghost use Rattle.arith.specs.Wholes.{floor, ceiling};
@@ -14,7 +16,7 @@ use roll_parts::RollPart;
 // The ship's roll and a box's place. Sine and cosine of the roll angle and the heave factor a0 in ten-thousandths, the angle in
 // hundredths of a degree, the period in hundredths of a second; in mm the ship's length, the height of the roll centre, and the box's
 // place: x forward of the aft perpendicular, y from the centreline, z above the baseline.
-#[derive(Drop)]
+#[derive(Clone, Copy)]
 pub struct Condition {
     pub sine: u32,
     pub cosine: u32,
@@ -29,7 +31,7 @@ pub struct Condition {
 }
 
 // A_T, A_Vmax and A_Vmin in thousandths of g.
-#[derive(Drop)]
+#[derive(Clone, Copy)]
 pub struct Accelerations {
     pub aT: u64,
     pub aVmax: u64,
@@ -37,7 +39,7 @@ pub struct Accelerations {
 }
 
 // Accelerations, or the two numbers of a refusal.
-#[derive(Drop)]
+#[derive(Clone, Copy)]
 pub enum Rolled {
     Given(Accelerations),
     Refused(u64, usize),

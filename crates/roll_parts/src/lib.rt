@@ -3,6 +3,8 @@
 // A thousandth of g has 3,000,000 × the ship's length (mm) parts, so that gravity and heave are a whole number of them; the roll is in
 // whole thousandths and parts, rounded up, which leaves every thousandth as it is rounded from the exact sum or difference.
 
+#![tactic(auto)]
+
 ghost use Rattle.std.specs.Prelude.{◌&&◌, ◌≡◌, ◌+◌, ◌*◌, ◌≤◌, ◌^◌, ltb, pos, nat_abs, ◌-ℤ◌};
 ghost use Rattle.std.specs.Int.Signed.{le_z};
 ghost use Rattle.arith.specs.Inner.Sizes.{Small};
@@ -11,7 +13,7 @@ ghost use Rattle.roll_parts.specs.Inner.Parts.{parts_of, still_of, roll_of, up_o
 use arith::rounding::{ceil_div, split_product_up};
 
 // The roll in whole thousandths of g, and the parts over them, rounded up.
-#[derive(Drop)]
+#[derive(Clone, Copy)]
 pub struct RollPart {
     pub whole: u64,
     pub rest: u64,

@@ -1,6 +1,6 @@
 -- Document 01, "The stack sheet": where each field lies, the codes and limits of the fields, and what a sheet holds.
 -- A byte past the end reads 0, so that each field has a value on any bytes; the refusals say when the bytes are too few.
-use Rattle.std.specs.Prelude.{ℕ, zero, ◌+◌, ◌*◌, ◌/◌, ◌%◌, Bool, cond, ◌&&◌, ◌||◌, List, map, leb, ltb, eqb, replicate}
+use Rattle.std.specs.Prelude.{ℕ, ◌+◌, ◌*◌, ◌/◌, ◌%◌, Bool, cond, ◌&&◌, ◌||◌, List, map, leb, ltb, eqb, replicate}
 use Rattle.arith.specs.Bytes.{byte_at, le2, le4}
 use Rattle.arith.specs.Lists.{below, padded}
 use Rattle.sheet.specs.declared.Head.{Head}

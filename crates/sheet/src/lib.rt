@@ -1,6 +1,8 @@
 // A stack sheet: what it holds, or why it is turned back; `sheet_decode` reads one from its bytes. Entries of the arrays are counted
 // from 0, bottom tier first.
 
+#![tactic(auto)]
+
 ghost use Rattle.std.specs.Prelude.{◌≡◌, ◌<◌, ◌≤◌};
 ghost use Rattle.sheet.specs.Layout.{exposed, turned};
 ghost use Rattle.sheet.specs.Lashings.{lashing_of};
@@ -10,7 +12,7 @@ ghost use Rattle.sheet.specs.Routes.{route_percent};
 
 // The head: rule number, route, lock material (0 ordinary steel, 1 higher strength, 2 nodular iron), a zero byte,
 // lock breaking load in N.
-#[derive(Drop)]
+#[derive(Clone, Copy)]
 pub struct Head {
     pub rule: u8,
     pub route: u8,
@@ -21,7 +23,7 @@ pub struct Head {
 
 // A tier: size in feet, wind (0 sheltered, 1 exposed, and 2 more where the box stands turned), height in mm, mass in kg; A_T,
 // A_Vmax and A_Vmin in thousandths of g.
-#[derive(Drop)]
+#[derive(Clone, Copy)]
 pub struct Tier {
     pub size: u8,
     pub wind: u8,
@@ -34,7 +36,7 @@ pub struct Tier {
 
 // A lash: tier (from 1), hook (0 top corner, 1 bottom corner), kind (0 cross, 1 side), material (0 ordinary rod, 1 higher
 // strength rod, 2 wire, 3 chain); LX, LY, LZ in mm, area in mm², modulus in N/mm², breaking load in N.
-#[derive(Drop)]
+#[derive(Clone, Copy)]
 pub struct Lash {
     pub tier: u8,
     pub hook: u8,
@@ -49,7 +51,7 @@ pub struct Lash {
 }
 
 // A decoded sheet. Entries of an array behind its count are blank.
-#[derive(Drop)]
+#[derive(Clone, Copy)]
 pub struct Sheet {
     pub head: Head,
     pub tiers: [Tier; 10],
@@ -75,20 +77,20 @@ pub fn turned(t: Tier) -> bool
 }
 
 // What comes of reading: the sheet is taken, or refused with a number of the table and its second number.
-#[derive(Drop)]
+#[derive(Clone, Copy)]
 pub enum Reading {
     Taken,
     Refused(u64, usize),
 }
 
-#[derive(Drop)]
+#[derive(Clone, Copy)]
 pub struct Decoded {
     pub reading: Reading,
     pub sheet: Sheet,
 }
 
 // A lash by its kind: a cross lash is on the lee corner, a side lash on the windward corner.
-#[derive(Drop)]
+#[derive(Clone, Copy)]
 pub enum Lashing {
     Cross(Lash),
     Side(Lash),

@@ -1,5 +1,7 @@
 // A stack sheet read from its bytes: what they hold, or why they are turned back.
 
+#![tactic(auto)]
+
 pub mod refusals; // refusals.rt: the tests of a sheet's items, in the order of reading
 
 ghost use Rattle.std.specs.Prelude.{◌≡◌};

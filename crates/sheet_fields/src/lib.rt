@@ -1,5 +1,7 @@
 // The fields and entries of a sheet, read from its bytes.
 
+#![tactic(auto)]
+
 ghost use Rattle.std.specs.Prelude.{◌≡◌, ◌+◌, ◌*◌, ◌<◌, ◌≤◌, length};
 ghost use Rattle.arith.specs.Bytes.{le2, le4, byte_at};
 ghost use Rattle.sheet.specs.declared.Reading.TheVariants.{Taken};

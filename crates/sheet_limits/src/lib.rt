@@ -1,5 +1,7 @@
 // Document 01, "Limits": whether the fields of a tier or a lash lie within them, a lash is on the stack, and its place in the order of lashes.
 
+#![tactic(auto)]
+
 ghost use Rattle.std.specs.Prelude.{◌≡◌, ◌<◌};
 ghost use Rattle.sheet.specs.Layout.{tier_fits, lash_fits, breaking_fits};
 ghost use Rattle.sheet.specs.Refusals.{off_tiers};

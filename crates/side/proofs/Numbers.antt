@@ -9,7 +9,7 @@ use Rattle.arith.specs.Lists.{from}
 use Rattle.sheet.specs.declared.Reading.{Reading}
 use Rattle.sheet.specs.declared.Reading.TheVariants.{Taken, Refused}
 use Rattle.sheet.specs.Layout.{tier_count, sheet_of}
-use Rattle.sheet.specs.Refusals.{row13, first, decoded}
+use Rattle.sheet.specs.Refusals.{row13, decoded}
 use Rattle.sheet.proofs.Numbers.{sheet_numbers}
 use Rattle.sheet.proofs.Refusal.{decoded_reading, refusal_of_lem}
 use Rattle.sheet.proofs.Rows.{or_else}

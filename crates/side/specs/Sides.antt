@@ -1,5 +1,5 @@
 -- Document 02, P5: what the call for side walls says that is given a stack sheet s, a second short sheet p and a side buffer.
-use Rattle.std.specs.Prelude.{ℕ, ◌+◌, List, ◌++◌, ◌≡◌, length, drop}
+use Rattle.std.specs.Prelude.{ℕ, List, ◌++◌, ◌≡◌, length, drop}
 use Rattle.sheet.specs.declared.Reading.{Reading}
 use Rattle.sheet.specs.declared.Reading.TheVariants.{Taken, Refused}
 use Rattle.sheet.specs.Layout.{tier_count, sheet_of}

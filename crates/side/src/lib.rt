@@ -1,5 +1,7 @@
 // Side walls under pitching (document 02, P5): bytes of a stack sheet and of a second short sheet in, bytes of a side answer out.
 
+#![tactic(auto)]
+
 ghost use Rattle.std.specs.Prelude.{length};
 ghost use Rattle.sheet.specs.Fits.{Fits};
 ghost use Rattle.side_walls.specs.Inner.Units.{Pitched};

@@ -1,5 +1,7 @@
 // Parts of the call for side walls (document 02, P5): the test of the short sheet, the verdict, and the tiers of a side answer.
 
+#![tactic(auto)]
+
 ghost use Rattle.std.specs.Prelude.{◌≡◌, cond, ◌++◌, ℕ, ◌+◌, ◌*◌, ◌<◌, ◌≤◌, ◌^◌, length, get_or};
 ghost use Rattle.arith.specs.Bytes.{bytes4};
 ghost use Rattle.arith.specs.Lists.{below, counted};

@@ -1,5 +1,7 @@
 // Side walls under pitching (document 02, P5): racking of each tier and shift of each level, from whole numbers rounded up once.
 
+#![tactic(auto)]
+
 ghost use Rattle.std.specs.Prelude.{◌≡◌, ℕ, ◌+◌, ◌*◌, ◌<◌, ◌≤◌, ◌^◌, get_or, replicate};
 ghost use Rattle.sheet.specs.Fits.{Fits};
 ghost use Rattle.statics.specs.Inner.Computed.{share_twentieths};
@@ -10,7 +12,7 @@ use arith::rounding::ceil_div;
 use sheet::Sheet;
 
 // Per side wall: racking of each tier in N, and shift of the level over it in thousandths of a millimetre.
-#[derive(Drop)]
+#[derive(Clone, Copy)]
 pub struct SideFigures {
     pub racking: [u64; 10],
     pub shift: [u64; 10],

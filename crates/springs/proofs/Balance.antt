@@ -1,5 +1,5 @@
 -- The test of balance, level by level: what it says where it passes, and the spring over a level.
-use mathlib.Core.Path.{◌≡◌, refl, sym, ap, subst, ◌∙◌}
+use mathlib.Core.Path.{◌≡◌, refl, sym, ap, subst}
 use mathlib.Core.Bool.{Bool, true, false, not, cond, ◌&&◌}
 use mathlib.Core.List.{List}
 use Prim.Native.Nat.{ℕ, zero, suc, ◌+◌, ◌≤◌, ◌<◌}
@@ -8,7 +8,7 @@ use native.Mathlib.Decide.{ℕ_discrete}
 use lib.Dec.{T, leb, leb→le}
 use lib.ListN.{get_or}
 use borrow.Author.Tests.{lt-ltb, le-ltb}
-use Rattle.springs.specs.Inner.Balance.{spring_at, pulled, pushed, slack_at, alike, level_in_balance, in_balance_to, in_balance}
+use Rattle.springs.specs.Inner.Balance.{spring_at, pulled, pushed, slack_at, level_in_balance, in_balance_to, in_balance}
 
 pub spring_in : (n : ℕ) (k : List ℕ) (i : ℕ) → i < n → spring_at n k i ≡ get_or k i 0
 spring_in n k i h = ap (λ b. cond b (get_or k i 0) 0) (lt-ltb i n h)

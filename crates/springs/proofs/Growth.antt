@@ -6,7 +6,7 @@ use native.Mathlib.Omega.{arith}
 use native.Mathlib.Decide.{dec_le}
 use lib.IntN.{pos}
 use lib.ListN.{length}
-use Rattle.arith.specs.Fractions.{nat, ◌≈◌, ◌⊑◌}
+use Rattle.arith.specs.Fractions.{nat}
 use Rattle.arith.proofs.Rationals.{mk, ◌≤ℚ◌, of-⊑, to-⊑}
 use Rattle.arith.proofs.Signs.{same_le}
 use Rattle.arith.proofs.FractionsInRationals.{mk_int, of-≈}

@@ -5,7 +5,7 @@ use mathlib.Core.List.{List}
 use Prim.Native.Nat.{ℕ, zero, suc, ◌+◌, ◌-◌, ◌<◌}
 use native.Mathlib.Omega.{arith}
 use lib.ListN.{length}
-use Rattle.arith.specs.Fractions.{Frac, ◌+q◌, ◌-q◌, ◌*q◌, absq, sumq, ◌⊑◌}
+use Rattle.arith.specs.Fractions.{Frac, ◌+q◌, ◌-q◌, ◌*q◌, absq, sumq}
 use Rattle.arith.specs.Lists.{from, below}
 use Rattle.arith.proofs.Rings.{∀₅, by_ring}
 use Rattle.arith.proofs.Rationals.{ℚR, ℚ, mk, ◌+ℚ◌, ◌-ℚ◌, ◌*ℚ◌, absℚ, ◌≤ℚ◌, to-⊑}

@@ -1,4 +1,7 @@
 // Whether each level of an end is in balance under given shifts, in whole numbers: the test that a candidate found in floats must pass.
+
+#![tactic(auto)]
+
 ghost use Rattle.std.specs.Prelude.{◌≡◌, ℕ, ◌+◌, ◌*◌, ◌/◌, ◌<◌, ◌≤◌, ◌^◌, leb, pos, nat_abs, ◌+ℤ◌, ◌-ℤ◌, length, get_or};
 ghost use Rattle.arith.specs.Inner.Sizes.{Small};
 ghost use Rattle.arith.specs.Inner.Rounding.{scaled_down};

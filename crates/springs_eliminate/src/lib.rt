@@ -1,6 +1,9 @@
 // The shifts of an end's levels by elimination, in whole numbers. From the top down, each level learns what stiffness and load the tiers
 // over it hand down to it; then, from the deck up, each level's shift follows from the one under it.
 // Arrays are lent as slices, so that no call copies them.
+
+#![tactic(auto)]
+
 ghost use Rattle.std.specs.Prelude.{◌≡◌, ℕ, ◌<◌, ◌≤◌, length, get_or};
 ghost use Rattle.springs.specs.Inner.Promise.{Solvable};
 ghost use Rattle.springs.specs.Inner.Elimination.{eliminated, HandedDown};

@@ -1,4 +1,7 @@
 // Shifts of an end's levels found in floats: a candidate by name, of which nothing is claimed.
+
+#![tactic(auto)]
+
 ghost use Rattle.std.specs.Prelude.{◌≡◌, ◌<◌, ◌≤◌, length, replicate};
 ghost use Rattle.springs.specs.Inner.Promise.{most_held, most_loaded, Solvable};
 ghost use Rattle.springs.specs.Inner.Candidate.{step_down, candidate, Sloped, risen, by_level};

@@ -1,5 +1,8 @@
 // Shifts of both ends' levels found in floats, in step, since then one end's divisions run beside the other's: a candidate of each end by
 // name, of which nothing is claimed.
+
+#![tactic(auto)]
+
 ghost use Rattle.std.specs.Prelude.{◌≡◌, ◌≤◌, length, replicate};
 ghost use Rattle.springs.specs.Inner.Promise.{Solvable};
 ghost use Rattle.springs.specs.Inner.Candidate.{candidate, Sloped, risen, every_fourth};

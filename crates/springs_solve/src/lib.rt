@@ -1,6 +1,9 @@
 // One end of a stack as a chain of springs: the shifts of its levels, in whole numbers. They are found in floats and tested in whole
 // numbers; where a level is out of balance under them, they are found by elimination, which takes longer.
 // Arrays are lent as slices, so that no call copies them.
+
+#![tactic(auto)]
+
 ghost use Rattle.std.specs.Prelude.{◌≡◌, ◌≤◌, length, replicate};
 ghost use Rattle.springs.specs.Inner.Promise.{Solvable, Promised};
 ghost use Rattle.springs.specs.Inner.Candidate.{candidate};

@@ -1,4 +1,7 @@
 // One step of the chain of springs, in whole numbers: what a level hands down, and its shift from the one under it.
+
+#![tactic(auto)]
+
 ghost use Rattle.std.specs.Prelude.{◌≡◌, ◌+◌, ◌≤◌};
 ghost use Rattle.springs.specs.Inner.Promise.{farthest};
 ghost use Rattle.springs.specs.Inner.Elimination.{stiffness_down, load_down, shift_up, InRange, most_load_together};

@@ -19,7 +19,7 @@ use Rattle.statics.specs.declared.Figures.{Figures}
 use Rattle.statics.specs.Inner.Computed.{figures_by, load_rule_of}
 use Rattle.answer.specs.declared.Outcome.{Outcome}
 use Rattle.answer.specs.declared.Outcome.TheVariants as O
-use Rattle.answer.specs.Answers.{answerBytes}
+use Rattle.answer.specs.Answers.{answer_bytes}
 use Rattle.answer.specs.Checked.{AnsweredBy, room_for, Checked, kept}
 use Rattle.answer.specs.Inner.Named.{answer_by, check_bytes, returned_as, written_as, returned, written}
 use Rattle.answer.proofs.Named.{answer_by_named, check_named}
@@ -44,14 +44,14 @@ module _ (c : LoadRule) (t : Sheet) (before : List ℕ) where
       {f : Figures} {n : ℕ} {after : List ℕ} →
       834 ≤ length before →
       f ≡ figures_by c t →
-      n ≡ length (answerBytes t f) →
-      after ≡ answerBytes t f ++ drop (length (answerBytes t f)) before →
+      n ≡ length (answer_bytes t f) →
+      after ≡ answer_bytes t f ++ drop (length (answer_bytes t f)) before →
       ByName after (O.Taken n)
   unfolding first
   answered {f} h e size stored =
       simp (le-ltb (length before) 834 h) (
-        ap O.Taken (size ∙ ap (λ (g : Figures). length (answerBytes t g)) e),
-        stored ∙ ap (λ (g : Figures). answerBytes t g ++ drop (length (answerBytes t g)) before) e,
+        ap O.Taken (size ∙ ap (λ (g : Figures). length (answer_bytes t g)) e),
+        stored ∙ ap (λ (g : Figures). answer_bytes t g ++ drop (length (answer_bytes t g)) before) e,
       )
 
   pub by_rule : {after : List ℕ} {r : Outcome} → Fits t → ByName after r → AnsweredBy kept c t before after r

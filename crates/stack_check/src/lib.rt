@@ -1,6 +1,8 @@
 // The check: bytes of a stack sheet in, bytes of an answer out; and the answer to a taken sheet with other tiers than its own, for calls
 // whose sheet no bytes hold.
 
+#![tactic(auto)]
+
 ghost use Rattle.std.specs.Prelude.{◌≡◌, ◌≤◌, length};
 ghost use Rattle.sheet.specs.declared.Reading.TheVariants.{Taken};
 ghost use Rattle.sheet.specs.Fits.{Fits};

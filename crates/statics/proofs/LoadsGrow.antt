@@ -7,7 +7,7 @@ use native.Mathlib.Nat.{mul-le-mul, le_of_eq}
 use native.Mathlib.Omega.{arith}
 use lib.ListN.{get_or}
 use lib.IntN.{pos}
-use Rattle.arith.specs.Fractions.{nat, ◌*q◌, ◌⊑◌}
+use Rattle.arith.specs.Fractions.{nat, ◌*q◌}
 use Rattle.arith.proofs.Rings.{∀₂, ∀₅, ∀₆, ∀₈, by_cert, part, to, times, num, ◌⊞◌, ◌⊠◌}
 use Rattle.arith.proofs.Polynomials.{v, kp, kn, ◌⊖◌, ⊖◌}
 use Rattle.arith.proofs.Rationals.{ℚR, ℚ, mk, ◌+ℚ◌, ◌-ℚ◌, ◌*ℚ◌, ◌≤ℚ◌, nn_int, to-⊑, of-⊑}

@@ -9,7 +9,7 @@ use lib.Dec.{leb, ltb}
 use lib.ListN.{drop, length, length-drop}
 use lib.Seq.{get_or-drop}
 use Rattle.sheet.specs.Lashings.{level_of}
-use Rattle.arith.specs.Fractions.{Frac, nat, ◌+q◌, ◌-q◌, ◌*q◌, ◌≈◌, sumq}
+use Rattle.arith.specs.Fractions.{Frac, nat, ◌+q◌, ◌-q◌, ◌*q◌, sumq}
 use Rattle.arith.proofs.Rationals.{ℚ, mk, int, ◌+ℚ◌, ◌-ℚ◌, ◌*ℚ◌, negℚ}
 use Rattle.arith.proofs.FractionsInRationals.{sumℚ, mk_sum, mk_sub, mk_add, mk_mul, to-≈, of-≈}
 use Rattle.springs.specs.Equations as S

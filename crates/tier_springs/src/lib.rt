@@ -1,5 +1,7 @@
 // The springs of the tiers at both ends, by how each box stands.
 
+#![tactic(auto)]
+
 ghost use Rattle.std.specs.Prelude.{cond, ◌≡◌, ◌≤◌, take, replicate};
 ghost use Rattle.sheet.specs.Ends.{door, closed};
 ghost use Rattle.sheet.specs.Layout.{turned};

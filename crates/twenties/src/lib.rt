@@ -1,12 +1,14 @@
 // Twenties in forty-foot guides (document 02, P12): whether the masses of a stack of 20-ft boxes are within CR Tables 5-2 and 5-3.
 
+#![tactic(auto)]
+
 mod tables; // tables.rt: the two tables
 
 ghost use Rattle.std.specs.Prelude.{◌≡◌, ◌<◌, ◌≤◌, ◌^◌, length};
 ghost use Rattle.twenties.specs.Judgements.{permitted, total, all_fit, judgement};
 
 // Yes or no, with the total of all tiers but the lowest and the permitted mass, in kg.
-#[derive(Drop)]
+#[derive(Clone, Copy)]
 pub struct Verdict {
     pub yes: bool,
     pub total: u64,
@@ -14,7 +16,7 @@ pub struct Verdict {
 }
 
 // A verdict, or the two numbers of a refusal.
-#[derive(Drop)]
+#[derive(Clone, Copy)]
 pub enum Judgement {
     Given(Verdict),
     Refused(u64, usize),

@@ -10,11 +10,11 @@ use Rattle.statics.specs.declared.LoadRule.{LoadRule}
 use Rattle.statics.specs.Inner.Computed.{figures_by, load_rule_of}
 use Rattle.answer.specs.declared.Outcome.{Outcome}
 use Rattle.answer.specs.declared.Outcome.TheVariants as O
-use Rattle.answer.specs.Answers.{answerBytes}
+use Rattle.answer.specs.Answers.{answer_bytes}
 
 -- the bytes of the answer to a decoded sheet, by the rule c
 abbrev pub answer_by : LoadRule → Sheet → List ℕ
-answer_by c t = answerBytes t (figures_by c t)
+answer_by c t = answer_bytes t (figures_by c t)
 
 -- what is returned and what a buffer that held `before` holds then, by cases on a refusal
 abbrev pub returned_as : Reading → List ℕ → Outcome

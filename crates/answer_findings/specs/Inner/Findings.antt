@@ -1,5 +1,5 @@
 -- Contracts of inner functions; nothing here need be believed.
-use Rattle.std.specs.Prelude.{◌≡◌, ℕ, ◌-◌, ◌*◌, ◌≤◌, ℤ, pos, nat_abs, get_or, length}
+use Rattle.std.specs.Prelude.{◌≡◌, ℕ, ◌-◌, ◌≤◌, ℤ, pos, nat_abs, get_or, length}
 use mathlib.Core.List.{List, ◌++◌, flat_map}
 use Rattle.sheet.specs.declared.Lash.{Lash}
 use Rattle.sheet.specs.declared.Sheet.{Sheet}
@@ -9,7 +9,7 @@ use Rattle.statics.specs.Inner.InArrays.{figures_in}
 use Rattle.sheet.specs.Ends.{door, closed, lashes_of}
 use Rattle.answer.specs.Limits.{racking_limit, compression_limit, lash_vertical_limit, lash_athwart_limit}
 use Rattle.answer.specs.Findings.{findings}
-use Rattle.answer.specs.Answers.{findingBytes}
+use Rattle.answer.specs.Answers.{finding_bytes}
 use Rattle.answer_put.specs.Inner.Puts.{Put, lash_limit, findings_over}
 use Rattle.limits.specs.declared.PullLimit.{PullLimit}
 
@@ -36,7 +36,7 @@ lash_findings end ls m f =
 
 -- the findings put into a buffer of words from its start, and their count
 pub record PutFindings (t : Sheet) (f : Figures) (before after : List ℕ) (count : ℕ) : Type 0 where
-  pub put : Put before 0 (flat_map findingBytes (findings t f)) after count
+  pub put : Put before 0 (flat_map finding_bytes (findings t f)) after count
   pub counts : count ≡ length (findings t f)
   pub few : count ≤ 108
 

@@ -1,0 +1,9 @@
+-- `cases_arrangements::ask` lends a buffer of the length asked for.
+use mathlib.Core.Path.{sym}
+use native.Mathlib.Omega.{arith}
+use lib.Seq.{length-take-le}
+use borrow.Author.Rules.{rules}
+use Rattle.cases_arrangements.proofs.ask.Goals as goal
+
+pub slice_bounds-list-end : goal.slice_bounds-list-end
+slice_bounds-list-end c = sym (length-take-le _ _ (omega arith))

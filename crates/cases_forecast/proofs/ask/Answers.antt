@@ -1,0 +1,9 @@
+-- `cases_forecast::ask` lends a buffer of the length asked for.
+use mathlib.Core.Path.{sym}
+use native.Mathlib.Omega.{arith}
+use lib.Seq.{length-take-le}
+use borrow.Author.Rules.{rules}
+use Rattle.cases_forecast.proofs.ask.Goals as goal
+
+pub slice_bounds-answer-end : goal.slice_bounds-answer-end
+slice_bounds-answer-end c = sym (length-take-le _ _ (omega arith))

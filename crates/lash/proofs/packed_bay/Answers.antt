@@ -1,0 +1,33 @@
+-- `lash::packed_bay`: the three numbers of each case, packed.
+use native.Mathlib.Omega.{arith}
+use borrow.Author.Rules.{rules}
+use Rattle.lash.proofs.BayNumber.{bay_case_small, bay_case_packed}
+use Rattle.lash.proofs.packed_bay.Goals as goal
+
+pub joined-requires : goal.joined-requires
+joined-requires c =
+    let small = bay_case_small c.in-Taken.is c.requires in
+    (omega arith, omega (arith, small.1))
+
+pub joined-requires-in-Refused : goal.joined-requires-in-Refused
+joined-requires-in-Refused c =
+    let small = bay_case_small c.in-Refused.is c.requires in
+    (omega (arith, small.0), omega (arith, small.1))
+
+pub overflow_mul-result : goal.overflow_mul-result
+overflow_mul-result c =
+    let small = bay_case_small c.in-Refused.is c.requires in
+    omega (arith, small.2)
+
+pub overflow_add-result : goal.overflow_add-result
+overflow_add-result c =
+    let small = bay_case_small c.in-Refused.is c.requires in
+    omega (arith, c.joined-in-Refused.ensures, small.0, small.1, small.2)
+
+pub returns-in-Taken : goal.returns-in-Taken
+returns-in-Taken c =
+    bay_case_packed c.in-Taken.is c.joined.result (omega (arith, c.joined.ensures))
+
+pub returns-in-Refused : goal.returns-in-Refused
+returns-in-Refused c =
+    bay_case_packed c.in-Refused.is _ (omega (arith, c.joined-in-Refused.ensures))

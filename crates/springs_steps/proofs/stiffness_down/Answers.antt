@@ -1,0 +1,25 @@
+-- `springs_steps::stiffness_down` meets its contract: where nothing is held, by Unheld; else its product and its divisor are in range by Ranges.
+use mathlib.Core.Path.{sym}
+use Prim.Native.Nat.{◌+◌, ◌*◌}
+use native.Mathlib.Nat.{mul-le-mul_right}
+use native.Mathlib.Omega.{arith}
+use Rattle.springs.specs.Inner.Elimination.{stiffness_down}
+use Rattle.springs.proofs.Ranges.{scalable, stiffness_fits}
+use Rattle.springs_steps.proofs.Unheld.{stiffness_unheld}
+use borrow.Author.Rules.{rules}
+use Rattle.springs_steps.proofs.stiffness_down.Goals as goal
+
+pub returns-then-stiffness-eq0 : goal.returns-then-stiffness-eq0
+returns-then-stiffness-eq0 c = let a = c.args in sym (stiffness_unheld a.k a.kappa a.x (omega arith) c.if-stiffness-eq0.true)
+
+pub overflow_mul-k : goal.overflow_mul-k
+overflow_mul-k c = let a = c.args in omega (arith, mul-le-mul_right (a.kappa + a.x) c.requires.high)
+
+pub scaled-requires : goal.scaled-requires
+scaled-requires c =
+    let a = c.args in
+    scalable a.k a.kappa a.x c.requires (a.k * (a.kappa + a.x)) (stiffness_fits a.k a.kappa a.x c.requires)
+
+pub returns : goal.returns
+unfolding stiffness_down
+returns c = search rules
