@@ -12,7 +12,6 @@ use Rattle.sheet.specs.Layout.{sheet_of}
 use Rattle.sheet.specs.Refusals.{first, sheet_rows, decoded, longest_answer}
 use Rattle.sheet.proofs.Refusal.{decoded_reading, all_taken}
 use Rattle.statics.specs.Loads.{rule_of}
-use Rattle.answer.specs.declared.Outcome.TheVariants as O
 use Rattle.answer.specs.Checked.{kept, demanded}
 use Rattle.answer.specs.Theorems.{DemandThree}
 use Rattle.answer.specs.Inner.Named.{check_bytes, returned_as, written_as, returned, written}

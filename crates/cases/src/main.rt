@@ -23,6 +23,7 @@ use layout::{Case, Item};
 
 // File descriptors of standard input and output.
 const STDIN_FILENO: i32 = 0;
+
 const STDOUT_FILENO: i32 = 1;
 
 fn main() {

@@ -13,6 +13,7 @@ use arith::bytes;
 
 // File descriptors of standard input and output.
 const STDIN_FILENO: i32 = 0;
+
 const STDOUT_FILENO: i32 = 1;
 
 fn main() {

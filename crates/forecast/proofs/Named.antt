@@ -20,7 +20,6 @@ use Rattle.statics.proofs.EndChain.{rule_stands}
 use Rattle.answer.specs.Checked.{AnsweredAs, kept}
 use Rattle.answer.specs.Inner.Named.{returned_as, written_as}
 use Rattle.answer.proofs.Named.{answer_named}
-use Rattle.forecast_factor.specs.Factor.{factor}
 use Rattle.forecast_factor.proofs.Enough.{factor_most}
 use Rattle.forecast.specs.Forecasts.{forecast_rule, forecast_rows, forecast_refusal, Forecast}
 use Rattle.forecast.specs.Inner.Named.{forecast_load_rule, forecast_bytes, forecast_returned, forecast_written}

@@ -1,5 +1,5 @@
 -- The two numbers that the call returns: 0 to 21, and at most 834.
-use Prim.Native.Nat.{ℕ, ◌≤◌}
+use Prim.Native.Nat.{ℕ}
 use mathlib.Core.List.{List}
 use mathlib.Core.Path.{subst}
 use lib.Dec.{lit≤}

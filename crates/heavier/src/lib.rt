@@ -2,4 +2,3 @@
 // proofs/; it has no functions.
 
 #![tactic(auto)]
-

@@ -11,7 +11,9 @@ use Rattle.answer_write.proofs.write_rackings.Given as goal
 
 abbrev pub invariant-loop-i : goal.invariant-loop-i
 invariant-loop-i l =
-    (l.i ≤ l.n) × (l.next ≡ l.initial.next + 4 * l.i) × Wrote l.initial.answer l.initial.next (flat_map (λ k. bytes4 (twos (get_or l.xs k (pos 0)))) (below l.i)) l.answer l.next
+    (l.i ≤ l.n)
+    × (l.next ≡ l.initial.next + 4 * l.i)
+    × Wrote l.initial.answer l.initial.next (flat_map (λ k. bytes4 (twos (get_or l.xs k (pos 0)))) (below l.i)) l.answer l.next
 
 abbrev pub decreases-loop-i : goal.decreases-loop-i
 decreases-loop-i l = l.n - l.i

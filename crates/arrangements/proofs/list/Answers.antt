@@ -1,6 +1,5 @@
 -- `arrangements::list`: the sheet's own refusals, then what `list_gear` says of a taken one (Named).
 use Rattle.arrangements.proofs.Named.{sheet_refused, sheet_fits, sheet_taken}
-use borrow.Author.Rules.{rules}
 use Rattle.arrangements.proofs.list.Goals as goal
 
 pub list_gear-requires : goal.list_gear-requires
@@ -17,5 +16,6 @@ returns-in-Refused c =
 pub returns-in-Taken : goal.returns-in-Taken
 returns-in-Taken c =
     let a = c.args in
-    let e = sheet_taken a.sheet.now a.gear.now a.list.now c.decode-decoded.result c.decode-decoded.ensures c.in-Taken.is c.list_gear.ensures in
+    let e =
+    sheet_taken a.sheet.now a.gear.now a.list.now c.decode-decoded.result c.decode-decoded.ensures c.in-Taken.is c.list_gear.ensures in
     record { listed = e.0; named = e.1 }

@@ -2,7 +2,6 @@
 use Rattle.arrangements.proofs.Refusals.{short, listed}
 use Rattle.arrangements.specs.Inner.Named.{list_for}
 use lib.ListN.{take}
-use borrow.Author.Rules.{rules}
 use Rattle.arrangements.proofs.list_aboard.Goals as goal
 
 pub returns-then-list-lt-LONGEST : goal.returns-then-list-lt-LONGEST

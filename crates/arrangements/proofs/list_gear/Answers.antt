@@ -1,6 +1,5 @@
 -- `arrangements::list_gear`: a sheet that holds a lash, a gear section turned back, or the list (Refusals).
 use Rattle.arrangements.proofs.Refusals.{lash_held, gear_refused, gear_aboard, gear_taken}
-use borrow.Author.Rules.{rules}
 use Rattle.arrangements.proofs.list_gear.Goals as goal
 
 pub returns-then-t : goal.returns-then-t

@@ -5,7 +5,6 @@ use lib.ListN.{take}
 use Rattle.sheet.proofs.SheetLimits.{sheet_limits}
 use Rattle.limits.specs.Inner.LowerOf.{lower_of}
 use Rattle.arrangements.proofs.Bytes.{whole}
-use borrow.Author.Rules.{rules}
 use Rattle.arrangements.proofs.write_list.Goals as goal
 
 pub loads_of-requires : goal.loads_of-requires

@@ -21,7 +21,13 @@ figures_at-requires c =
     let p = c.requires in
     let e = p.end_given in
     let l = p.lashes_measured in
-    record { workable = without_loads e.works; k_len = (e.long.0, e.long.1, omega arith, e.long.3); lashes_measured = (l, c.solve-d.ensures.promised.far); lengths_len = (l.long.long, l.stiff.long); racking_value = (refl, refl, refl) }
+    record {
+      workable = without_loads e.works;
+      k_len = (e.long.0, e.long.1, omega arith, e.long.3);
+      lashes_measured = (l, c.solve-d.ensures.promised.far);
+      lengths_len = (l.long.long, l.stiff.long);
+      racking_value = (refl, refl, refl);
+    }
 
 pub no_finding-requires : goal.no_finding-requires
 no_finding-requires c =

@@ -1,6 +1,5 @@
 -- `arrangements_list::choices_of`: the table's entries are the powers of 2.
 use Rattle.arrangements_list.proofs.Walk.{power}
-use borrow.Author.Rules.{rules}
 use Rattle.arrangements_list.proofs.choices_of.Goals as goal
 
 pub returns : goal.returns

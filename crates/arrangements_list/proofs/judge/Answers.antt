@@ -10,7 +10,6 @@ use Rattle.choices.specs.Choices.{chosen}
 use Rattle.gear.specs.Gear.{with_lashes}
 use Rattle.arrangements_judge.specs.Inner.Judged.{accepted_with}
 use Rattle.arrangements_list.proofs.Walk.{held_back, held_by_name}
-use borrow.Author.Rules.{rules}
 use Rattle.arrangements_list.proofs.judge.Goals as goal
 
 pub returns-then-all-choice : goal.returns-then-all-choice
@@ -21,14 +20,22 @@ returns-then-all-choice c =
 pub gather-g-requires : goal.gather-g-requires
 gather-g-requires c =
     let g = c.requires.gear_given in
-    record { m_bound = (g.few, g.each); lashes_measured = g.measured; lengths_len = (g.measured.long.long, g.measured.stiff.long); long_value = (refl, refl, refl) }
+    record {
+      m_bound = (g.few, g.each);
+      lashes_measured = g.measured;
+      lengths_len = (g.measured.long.long, g.measured.stiff.long);
+      long_value = (refl, refl, refl);
+    }
 
 pub accepts-requires : goal.accepts-requires
 accepts-requires c =
     let ls = chosen c.args.choice (take c.args.m c.args.lashes) in
     let e = c.gather-g.ensures in
     let fits = c.requires.gear_given.fits c.args.choice in
-    record { stack_given = c.requires.stack_given; kappa_value = (held_by_name ls e, subst (λ (l : List Lash). Fits (with_lashes l c.args.t)) (sym (held_back ls e)) fits) }
+    record {
+      stack_given = c.requires.stack_given;
+      kappa_value = (held_by_name ls e, subst (λ (l : List Lash). Fits (with_lashes l c.args.t)) (sym (held_back ls e)) fits);
+    }
 
 pub returns : goal.returns
 returns c =

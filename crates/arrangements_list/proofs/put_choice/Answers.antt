@@ -3,7 +3,6 @@ use mathlib.Core.List.{[], ◌∷◌}
 use mathlib.Core.Path.{refl}
 use native.Mathlib.Omega.{arith}
 use Rattle.answer_write.proofs.Stores.{none, run}
-use borrow.Author.Rules.{rules}
 use Rattle.arrangements_list.proofs.put_choice.Goals as goal
 
 pub returns-then-not-accepted : goal.returns-then-not-accepted

@@ -1,10 +1,8 @@
 -- `arrangements_list::put_choices`: after i turns the accepted ones of the first i choices are put (Walk).
 use Prim.Native.Nat.{◌+◌, ◌-◌, ◌≤◌}
-use native.Mathlib.Omega.{arith}
 use lib.ListN.{take}
-use borrow.Author.Rules.{rules}
 use Rattle.answer_write.specs.Inner.Encoding.{Wrote}
-use Rattle.arrangements_list.proofs.Walk.{up_to, none_listed, one_listed, all_passed}
+use Rattle.arrangements_list.proofs.Walk.{up_to}
 use Rattle.arrangements_list.proofs.put_choices.Given as goal
 
 abbrev pub invariant-loop-i : goal.invariant-loop-i

@@ -1,6 +1,5 @@
 -- `bay::put_report`: the rows from byte 9 on, then the totals in front of them (Whole).
 use Prim.Native.Nat.{◌≤◌}
-use borrow.Author.Rules.{rules}
 use Rattle.bay_rows.proofs.Readings.{sound}
 use Rattle.bay.proofs.Whole.{report_length, report_stored}
 use Rattle.bay.proofs.put_report.Goals as goal

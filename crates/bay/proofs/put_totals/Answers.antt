@@ -1,9 +1,7 @@
 -- `bay::put_totals`: three stores, one behind another.
 use mathlib.Core.Path.{ap, ◌∙◌}
-use borrow.Author.Rules.{rules}
 use lib.Seq.{sets}
 use Rattle.arith.specs.Bytes.{bytes4}
-use Rattle.bay_answer.specs.declared.Totals.{Totals}
 use Rattle.bay.proofs.put_totals.Goals as goal
 
 pub returns : goal.returns

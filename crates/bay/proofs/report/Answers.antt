@@ -1,6 +1,5 @@
 -- `bay::report`: the refusals in their order, then the report (Named).
 use mathlib.Core.Path.{sym, ◌∙◌}
-use borrow.Author.Rules.{rules}
 use Rattle.bay.proofs.Named.{refused, too_short, reported}
 use Rattle.bay.proofs.report.Goals as goal
 

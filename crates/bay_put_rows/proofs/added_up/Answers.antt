@@ -1,5 +1,4 @@
 -- `bay_put_rows::added_up`: sums, and the larger racking.
-use borrow.Author.Rules.{rules}
 use Rattle.bay_put_rows.proofs.added_up.Goals as goal
 
 pub returns : goal.returns

@@ -1,5 +1,5 @@
 -- `bay_put_rows::put_rows`: after k turns the buffer holds the first k rows, and the totals are theirs (Steps).
-use Prim.Native.Nat.{ℕ, ◌+◌, ◌*◌, ◌-◌, ◌<◌, ◌≤◌}
+use Prim.Native.Nat.{ℕ, ◌+◌, ◌<◌, ◌≤◌}
 use mathlib.Core.List.{List, ◌++◌}
 use mathlib.Core.Path.{◌≡◌, refl, sym, ap, ap₂, subst, ◌∙◌}
 use native.Mathlib.Omega.{arith}
@@ -8,14 +8,16 @@ use borrow.Author.Rules.{rules}
 use lib.ListN.{length, drop, length-drop}
 use Rattle.sheet.specs.Layout.{sheet_of}
 use Rattle.bay_wind.specs.Exposure.{neighbours_of, sheet_in_bay}
-use Rattle.bay_rows.specs.Bay.{row_place, row_of, outlines}
+use Rattle.bay_rows.specs.declared.BayReading.TheVariants.{Taken}
+use Rattle.bay_rows.specs.Bay.{row_count, row_place}
+use Rattle.bay_rows.specs.Refusals.{rows_refusal}
 use Rattle.bay_rows.proofs.Places.{place_first, next_is, row_there, row_is}
 use Rattle.bay_rows.proofs.Readings.{Sound, sound}
 use Rattle.bay_answer.specs.declared.Totals.{Totals}
 use Rattle.bay_answer.specs.Rows.{row_bytes}
 use Rattle.bay_answer.specs.Inner.Totalled.{row_totals, Bounded}
 use Rattle.bay_put.specs.Inner.Answered.{answer_in}
-use Rattle.bay_put_rows.specs.Inner.Together.{answer_at, rows_bytes, totals_of}
+use Rattle.bay_put_rows.specs.Inner.Together.{rows_bytes, totals_of}
 use Rattle.bay_put_rows.proofs.Steps.{rows_are, totals_none, totals_more, bounded_none, bounded_more}
 use Rattle.bay_put_rows.proofs.Steps.{stored_none, stored_more, same_room}
 use Rattle.bay_put_rows.proofs.put_rows.Goals as goal
@@ -33,18 +35,17 @@ module _ (bay : List ℕ) (taken : rows_refusal bay ≡ Taken) {n : ℕ} (count 
 
 -- room is left for one row more
 room :
-    {k n start : ℕ} {totals : Totals} {report : List ℕ} →
+    (report : List ℕ) {k n start : ℕ} {totals : Totals} →
     n ≤ 24 →
     k < n →
     Bounded k totals →
     length report ≡ start →
     20064 ≤ start →
     totals.length + 836 ≤ length report
-room few more bounded same enough = omega (arith, bounded.length, same, enough, few, more)
+room report some more bounded same enough = omega (arith, bounded.length, same, enough, some, more)
 
 pub outlines-rows-requires : goal.outlines-rows-requires
-outlines-rows-requires c =
-    (few c.before.before, c.requires.1, c.requires.0)
+outlines-rows-requires c = (few c.args.bay.now c.requires.0 c.requires.1, c.requires.1, c.requires.0)
 
 pub loop-k-init : goal.loop-k-init
 loop-k-init c =
@@ -62,31 +63,35 @@ loop-k-init c =
 pub neighbours_of-near-requires : goal.neighbours_of-near-requires
 neighbours_of-near-requires c =
     let o = c.outlines-rows.ensures in
-    (omega (arith, c.loop-k-test.true), omega (arith, few c.before.before.before.before.before.before.before.before.before.before, o.1), o.2 ∙ sym o.1)
+    (omega (arith, c.loop-k-test.true), omega (arith, few c.args.bay.now c.requires.0 c.requires.1, o.1), o.2 ∙ sym o.1)
 
 pub row_at-requires : goal.row_at-requires
-row_at-requires c = (
-  omega (arith, c.loop-k.invariant.2, few c.before.before.before.before.before.before.before.before.before.before.before, c.loop-k-test.true),
-  row_there c.args.bay.now c.loop-k.k c.loop-k.invariant.1 c.args.n c.loop-k-test.true (ends c.before.before.before.before.before.before.before.before.before.before.before),
-)
+row_at-requires c =
+    let bay = c.args.bay.now in (
+      omega (arith, c.loop-k.invariant.2, few bay c.requires.0 c.requires.1, c.loop-k-test.true),
+      row_there bay c.loop-k.k c.loop-k.invariant.1 c.args.n c.loop-k-test.true (ends bay c.requires.0 c.requires.1),
+    )
 
 pub slice_bounds-put_row-count : goal.slice_bounds-put_row-count
-slice_bounds-put_row-count c = omega (arith, room c.before.before.before.before.before c.loop-k-test.true)
-
-pub UNKNOWN-slice-bounds-put-row-start : goal.UNKNOWN-slice-bounds-put-row-start
-UNKNOWN-slice-bounds-put-row-start c = omega (arith, room c c.loop-k-test.true)
+slice_bounds-put_row-count c =
+    let l = c.loop-k.invariant in
+    omega (arith, room c.loop-k.report (few c.args.bay.now c.requires.0 c.requires.1) c.loop-k-test.true l.4 l.6 c.requires.2)
 
 pub put_row-row-requires : goal.put_row-row-requires
-put_row-row-requires c = (
-  rw (row_handed c.before) ((bay-sound c.before.before.before.before.before.before.before.before.before.before.before.before.before).rows c.loop-k.k (rw c.requires.1 at c.loop-k-test.true)),
-  rw (part_to_end c.loop-k.report c.loop-k.totals.length, length-drop) (omega (arith, room c.before.before.before.before.before.before c.loop-k-test.true)),
-)
+put_row-row-requires c =
+    let bay = c.args.bay.now in
+    let l = c.loop-k.invariant in
+    let row = row_is bay c.loop-k.k l.1 c.row_at.ensures in
+    let left = room c.loop-k.report (few bay c.requires.0 c.requires.1) c.loop-k-test.true l.4 l.6 c.requires.2 in (
+      rw row ((bay-sound bay c.requires.0 c.requires.1).rows c.loop-k.k (rw c.requires.1 at c.loop-k-test.true)),
+      rw (part_to_end c.loop-k.report c.loop-k.totals.length, length-drop) (omega (arith, left)),
+    )
 
 pub added_up-totals-requires : goal.added_up-totals-requires
 added_up-totals-requires c =
     let x = c.loop-k.invariant.4 in
     let y = c.put_row-row.ensures.1 in
-    let h = few c.before.before.before.before.before.before.before.before.before.before.before.before.before.before.before.before in
+    let h = few c.args.bay.now c.requires.0 c.requires.1 in
     let k = c.loop-k.invariant.0 in (
       omega (arith, x.length, h, k),
       omega (arith, y.length),
@@ -98,30 +103,36 @@ added_up-totals-requires c =
 
 pub next_place-at-requires : goal.next_place-at-requires
 next_place-at-requires c =
-    omega (arith, c.loop-k.invariant.2, few c.before.before.before.before.before.before.before.before.before.before.before.before.before.before.before.before.before, c.loop-k-test.true)
+    omega (arith, c.loop-k.invariant.2, few c.args.bay.now c.requires.0 c.requires.1, c.loop-k-test.true)
 
 pub overflow_add-k : goal.overflow_add-k
-overflow_add-k c =
-    omega (arith, few c.before.before.before.before.before.before.before.before.before.before.before.before.before.before.before.before.before.before, c.loop-k-test.true)
+overflow_add-k c = omega (arith, few c.args.bay.now c.requires.0 c.requires.1, c.loop-k-test.true)
 
 pub loop-k-preserved : goal.loop-k-preserved
 loop-k-preserved c =
     let bay = c.args.bay.now in
     let k = c.loop-k.k in
+    let l = c.loop-k.invariant in
     let e = c.next_place-at.ensures in
     let row = c.put_row-row.ensures in
-    let totals = row.0 ∙ ap₂ (λ near s. row_totals (sheet_in_bay near (sheet_of s)) (answer_in near s)) (near_is c.before.before.before.before.before.before) (row_handed c.before.before.before.before.before.before) in
-    let to = ap (λ (t : Totals). t.length) c.loop-k.invariant.3 in
+    let row_handed = row_is bay k l.1 c.row_at.ensures in
+    let near_is = c.neighbours_of-near.ensures
+    ∙ ap (λ rows. neighbours_of rows k) (rows_are bay c.args.n c.outlines-rows.ensures.0 c.requires.1) in
+    let answered = answer_in c.neighbours_of-near.result c.row_at.result.now in
+    let answer_is = ap₂ answer_in near_is row_handed in
+    let totals = row.0 ∙ ap₂ (λ near s. row_totals (sheet_in_bay near (sheet_of s)) (answer_in near s)) near_is row_handed in
+    let to = ap (λ (t : Totals). t.length) l.3 in
     let size = ap (λ (t : Totals). t.length) row.0 in
-    let space : c.loop-k.totals.length + length (row_bytes (answered c.before.before.before.before.before.before)) ≤ length c.loop-k.report =
-    omega (arith, size, row.1.length, room c.before.before.before.before.before.before.before.before.before.before.before c.loop-k-test.true) in (
+    let left = room c.loop-k.report (few bay c.requires.0 c.requires.1) c.loop-k-test.true l.4 l.6 c.requires.2 in
+    let space : c.loop-k.totals.length + length (row_bytes answered) ≤ length c.loop-k.report =
+    omega (arith, size, row.1.length, left) in (
       search rules,
-      next_is bay k c.loop-k.invariant.1 e.0,
-      omega (arith, c.loop-k.invariant.2, e.1),
-      totals_more bay k c.loop-k.invariant.3 totals c.added_up-totals.ensures,
-      bounded_more k c.loop-k.invariant.4 row.1 c.added_up-totals.ensures,
-      stored_more bay k c.args.report.now c.loop-k.invariant.5 to space row.2 (answer_is c.before.before.before.before.before.before),
-      same_room (row_bytes (answered c.before.before.before.before.before.before)) c.loop-k.report c.loop-k.totals.length space row.2 ∙ c.loop-k.invariant.6,
+      next_is bay k l.1 e.0,
+      omega (arith, l.2, e.1),
+      totals_more bay k l.3 totals c.added_up-totals.ensures,
+      bounded_more k l.4 row.1 c.added_up-totals.ensures,
+      stored_more bay k c.args.report.now l.5 to space row.2 answer_is,
+      same_room (row_bytes answered) c.loop-k.report c.loop-k.totals.length space row.2 ∙ l.6,
     )
 
 pub shape_of-report : goal.shape_of-report

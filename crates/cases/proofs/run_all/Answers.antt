@@ -6,12 +6,12 @@ use borrow.Author.Rules.{rules}
 use Rattle.cases.proofs.run_all.Goals as goal
 
 pub run-requires : goal.run-requires
-run-requires c = (rw c.case-1.given.1 at c.case_at.ensures.1).0
+run-requires c = c.in-Whole.ensures.1.0
 
 pub loop-at-smaller : goal.loop-at-smaller
 loop-at-smaller c =
-    let there = rw c.case-1.given.1 at c.case_at.ensures.1 in
-    omega arith
+    let there = c.in-Whole.ensures.1 in
+    omega (arith, there.0.end_input, there.1)
 
 pub loop-at-preserved : goal.loop-at-preserved
-loop-at-preserved c = (rw c.case-1.given.1 at c.case_at.ensures.1).0.end_input
+loop-at-preserved c = c.in-Whole.ensures.1.0.end_input

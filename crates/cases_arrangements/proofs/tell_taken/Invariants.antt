@@ -5,7 +5,7 @@ use borrow.Author.Rules.{rules}
 use Rattle.cases_arrangements.proofs.tell_taken.Given as goal
 
 abbrev pub invariant-loop-at : goal.invariant-loop-at
-invariant-loop-at l = {- parameters: l.list l.n l.initial.at l.at t9 t10 at vs l.list l.n l.initial.at l.at -} (at ≤ l.n) × (l.n ≤ length l.list)
+invariant-loop-at l = (l.at ≤ l.n) × (l.n ≤ length l.list)
 
 abbrev pub decreases-loop-at : goal.decreases-loop-at
-decreases-loop-at l = {- parameters: l.list l.n l.initial.at l.at t9 t10 at vs l.list l.n l.initial.at l.at -} l.n - at
+decreases-loop-at l = l.n - l.at

@@ -4,7 +4,7 @@ use borrow.Author.Rules.{rules}
 use Rattle.cases_bay.proofs.tell_rows.Given as goal
 
 abbrev pub invariant-loop-left : goal.invariant-loop-left
-invariant-loop-left l = {- parameters: l.bay l.report l.initial.left l.initial.at l.left l.at t8 left at vs l.bay l.report l.initial.left l.initial.at l.left l.at -} at ≤ 100000
+invariant-loop-left l = l.at ≤ 100000
 
 abbrev pub decreases-loop-left : goal.decreases-loop-left
-decreases-loop-left l = {- parameters: l.bay l.report l.initial.left l.initial.at l.left l.at t8 left at vs l.bay l.report l.initial.left l.initial.at l.left l.at -} left
+decreases-loop-left l = l.left

@@ -1,7 +1,6 @@
 -- `cases_preview::preview_all` ends: each move is 512 bytes.
 use Prim.Native.Nat.{◌-◌, ◌≤◌}
 use lib.ListN.{length}
-use borrow.Author.Rules.{rules}
 use Rattle.cases_preview.proofs.preview_all.Given as goal
 
 abbrev pub invariant-loop-at : goal.invariant-loop-at

@@ -5,7 +5,7 @@ use borrow.Author.Rules.{rules}
 use Rattle.cases_side.proofs.tell_taken.Given as goal
 
 abbrev pub invariant-loop-at : goal.invariant-loop-at
-invariant-loop-at l = {- parameters: l.answer l.n l.initial.at l.at t9 t10 t11 at vs l.answer l.n l.initial.at l.at -} (at ≤ l.n) × (l.n ≤ length l.answer)
+invariant-loop-at l = (l.at ≤ l.n) × (l.n ≤ length l.answer)
 
 abbrev pub decreases-loop-at : goal.decreases-loop-at
-decreases-loop-at l = {- parameters: l.answer l.n l.initial.at l.at t9 t10 t11 at vs l.answer l.n l.initial.at l.at -} l.n - at
+decreases-loop-at l = l.n - l.at

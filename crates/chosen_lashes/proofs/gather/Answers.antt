@@ -25,9 +25,11 @@ hook_level-at-requires c =
 
 pub overflow_add-levels : goal.overflow_add-levels
 overflow_add-levels c =
-    let counted : length (take c.args.m c.args.lashes) ≡ c.args.m = length-take-le c.args.m c.args.lashes (omega (arith, c.requires.m_bound.0)) in
+    let counted : length (take c.args.m c.args.lashes) ≡ c.args.m =
+    length-take-le c.args.m c.args.lashes (omega (arith, c.requires.m_bound.0)) in
     let few : length (take c.args.m c.args.lashes) ≤ 8 = omega (arith, counted, c.requires.m_bound.0) in
-    let each : (k : ℕ) → k < length (take c.args.m c.args.lashes) → LashLimits 10 (get_or (take c.args.m c.args.lashes) k blank_lash) = λ k q. c.requires.m_bound.1 k (omega (arith, q, counted)) in
+    let each : (k : ℕ) → k < length (take c.args.m c.args.lashes) → LashLimits 10 (get_or (take c.args.m c.args.lashes) k blank_lash) =
+    λ k q. c.requires.m_bound.1 k (omega (arith, q, counted)) in
     let passed : c.loop-j.j < length (take c.args.m c.args.lashes) = omega (arith, counted, c.loop-j-test.true) in
     let h = c.hook_level-at.ensures in
     let found = c.requires.lashes_measured.stiff.each c.loop-j.j c.loop-j-test.true in
@@ -35,10 +37,13 @@ overflow_add-levels c =
 
 pub loop-j-preserved : goal.loop-j-preserved
 loop-j-preserved c =
-    let own : get_or (take c.args.m c.args.lashes) c.loop-j.j blank_lash ≡ get_or c.args.lashes c.loop-j.j blank_lash = get_or-take c.args.m c.args.lashes c.loop-j.j blank_lash c.loop-j-test.true in
-    let counted : length (take c.args.m c.args.lashes) ≡ c.args.m = length-take-le c.args.m c.args.lashes (omega (arith, c.requires.m_bound.0)) in
+    let own : get_or (take c.args.m c.args.lashes) c.loop-j.j blank_lash ≡ get_or c.args.lashes c.loop-j.j blank_lash =
+    get_or-take c.args.m c.args.lashes c.loop-j.j blank_lash c.loop-j-test.true in
+    let counted : length (take c.args.m c.args.lashes) ≡ c.args.m =
+    length-take-le c.args.m c.args.lashes (omega (arith, c.requires.m_bound.0)) in
     let few : length (take c.args.m c.args.lashes) ≤ 8 = omega (arith, counted, c.requires.m_bound.0) in
-    let each : (k : ℕ) → k < length (take c.args.m c.args.lashes) → LashLimits 10 (get_or (take c.args.m c.args.lashes) k blank_lash) = λ k q. c.requires.m_bound.1 k (omega (arith, q, counted)) in
+    let each : (k : ℕ) → k < length (take c.args.m c.args.lashes) → LashLimits 10 (get_or (take c.args.m c.args.lashes) k blank_lash) =
+    λ k q. c.requires.m_bound.1 k (omega (arith, q, counted)) in
     let passed : c.loop-j.j < length (take c.args.m c.args.lashes) = omega (arith, counted, c.loop-j-test.true) in
     let l = c.loop-j in
     let found = c.requires.lashes_measured in
@@ -62,5 +67,6 @@ loop-j-preserved c =
 
 pub returns : goal.returns
 returns c =
-    let counted : length (take c.args.m c.args.lashes) ≡ c.args.m = length-take-le c.args.m c.args.lashes (omega (arith, c.requires.m_bound.0)) in
+    let counted : length (take c.args.m c.args.lashes) ≡ c.args.m =
+    length-take-le c.args.m c.args.lashes (omega (arith, c.requires.m_bound.0)) in
     gathered_all (omega (arith, counted, c.loop-j-test.false)) c.loop-j.invariant.3

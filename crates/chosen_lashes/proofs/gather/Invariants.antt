@@ -7,7 +7,10 @@ use Rattle.chosen_lashes.proofs.gather.Given as goal
 
 abbrev pub invariant-loop-j : goal.invariant-loop-j
 invariant-loop-j l =
-    (length l.long ≡ 8) × (length l.stiff ≡ 8) × (length l.levels ≡ 10) × GatheredTo l.choice (take l.m l.lashes) l.j l.rest l.count l.held l.long l.stiff l.levels
+    (length l.long ≡ 8)
+    × (length l.stiff ≡ 8)
+    × (length l.levels ≡ 10)
+    × GatheredTo l.choice (take l.m l.lashes) l.j l.rest l.count l.held l.long l.stiff l.levels
 
 abbrev pub decreases-loop-j : goal.decreases-loop-j
 decreases-loop-j l =

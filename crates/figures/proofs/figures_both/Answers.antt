@@ -9,8 +9,12 @@ use Rattle.figures.proofs.figures_both.Goals as goal
 
 pub solve_both-requires : goal.solve_both-requires
 solve_both-requires c =
-    let door_counted : length (lashes_of door c.args.s) ≡ c.args.s.ndoor = let whole : length c.args.s.door ≡ 8 = omega arith in length-take-le c.args.s.ndoor c.args.s.door (omega (arith, c.requires.workable.few_lashes)) in
-    let closed_counted : length (lashes_of closed c.args.s) ≡ c.args.s.nclosed = let whole : length c.args.s.closed ≡ 8 = omega arith in length-take-le c.args.s.nclosed c.args.s.closed (omega (arith, c.requires.workable_2.few_lashes)) in
+    let whole : length c.args.s.door ≡ 8 = omega arith in
+    let door_counted : length (lashes_of door c.args.s) ≡ c.args.s.ndoor =
+    length-take-le c.args.s.ndoor c.args.s.door (omega (arith, c.requires.workable.few_lashes)) in
+    let whole : length c.args.s.closed ≡ 8 = omega arith in
+    let closed_counted : length (lashes_of closed c.args.s) ≡ c.args.s.nclosed =
+    length-take-le c.args.s.nclosed c.args.s.closed (omega (arith, c.requires.workable_2.few_lashes)) in
     let p = c.requires in
     let levels = p.level_stiffnesses in
     let long = p.k_len in
@@ -32,7 +36,13 @@ figures_at-requires c =
     let lashes = p.lashes_measured.0 in
     let long = p.k_len in
     let d = c.solve_both in
-    record { workable = without_loads p.workable; k_len = (long.0, long.6, (omega arith), long.5); lashes_measured = (lashes, d.ensures.door.1.far); lengths_len = (lashes.long.long, lashes.stiff.long); racking_value = p.door_racking_value }
+    record {
+      workable = without_loads p.workable;
+      k_len = (long.0, long.6, omega arith, long.5);
+      lashes_measured = (lashes, d.ensures.door.1.far);
+      lengths_len = (lashes.long.long, lashes.stiff.long);
+      racking_value = p.door_racking_value;
+    }
 
 pub figures_at-requires-2 : goal.figures_at-requires-2
 figures_at-requires-2 c =
@@ -40,7 +50,13 @@ figures_at-requires-2 c =
     let lashes = p.lashes_measured.1 in
     let long = p.k_len in
     let d = c.solve_both in
-    record { workable = without_loads p.workable_2; k_len = (long.1, long.6, (omega arith), long.5); lashes_measured = (lashes, d.ensures.closed.1.far); lengths_len = (lashes.long.long, lashes.stiff.long); racking_value = p.closed_racking_value }
+    record {
+      workable = without_loads p.workable_2;
+      k_len = (long.1, long.6, omega arith, long.5);
+      lashes_measured = (lashes, d.ensures.closed.1.far);
+      lengths_len = (lashes.long.long, lashes.stiff.long);
+      racking_value = p.closed_racking_value;
+    }
 
 pub returns : goal.returns
 returns c =
@@ -54,4 +70,7 @@ returns c =
     let q = end_fits closed g.s g.h.now g.eta.now g.loads.now long.3 levels.1 d.closed.0 fits.1 in
     let x = c.figures_at.ensures in
     let y = c.figures_at-2.ensures in
-    record { door_forces_after = (end_solved door g.s g.k.now g.kappa.now g.loads.now long.2 levels.0 d.door.0 (x.0 _ tiers p), x.1); closed_forces_after = (end_solved closed g.s g.h.now g.eta.now g.loads.now long.3 levels.1 d.closed.0 (y.0 _ tiers q), y.1) }
+    record {
+      door_forces_after = (end_solved door g.s g.k.now g.kappa.now g.loads.now long.2 levels.0 d.door.0 (x.0 _ tiers p), x.1);
+      closed_forces_after = (end_solved closed g.s g.h.now g.eta.now g.loads.now long.3 levels.1 d.closed.0 (y.0 _ tiers q), y.1);
+    }

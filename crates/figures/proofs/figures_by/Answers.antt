@@ -25,7 +25,15 @@ figures_loaded-requires c =
     let found = c.springs_of.ensures in
     let ω = e.0.named in
     let stands = exact_stands c.requires.fits.1 c.requires.fits.2 in
-    record { workable = rw found.0 (workable limits door _ _ _ _ _ p.door.few e.0 e.1); workable_2 = rw found.1 (workable limits closed _ _ _ _ _ p.closed.few e.0 e.1); tiers_measured = e.1; k_len = (omega arith, omega arith, omega arith, omega arith, omega arith); door_racking_value = c.requires.door_racking_value; closed_racking_value = c.requires.closed_racking_value; fitting = (named_fits limits door stands found.0 ω, named_fits limits closed stands found.1 ω) }
+    record {
+      workable = rw found.0 (workable limits door _ _ _ _ _ p.door.few e.0 e.1);
+      workable_2 = rw found.1 (workable limits closed _ _ _ _ _ p.closed.few e.0 e.1);
+      tiers_measured = e.1;
+      k_len = (omega arith, omega arith, omega arith, omega arith, omega arith);
+      door_racking_value = c.requires.door_racking_value;
+      closed_racking_value = c.requires.closed_racking_value;
+      fitting = (named_fits limits door stands found.0 ω, named_fits limits closed stands found.1 ω);
+    }
 
 pub returns : goal.returns
 unfolding figures_by
@@ -34,4 +42,7 @@ returns c =
     let found = c.springs_of.ensures in
     let ω = c.loads_of.ensures.0.named in
     let e = c.figures_loaded.ensures in
-    record { door_forces_after = (e.door_forces_after.0 ∙ ap₂ (end_figures door t) found.0 ω, e.door_forces_after.1); closed_forces_after = (e.closed_forces_after.0 ∙ ap₂ (end_figures closed t) found.1 ω, e.closed_forces_after.1) }
+    record {
+      door_forces_after = (e.door_forces_after.0 ∙ ap₂ (end_figures door t) found.0 ω, e.door_forces_after.1);
+      closed_forces_after = (e.closed_forces_after.0 ∙ ap₂ (end_figures closed t) found.1 ω, e.closed_forces_after.1);
+    }

@@ -9,13 +9,17 @@ use Rattle.figures.proofs.figures_loaded.Goals as goal
 
 pub lash_stiffnesses-requires : goal.lash_stiffnesses-requires
 lash_stiffnesses-requires c =
-    let door_counted : length (lashes_of door c.args.s) ≡ c.args.s.ndoor = let whole : length c.args.s.door ≡ 8 = omega arith in length-take-le c.args.s.ndoor c.args.s.door (omega (arith, c.requires.workable.few_lashes)) in
+    let whole : length c.args.s.door ≡ 8 = omega arith in
+    let door_counted : length (lashes_of door c.args.s) ≡ c.args.s.ndoor =
+    length-take-le c.args.s.ndoor c.args.s.door (omega (arith, c.requires.workable.few_lashes)) in
     let works = c.requires.workable in
     record { m_bound = (works.few_lashes, each_ten works door_counted); lengths_value = (refl, refl, refl) }
 
 pub lash_stiffnesses-requires-2 : goal.lash_stiffnesses-requires-2
 lash_stiffnesses-requires-2 c =
-    let closed_counted : length (lashes_of closed c.args.s) ≡ c.args.s.nclosed = let whole : length c.args.s.closed ≡ 8 = omega arith in length-take-le c.args.s.nclosed c.args.s.closed (omega (arith, c.requires.workable_2.few_lashes)) in
+    let whole : length c.args.s.closed ≡ 8 = omega arith in
+    let closed_counted : length (lashes_of closed c.args.s) ≡ c.args.s.nclosed =
+    length-take-le c.args.s.nclosed c.args.s.closed (omega (arith, c.requires.workable_2.few_lashes)) in
     let works = c.requires.workable_2 in
     record { m_bound = (works.few_lashes, each_ten works closed_counted); lengths_value = (refl, refl, refl) }
 

@@ -14,7 +14,11 @@ use Rattle.figures_lashes.proofs.LashLoops.{figured_none, sums_fit, figured_more
 use Rattle.figures_lashes.proofs.lash_figures.Goals as goal
 
 -- the lash of a turn is within the limits
-within : (m j : ℕ) (lashes : List Lash) → j < m → ((k : ℕ) → k < m → LashLimits 10 (get_or (take m lashes) k blank_lash)) → LashLimits 10 (get_or lashes j blank_lash)
+within :
+    (m j : ℕ) (lashes : List Lash) →
+    j < m →
+    ((k : ℕ) → k < m → LashLimits 10 (get_or (take m lashes) k blank_lash)) →
+    LashLimits 10 (get_or lashes j blank_lash)
 within m j lashes h each = rw (get_or-take m lashes j blank_lash h) at (each j h)
 
 pub loop-j-init : goal.loop-j-init
@@ -30,12 +34,16 @@ hook_corner-corner-requires c = within c.args.m c.loop-j.j c.args.lashes c.loop-
 
 pub athwart_part-part-requires : goal.athwart_part-part-requires
 athwart_part-part-requires c =
-    (rw (rw (get_or-take c.args.m c.args.lashes c.loop-j.j blank_lash c.loop-j-test.true) at (c.requires.lashes_measured.0.stiff.each c.loop-j.j c.loop-j-test.true)) (stiffness_most _ (within c.args.m c.loop-j.j c.args.lashes c.loop-j-test.true c.requires.m_bound.1)), c.requires.lashes_measured.1 c.hook_level-at.result)
+    let own = get_or-take c.args.m c.args.lashes c.loop-j.j blank_lash c.loop-j-test.true in
+    let stiff = rw own at (c.requires.lashes_measured.0.stiff.each c.loop-j.j c.loop-j-test.true) in
+    let most = stiffness_most _ (within c.args.m c.loop-j.j c.args.lashes c.loop-j-test.true c.requires.m_bound.1) in
+    (rw stiff most, c.requires.lashes_measured.1 c.hook_level-at.result)
 
 pub forces_of-f-requires : goal.forces_of-f-requires
 forces_of-f-requires c =
-    let g = c.requires.lashes_measured.0 in
-    (within c.args.m c.loop-j.j c.args.lashes c.loop-j-test.true c.requires.m_bound.1, rw (get_or-take c.args.m c.args.lashes c.loop-j.j blank_lash c.loop-j-test.true) at (g.long.each c.loop-j.j c.loop-j-test.true), c.athwart_part-part.ensures.1)
+    let own = get_or-take c.args.m c.args.lashes c.loop-j.j blank_lash c.loop-j-test.true in
+    let long = rw own at (c.requires.lashes_measured.0.long.each c.loop-j.j c.loop-j-test.true) in
+    (within c.args.m c.loop-j.j c.args.lashes c.loop-j-test.true c.requires.m_bound.1, long, c.athwart_part-part.ensures.1)
 
 pub on_posts-u-requires : goal.on_posts-u-requires
 on_posts-u-requires c =
@@ -46,8 +54,9 @@ overflow_add-lee c =
     let own = get_or-take c.args.m c.args.lashes c.loop-j.j blank_lash c.loop-j-test.true in
     let athwart = rw (rw own at (c.requires.lashes_measured.0.stiff.each c.loop-j.j c.loop-j-test.true)) at c.athwart_part-part.ensures.0 in
     let e = c.on_posts-u.ensures in
-    let s = sums_fit (listed c.args.lashes (omega arith) c.requires.m_bound) c.loop-j.invariant c.loop-j-test.true own c.hook_level-at.ensures.0
-    c.hook_corner-corner.ensures.0 athwart c.lashing_of.ensures e.lee_value e.windward_value in
+    let s =
+    sums_fit (listed c.args.lashes (omega arith) c.requires.m_bound) c.loop-j.invariant c.loop-j-test.true own
+    c.hook_level-at.ensures.0 c.hook_corner-corner.ensures.0 athwart c.lashing_of.ensures e.lee_value e.windward_value in
     record { fits = s.0 }
 
 pub overflow_add-windward : goal.overflow_add-windward
@@ -55,8 +64,9 @@ overflow_add-windward c =
     let own = get_or-take c.args.m c.args.lashes c.loop-j.j blank_lash c.loop-j-test.true in
     let athwart = rw (rw own at (c.requires.lashes_measured.0.stiff.each c.loop-j.j c.loop-j-test.true)) at c.athwart_part-part.ensures.0 in
     let e = c.on_posts-u.ensures in
-    let s = sums_fit (listed c.args.lashes (omega arith) c.requires.m_bound) c.loop-j.invariant c.loop-j-test.true own c.hook_level-at.ensures.0
-    c.hook_corner-corner.ensures.0 athwart c.lashing_of.ensures e.lee_value e.windward_value in
+    let s =
+    sums_fit (listed c.args.lashes (omega arith) c.requires.m_bound) c.loop-j.invariant c.loop-j-test.true own
+    c.hook_level-at.ensures.0 c.hook_corner-corner.ensures.0 athwart c.lashing_of.ensures e.lee_value e.windward_value in
     record { fits = s.1 }
 
 pub loop-j-preserved : goal.loop-j-preserved

@@ -29,7 +29,9 @@ loop-i-init c =
     let e = c.parts_at-highest.ensures in
     let z = c.requires.racking_value in
     let v = simp (e.0, e.1) at c.compression_of.ensures in
-    rw (z.0, z.1, e.0, e.1) (at_top c.requires.level_inputs (omega (arith, c.requires.level_inputs.few, c.requires.k_len.1)) (rw (get_or-take 11 c.args.weights.now c.args.n 0 (omega (arith, c.requires.level_inputs.few))) v))
+    let m = c.requires.level_inputs in
+    let pressed = rw (get_or-take 11 c.args.weights.now c.args.n 0 (omega (arith, m.few))) v in
+    rw (z.0, z.1, e.0, e.1) (at_top m (omega (arith, m.few, c.requires.k_len.1)) pressed)
 
 pub racking_part-part-requires : goal.racking_part-part-requires
 racking_part-part-requires c =
@@ -54,7 +56,10 @@ level_under-l-requires c =
         rw f.0 (m.lee_small _),
         rw f.1 (m.windward_small _),
       );
-      vmax_bound = (rw (get_or-take 11 c.args.weights.now j 0 (omega (arith, m.few, w))) at (m.vmax_light j), rw (get_or-drop 11 c.args.weights.now j 0) at (m.vmin_light j));
+      vmax_bound = (
+        rw (get_or-take 11 c.args.weights.now j 0 (omega (arith, m.few, w))) at (m.vmax_light j),
+        rw (get_or-drop 11 c.args.weights.now j 0) at (m.vmin_light j),
+      );
     }
 
 pub racking_figure-force-requires : goal.racking_figure-force-requires
@@ -93,4 +98,8 @@ loop-i-preserved c =
 pub returns : goal.returns
 returns c =
     let s = c.loop-i.invariant in
-    record { levels_figured = at_foot c.requires.level_inputs (omega (arith, c.requires.level_inputs.few, c.requires.k_len.1)) c.loop-i-test.false s; racking_len = (s.racked.long, s.levels_long) }
+    record {
+      levels_figured = at_foot c.requires.level_inputs (omega (arith, c.requires.level_inputs.few, c.requires.k_len.1)) c.loop-i-test.false
+          s;
+      racking_len = (s.racked.long, s.levels_long);
+    }

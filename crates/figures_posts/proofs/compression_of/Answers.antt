@@ -10,7 +10,8 @@ pressed_figure-requires c =
       c.requires.0,
       simp (held s.lee_value.1 (lit< tt)) s.lee_value.1,
       simp (held s.windward_value.1 (lit< tt)) s.windward_value.1,
-      simp (held s.lee_value.1 (lit< tt), held s.windward_value.1 (lit< tt)) (rw (s.lee_value.0, s.windward_value.0) (one_pressed c.args.couple c.args.parts)),
+      simp (held s.lee_value.1 (lit< tt), held s.windward_value.1 (lit< tt))
+          (rw (s.lee_value.0, s.windward_value.0) (one_pressed c.args.couple c.args.parts)),
     )
 
 pub returns : goal.returns

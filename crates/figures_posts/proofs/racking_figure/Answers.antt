@@ -33,7 +33,8 @@ overflow_add-result c =
 figure :
     (c : goal.After-outward) →
     let z = c.args.part in
-    to_z w64 (of_z w64 (shr_z (to_z w64 (of_z w64 (to_z w64 (of_z w64 z) +ℤ to_z w64 (of_z w64 c.outward.result)))) 262144)) ≡ racking_figure z
+    to_z w64 (of_z w64 (shr_z (to_z w64 (of_z w64 (to_z w64 (of_z w64 z) +ℤ to_z w64 (of_z w64 c.outward.result)))) 262144)) ≡
+    racking_figure z
 figure c =
     let z = c.args.part in
     simp (

@@ -19,7 +19,8 @@ overflow_add-shared c =
 
 pub overflow_mul-factor-2 : goal.overflow_mul-factor-2
 overflow_mul-factor-2 c =
-    record { fits = lt_of_le_of_lt (transverse_le c.requires.share_bound.0 c.requires.share_bound.1 c.requires.transverse_bound.0 c.requires.transverse_bound_2.0) (lit< tt) }
+    let l = transverse_le c.requires.share_bound.0 c.requires.share_bound.1 c.requires.transverse_bound.0 c.requires.transverse_bound_2.0 in
+    record { fits = lt_of_le_of_lt l (lit< tt) }
 
 pub overflow_add-factor : goal.overflow_add-factor
 overflow_add-factor c =

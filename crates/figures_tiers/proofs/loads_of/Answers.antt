@@ -14,12 +14,17 @@ use Rattle.figures_tiers.proofs.LoadLaws.{carried_all, heights_none, heights_mor
 use Rattle.figures_tiers.proofs.loads_of.Goals as goal
 
 -- the tier of a turn is within the limits
-limits : (n j : ℕ) (tiers : List Tier) → j < n → ((i : ℕ) → i < n → TierLimits (get_or (take n tiers) i blank_tier)) → TierLimits (get_or tiers j blank_tier)
+limits :
+    (n j : ℕ) (tiers : List Tier) →
+    j < n →
+    ((i : ℕ) → i < n → TierLimits (get_or (take n tiers) i blank_tier)) →
+    TierLimits (get_or tiers j blank_tier)
 limits n j tiers h each = rw (get_or-take n tiers j blank_tier h) at (each j h)
 
 pub loop-i-init : goal.loop-i-init
 loop-i-init c =
-    let stacked : length (take c.args.n c.args.tiers) ≡ c.args.n = length-take-le c.args.n c.args.tiers (omega (arith, c.requires.n_bound.0)) in
+    let stacked : length (take c.args.n c.args.tiers) ≡ c.args.n =
+    length-take-le c.args.n c.args.tiers (omega (arith, c.requires.n_bound.0)) in
     let p = c.requires.loads_value in
     rw (p.0, p.1)
     (loaded_none stacked, carried_none stacked, carried_none stacked, heights_none stacked c.requires.n_bound.0 p.2, refl)
@@ -32,16 +37,22 @@ pub level_load-requires : goal.level_load-requires
 level_load-requires c =
     let p = c.requires.n_bound in
     let t = c.tier_load-tier.ensures in
-    record { share_bound = (p.1, p.2); transverse_bound = (t.1, t.3); transverse_bound_2 = (c.loop-i.invariant.0.transverse_small, c.loop-i.invariant.0.wind_small) }
+    record {
+      share_bound = (p.1, p.2);
+      transverse_bound = (t.1, t.3);
+      transverse_bound_2 = (c.loop-i.invariant.0.transverse_small, c.loop-i.invariant.0.wind_small);
+    }
 
 pub mass_by-vmax_units-requires : goal.mass_by-vmax_units-requires
 mass_by-vmax_units-requires c =
-    let f = limits c.args.n (c.loop-i.i - 1) c.args.tiers (omega (arith, c.loop-i-test.true, c.loop-i.invariant.0.within)) c.requires.by_index in
+    let f =
+    limits c.args.n (c.loop-i.i - 1) c.args.tiers (omega (arith, c.loop-i-test.true, c.loop-i.invariant.0.within)) c.requires.by_index in
     (f.mass, f.aVmax)
 
 pub mass_by-vmin_units-requires : goal.mass_by-vmin_units-requires
 mass_by-vmin_units-requires c =
-    let f = limits c.args.n (c.loop-i.i - 1) c.args.tiers (omega (arith, c.loop-i-test.true, c.loop-i.invariant.0.within)) c.requires.by_index in
+    let f =
+    limits c.args.n (c.loop-i.i - 1) c.args.tiers (omega (arith, c.loop-i-test.true, c.loop-i.invariant.0.within)) c.requires.by_index in
     (f.mass, omega (arith, f.aVmin))
 
 pub half_weight-requires : goal.half_weight-requires
@@ -58,8 +69,10 @@ bounds-weights-i-in-loop-i c =
 
 pub loop-i-preserved : goal.loop-i-preserved
 loop-i-preserved c =
-    let stacked : length (take c.args.n c.args.tiers) ≡ c.args.n = length-take-le c.args.n c.args.tiers (omega (arith, c.requires.n_bound.0)) in
-    let own : get_or (take c.args.n c.args.tiers) (c.loop-i.i - 1) blank_tier ≡ get_or c.args.tiers (c.loop-i.i - 1) blank_tier = get_or-take c.args.n c.args.tiers (c.loop-i.i - 1) blank_tier (omega (arith, c.loop-i-test.true, c.loop-i.invariant.0.within)) in
+    let stacked : length (take c.args.n c.args.tiers) ≡ c.args.n =
+    length-take-le c.args.n c.args.tiers (omega (arith, c.requires.n_bound.0)) in
+    let own : get_or (take c.args.n c.args.tiers) (c.loop-i.i - 1) blank_tier ≡ get_or c.args.tiers (c.loop-i.i - 1) blank_tier =
+    get_or-take c.args.n c.args.tiers (c.loop-i.i - 1) blank_tier (omega (arith, c.loop-i-test.true, c.loop-i.invariant.0.within)) in
     let l = c.loop-i in
     let few = c.requires.n_bound.0 in
     let up = c.loop-i-test.true in
@@ -81,7 +94,8 @@ loop-i-preserved c =
 
 pub returns : goal.returns
 returns c =
-    let stacked : length (take c.args.n c.args.tiers) ≡ c.args.n = length-take-le c.args.n c.args.tiers (omega (arith, c.requires.n_bound.0)) in
+    let stacked : length (take c.args.n c.args.tiers) ≡ c.args.n =
+    length-take-le c.args.n c.args.tiers (omega (arith, c.requires.n_bound.0)) in
     let l = c.loop-i in
     let m = carried_all stacked c.loop-i-test.false l.invariant.1 in
     let k = carried_all stacked c.loop-i-test.false l.invariant.2 in (

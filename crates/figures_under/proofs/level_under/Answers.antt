@@ -9,14 +9,22 @@ use Rattle.figures_under.proofs.level_under.Goals as goal
 pub compression_of-requires : goal.compression_of-requires
 compression_of-requires c =
     let p = c.requires in
-    let l = c.couple_of-couple.ensures.1 in
-    (omega (arith, p.vmax_bound), rw (held l (lit< tt)) l, omega (arith, p.lee_bound, p.lee_bound_2), omega (arith, p.lee_bound, p.lee_bound_2))
+    let l = c.couple_of-couple.ensures.1 in (
+      omega (arith, p.vmax_bound),
+      rw (held l (lit< tt)) l,
+      omega (arith, p.lee_bound, p.lee_bound_2),
+      omega (arith, p.lee_bound, p.lee_bound_2),
+    )
 
 pub tension_of-requires : goal.tension_of-requires
 tension_of-requires c =
     let p = c.requires in
-    let l = c.couple_of-couple.ensures.1 in
-    (omega (arith, p.vmax_bound), rw (held l (lit< tt)) l, omega (arith, p.lee_bound, p.lee_bound_2), omega (arith, p.lee_bound, p.lee_bound_2))
+    let l = c.couple_of-couple.ensures.1 in (
+      omega (arith, p.vmax_bound),
+      rw (held l (lit< tt)) l,
+      omega (arith, p.lee_bound, p.lee_bound_2),
+      omega (arith, p.lee_bound, p.lee_bound_2),
+    )
 
 pub returns : goal.returns
 unfolding lee_found windward_found
@@ -26,4 +34,5 @@ returns c =
     let e = simp (held c.requires.small.0 (lit< tt), held c.requires.small.1 (lit< tt)) at m.0 in
     let q = simp e at (simp (held m.1 (lit< tt)) at l.0) in
     let x = simp q at (simp (held l.1 (lit< tt)) at c.compression_of.ensures) in
-    let y = simp q at (simp (held l.1 (lit< tt)) at c.tension_of.ensures) in record { moment_value = rw (held m.1 (lit< tt)) e; lee_value = refl; windward_value = refl; compression_value = x; tension_value = y }
+    let y = simp q at (simp (held l.1 (lit< tt)) at c.tension_of.ensures) in
+    record { moment_value = rw (held m.1 (lit< tt)) e; lee_value = refl; windward_value = refl; compression_value = x; tension_value = y }

@@ -1,8 +1,5 @@
 -- `forecast::forecast`: the sheet's own refusals, then what `answer_sheet` says of a taken one (Refusals).
-use mathlib.Core.Path.{◌≡◌, sym, ◌∙◌}
-use borrow.Author.Rules.{rules}
-use Rattle.sheet.specs.declared.Reading.TheVariants.{Taken}
-use Rattle.sheet.specs.Refusals.{first, sheet_rows}
+use mathlib.Core.Path.{sym, ◌∙◌}
 use Rattle.forecast.proofs.Refusals.{refused, taken}
 use Rattle.forecast.proofs.forecast.Goals as goal
 

@@ -1,5 +1,4 @@
 -- `lash::lash_arrangements` says what `arrangements::list` says, with its two numbers in one.
-use borrow.Author.Rules.{rules}
 use Rattle.packing.proofs.OneNumber.{called_both}
 use Rattle.lash.proofs.Fits.{list_fits}
 use Rattle.lash.proofs.lash_arrangements.Goals as goal
@@ -11,4 +10,5 @@ pub returns : goal.returns
 returns c =
     let k = c.list-outcome in
     let p = c.packed_outcome in
-    called_both k.result k.ensures (list_fits k.ensures.listed) p.result p.ensures
+    let both = called_both k.result (k.ensures.listed, k.ensures.named) (list_fits k.ensures.listed) p.result p.ensures in
+    record { listed = both.0; named = both.1 }

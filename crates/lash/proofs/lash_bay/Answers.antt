@@ -1,5 +1,4 @@
 -- `lash::lash_bay` says what `bay::report` says, with its three numbers in one.
-use borrow.Author.Rules.{rules}
 use Rattle.bay.proofs.Numbers.{bay_most}
 use Rattle.lash.proofs.BayNumber.{bay_called_both}
 use Rattle.lash.proofs.lash_bay.Goals as goal
@@ -11,4 +10,5 @@ pub returns : goal.returns
 returns c =
     let k = c.report-outcome in
     let p = c.packed_bay in
-    bay_called_both k.result k.ensures (bay_most _ _ _ _ _ k.ensures.reported) p.result p.ensures
+    let both = bay_called_both k.result (k.ensures.reported, k.ensures.named) (bay_most _ _ _ _ _ k.ensures.reported) p.result p.ensures in
+    record { reported = both.0; named = both.1 }

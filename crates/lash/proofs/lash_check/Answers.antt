@@ -1,5 +1,4 @@
 -- `lash::lash_check` says what `stack_check::check` says, with its two numbers in one.
-use borrow.Author.Rules.{rules}
 use Rattle.packing.proofs.OneNumber.{called_both}
 use Rattle.lash.proofs.Fits.{checked_fits}
 use Rattle.lash.proofs.lash_check.Goals as goal
@@ -11,4 +10,5 @@ pub returns : goal.returns
 returns c =
     let k = c.check-outcome in
     let p = c.packed_outcome in
-    called_both k.result k.ensures (checked_fits k.ensures.checked) p.result p.ensures
+    let both = called_both k.result (k.ensures.checked, k.ensures.named) (checked_fits k.ensures.checked) p.result p.ensures in
+    record { checked = both.0; named = both.1 }

@@ -1,5 +1,4 @@
 -- `lash::lash_forecast` says what `forecast::forecast` says, with its two numbers in one.
-use borrow.Author.Rules.{rules}
 use Rattle.packing.proofs.OneNumber.{called_both}
 use Rattle.lash.proofs.Fits.{forecast_fits}
 use Rattle.lash.proofs.lash_forecast.Goals as goal
@@ -11,4 +10,5 @@ pub returns : goal.returns
 returns c =
     let k = c.forecast-outcome in
     let p = c.packed_outcome in
-    called_both k.result k.ensures (forecast_fits k.ensures.answered) p.result p.ensures
+    let both = called_both k.result (k.ensures.answered, k.ensures.named) (forecast_fits k.ensures.answered) p.result p.ensures in
+    record { answered = both.0; named = both.1 }

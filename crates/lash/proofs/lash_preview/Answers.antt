@@ -1,6 +1,5 @@
 -- `lash::lash_preview` says what `preview::preview` says, with its two numbers in one.
 use native.Mathlib.Omega.{arith}
-use borrow.Author.Rules.{rules}
 use Rattle.preview_moves.proofs.TwoNumbers.{fitting}
 use Rattle.packing.proofs.OneNumber.{called_both}
 use Rattle.lash.proofs.lash_preview.Goals as goal
@@ -13,4 +12,5 @@ returns c =
     let e = c.preview-outcome.ensures in
     let fits = fitting (omega (arith, c.ranges.tier.fits)) e.previewed in
     let p = c.packed_outcome in
-    called_both c.preview-outcome.result e fits p.result p.ensures
+    let both = called_both c.preview-outcome.result (e.previewed, e.named) fits p.result p.ensures in
+    record { previewed = both.0; named = both.1 }

@@ -1,5 +1,4 @@
 -- `lash::lash_side` says what `side::side` says, with its two numbers in one.
-use borrow.Author.Rules.{rules}
 use Rattle.packing.proofs.OneNumber.{called}
 use Rattle.lash.proofs.Fits.{side_fits}
 use Rattle.lash.proofs.lash_side.Goals as goal

@@ -1,21 +1,23 @@
 -- `lash::lash_twenties` says what `twenties::judge` says, packed in one number.
 use mathlib.Core.Path.{◌≡◌, subst, sym, ◌∙◌}
 use native.Mathlib.Omega.{arith}
-use borrow.Author.Rules.{rules}
 use Rattle.twenties.specs.declared.Judgement.{Judgement}
 use Rattle.twenties.proofs.Outcomes.{Numbers, numbers}
 use Rattle.lash.specs.Told.{In}
 use Rattle.lash.proofs.lash_twenties.Goals as goal
+use Rattle.lash.proofs.lash_twenties.Goals.{After-judge-judgement}
+
+-- q is the case that the judgement is
+small : (j : After-judge-judgement) {q : Judgement} → j.judge-judgement.result ≡ q → Numbers q
+small j is =
+    let a = j.args in
+    subst Numbers (sym j.judge-judgement.ensures ∙ is) (numbers a.table a.acceleration a.masses.now)
 
 pub packed_verdict-requires : goal.packed_verdict-requires
-packed_verdict-requires c =
-    let a = c.args in
-    subst Numbers (sym c.judge-judgement.ensures ∙ c.in-Given.is) (numbers a.table a.acceleration a.masses.now)
+packed_verdict-requires c = small (goal.at.packed_verdict-requires c).After-judge-judgement c.in-Given.is
 
 pub joined-requires : goal.joined-requires
-joined-requires c =
-    let a = c.args in
-    subst Numbers (sym c.judge-judgement.ensures ∙ c.in-Refused.is) (numbers a.table a.acceleration a.masses.now)
+joined-requires c = small (goal.at.joined-requires c).After-judge-judgement c.in-Refused.is
 
 pub returns-in-Given : goal.returns-in-Given
 returns-in-Given c =
@@ -23,6 +25,5 @@ returns-in-Given c =
 
 pub returns-in-Refused : goal.returns-in-Refused
 returns-in-Refused c =
-    let a = c.args in
-    let n = (subst Numbers (sym c.judge-judgement.ensures ∙ c.in-Refused.is) (numbers a.table a.acceleration a.masses.now)).0 in
+    let n = (small (goal.at.returns-in-Refused c).After-judge-judgement c.in-Refused.is).0 in
     subst (λ q. In q c.joined.result) (sym c.in-Refused.is ∙ c.judge-judgement.ensures) (record { low = omega arith; above = omega arith })

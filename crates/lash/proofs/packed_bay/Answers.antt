@@ -1,6 +1,5 @@
 -- `lash::packed_bay`: the three numbers of each case, packed.
 use native.Mathlib.Omega.{arith}
-use borrow.Author.Rules.{rules}
 use Rattle.lash.proofs.BayNumber.{bay_case_small, bay_case_packed}
 use Rattle.lash.proofs.packed_bay.Goals as goal
 

@@ -32,4 +32,5 @@ returns c =
     let g = c.sides_of-g.ensures.squares_value in
     let l = c.args.l in
     let e : c.start_of-enough.result ≡ start l = begun l g.0 g.1 g.2 c.start_of-enough.ensures.value in
-    let is : c.tried.result.length ≡ found (squares l) (start l) (trials l) = rw (← g.0, ← e) c.tried.ensures.length_value in record { length_value = (is, c.tried.ensures.squared_value); length_value_2 = is ∙ finds c.requires }
+    let is : c.tried.result.length ≡ found (squares l) (start l) (trials l) = rw (← g.0, ← e) c.tried.ensures.length_value in
+    record { length_value = (is, c.tried.ensures.squared_value); length_value_2 = is ∙ finds c.requires }

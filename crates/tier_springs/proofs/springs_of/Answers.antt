@@ -27,7 +27,8 @@ bounds-h-i c =
 
 pub loop-i-preserved : goal.loop-i-preserved
 loop-i-preserved c =
-    let own : get_or (take c.args.n c.args.tiers) c.loop-i.i blank_tier ≡ get_or c.args.tiers c.loop-i.i blank_tier = get_or-take c.args.n c.args.tiers c.loop-i.i blank_tier c.loop-i-test.true in
+    let own : get_or (take c.args.n c.args.tiers) c.loop-i.i blank_tier ≡ get_or c.args.tiers c.loop-i.i blank_tier =
+    get_or-take c.args.n c.args.tiers c.loop-i.i blank_tier c.loop-i-test.true in
     let l = c.loop-i in
     let ts = take c.args.n c.args.tiers in
     let room : l.i < 10 = omega (arith, c.loop-i-test.true, c.requires.0) in (
