@@ -179,12 +179,21 @@ class Builds(Building):
         self.assertEqual(self.calls(), ["lash: all check", "lash: lib"])
         self.assertEqual(made.read_text(), "third\n")
 
-    def test_what_is_gone(self):
-        for make in (self.checkout.library, self.checkout.program):
-            made, _ = self.run_with(make)
-            made.unlink()
-            made, _ = self.run_with(make)
-            self.assertEqual(made.read_text(), "first")
+    def test_a_program_that_is_gone(self):
+        """rt has the proof of it, and makes it again."""
+        program, _ = self.run_with(self.checkout.program)
+        program.unlink()
+        made, _ = self.run_with(self.checkout.program)
+        self.assertEqual(made.read_text(), "first")
+
+    def test_a_library_under_it_that_is_gone(self):
+        library, _ = self.run_with(self.checkout.library)
+        below = self.root / "crates" / "base" / "out" / "rlib" / "stamp"
+        below.unlink()
+        library.unlink()
+        made, _ = self.run_with(self.checkout.library)
+        self.assertTrue(below.exists())
+        self.assertEqual(made.read_text(), "first")
 
     def test_only_the_times_changed(self):
         """rt leaves the program as it was; that is not asked for again and again."""

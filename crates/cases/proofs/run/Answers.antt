@@ -1,7 +1,6 @@
 -- `cases::run` lends parts of the input and of its buffer.
 use mathlib.Core.Path.{sym}
 use native.Mathlib.Omega.{arith}
-use borrow.Author.Rules.{rules}
 use lib.Seq.{length-take-le}
 use Rattle.cases.proofs.MarkLaws.{marked_length}
 use Rattle.cases.proofs.run.Goals as goal

@@ -1,8 +1,5 @@
 -- `cases::run_all` ends: each case ends behind where it starts.
-use Prim.Native.Nat.{◌-◌, ◌≤◌}
-use lib.ListN.{length}
 use native.Mathlib.Omega.{arith}
-use borrow.Author.Rules.{rules}
 use Rattle.cases.proofs.run_all.Goals as goal
 
 pub run-requires : goal.run-requires

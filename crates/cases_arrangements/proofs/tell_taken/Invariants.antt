@@ -1,7 +1,6 @@
 -- `cases_arrangements::tell_taken` ends: each choice is one byte of the list.
 use Prim.Native.Nat.{◌-◌, ◌≤◌}
 use lib.ListN.{length}
-use borrow.Author.Rules.{rules}
 use Rattle.cases_arrangements.proofs.tell_taken.Given as goal
 
 abbrev pub invariant-loop-at : goal.invariant-loop-at

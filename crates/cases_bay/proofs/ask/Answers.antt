@@ -1,7 +1,6 @@
 -- `cases_bay::ask` lends a buffer of the length asked for.
 use mathlib.Core.Path.{sym}
 use native.Mathlib.Omega.{arith}
-use borrow.Author.Rules.{rules}
 use lib.Seq.{length-take-le}
 use Rattle.cases_bay.proofs.ask.Goals as goal
 

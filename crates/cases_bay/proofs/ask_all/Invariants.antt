@@ -1,6 +1,5 @@
 -- `cases_bay::ask_all` ends: each question is its head of twelve bytes and its bay.
 use Prim.Native.Nat.{◌-◌, ◌≤◌}
-use borrow.Author.Rules.{rules}
 use lib.ListN.{length}
 use Rattle.cases_bay.proofs.ask_all.Given as goal
 

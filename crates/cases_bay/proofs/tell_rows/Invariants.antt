@@ -1,6 +1,5 @@
 -- `cases_bay::tell_rows` ends: the rows left fall.
 use Prim.Native.Nat.{◌≤◌}
-use borrow.Author.Rules.{rules}
 use Rattle.cases_bay.proofs.tell_rows.Given as goal
 
 abbrev pub invariant-loop-left : goal.invariant-loop-left

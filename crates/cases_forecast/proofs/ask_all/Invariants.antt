@@ -1,7 +1,6 @@
 -- `cases_forecast::ask_all` ends: each question is its head of twenty bytes and its sheet.
 use Prim.Native.Nat.{◌-◌, ◌≤◌}
 use lib.ListN.{length}
-use borrow.Author.Rules.{rules}
 use Rattle.cases_forecast.proofs.ask_all.Given as goal
 
 abbrev pub invariant-loop-at : goal.invariant-loop-at

@@ -1,7 +1,6 @@
 -- `cases_side::ask_all` ends: each question is its head of six bytes and its two sheets.
 use Prim.Native.Nat.{◌-◌, ◌≤◌}
 use lib.ListN.{length}
-use borrow.Author.Rules.{rules}
 use Rattle.cases_side.proofs.ask_all.Given as goal
 
 abbrev pub invariant-loop-at : goal.invariant-loop-at

@@ -1,7 +1,6 @@
 -- `cases_side::tell_taken` ends: each tier is eight bytes of the answer.
 use Prim.Native.Nat.{◌-◌, ◌≤◌}
 use lib.ListN.{length}
-use borrow.Author.Rules.{rules}
 use Rattle.cases_side.proofs.tell_taken.Given as goal
 
 abbrev pub invariant-loop-at : goal.invariant-loop-at

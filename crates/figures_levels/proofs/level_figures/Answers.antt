@@ -30,8 +30,8 @@ loop-i-init c =
     let z = c.requires.racking_value in
     let v = simp (e.0, e.1) at c.compression_of.ensures in
     let m = c.requires.level_inputs in
-    let pressed = rw (get_or-take 11 c.args.weights.now c.args.n 0 (omega (arith, m.few))) v in
-    rw (z.0, z.1, e.0, e.1) (at_top m (omega (arith, m.few, c.requires.k_len.1)) pressed)
+    let most = get_or-take 11 c.args.weights.now c.args.n 0 (omega (arith, m.few)) in
+    rw (z.0, z.1, e.0, e.1) (at_top m (omega (arith, m.few, c.requires.k_len.1)) (rw most v))
 
 pub racking_part-part-requires : goal.racking_part-part-requires
 racking_part-part-requires c =

@@ -1,11 +1,7 @@
 -- `cases::fields::hold` holds one field after another. The invariant: what is left gives what all the fields give.
-use Prim.Native.Nat.{◌-◌, ◌/◌, ◌≤◌}
-use mathlib.Core.Path.{◌≡◌, refl, sym, ◌∙◌}
+use mathlib.Core.Path.{refl, sym, ◌∙◌}
 use native.Mathlib.Omega.{arith}
-use lib.ListN.{length}
-use Rattle.cases.specs.Inner.Fields.{held_from}
 use Rattle.cases.proofs.FieldLaws.{held_not, held_more, held_all, held_other}
-use borrow.Author.Rules.{rules}
 use Rattle.cases.proofs.fields.hold.Goals as goal
 
 pub loop-at-init : goal.loop-at-init

@@ -2,7 +2,6 @@
 use native.Mathlib.Omega.{arith}
 use borrow.Author.Tests.{lt-ltb, le-ltb, eq-eqb, ne_eqb}
 use Rattle.cases.specs.Inner.Fields.{size_within}
-use borrow.Author.Rules.{rules}
 use Rattle.cases.proofs.fields.within.Goals as goal
 
 pub returns-then-buffer-place : goal.returns-then-buffer-place

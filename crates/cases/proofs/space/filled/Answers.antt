@@ -1,9 +1,6 @@
 -- `cases::space::filled`: the bytes passed have their marks.
-use Prim.Native.Nat.{◌-◌, ◌≤◌}
-use mathlib.Core.Path.{◌≡◌}
 use native.Mathlib.Omega.{arith}
-use Rattle.cases.proofs.MarkLaws.{marked_to, marked_none, marked_more, marked_all, marked_length_to}
-use borrow.Author.Rules.{rules}
+use Rattle.cases.proofs.MarkLaws.{marked_none, marked_more, marked_all, marked_length_to}
 use Rattle.cases.proofs.space.filled.Goals as goal
 
 pub loop-i-init : goal.loop-i-init

@@ -1,11 +1,7 @@
 -- `cases::space::untouched` compares one mark after another. The invariant: what is left gives what all the bytes give.
-use Prim.Native.Nat.{◌-◌}
-use mathlib.Core.Path.{◌≡◌, refl, sym, ◌∙◌}
+use mathlib.Core.Path.{refl, sym, ◌∙◌}
 use native.Mathlib.Omega.{arith}
-use lib.ListN.{length, drop}
-use Rattle.cases.specs.Inner.Marks.{all_marked}
 use Rattle.cases.proofs.MarkLaws.{marked_here, marked_not, marked_end}
-use borrow.Author.Rules.{rules}
 use Rattle.cases.proofs.space.untouched.Goals as goal
 
 pub loop-i-init : goal.loop-i-init

@@ -1,11 +1,8 @@
 -- `cases::space::untouched` compares one mark after another. The invariant: what is left gives what all the bytes give.
 use Prim.Native.Nat.{◌-◌}
-use mathlib.Core.Path.{◌≡◌, refl, sym, ◌∙◌}
-use native.Mathlib.Omega.{arith}
+use mathlib.Core.Path.{◌≡◌}
 use lib.ListN.{length, drop}
 use Rattle.cases.specs.Inner.Marks.{all_marked}
-use Rattle.cases.proofs.MarkLaws.{marked_here, marked_not, marked_end}
-use borrow.Author.Rules.{rules}
 use Rattle.cases.proofs.space.untouched.Given as goal
 
 abbrev pub invariant-loop-i : goal.invariant-loop-i
