@@ -6,7 +6,10 @@ use Rattle.cases_springs.proofs.both_ways.Goals as goal
 pub eliminate-requires : goal.eliminate-requires
 eliminate-requires c =
     let g = c.args in
-    let w = c.requires.within in record { solvable = ready g.n g.k.now g.kappa.now g.omega.now c.requires.n_bound.0 c.requires.k_len w; d_len = blank g.n _ refl }
+    record {
+      solvable = ready g.n g.k.now g.kappa.now g.omega.now c.requires.n_bound.0 c.requires.k_len c.requires.within;
+      d_len = blank g.n _ refl;
+    }
 
 pub solve-e-requires : goal.solve-e-requires
 solve-e-requires c =

@@ -42,5 +42,12 @@ returns-then-size-eq4 c = (
 
 pub returns : goal.returns
 unfolding size_within
-returns c =
-    (simp (← c.read1-size.ensures.0, le-ltb _ _ c.if-buffer-place.false, ne_eqb _ _ c.if-size-eq1.false, ne_eqb _ _ c.if-size-eq4.false), omega arith)
+returns c = (
+  simp (
+    ← c.read1-size.ensures.0,
+    le-ltb _ _ c.if-buffer-place.false,
+    ne_eqb _ _ c.if-size-eq1.false,
+    ne_eqb _ _ c.if-size-eq4.false,
+  ),
+  omega arith,
+)
