@@ -1,4 +1,5 @@
 -- An answer's bytes say by themselves what the exact forces are: the forces read back report them, and findings and verdict are the rule's.
+use Rattle.std.specs.Prelude.{Ok, Err}
 use mathlib.Core.Path.{◌≡◌, refl, sym, ap, ap₂, subst, ◌∙◌}
 use mathlib.Core.Bool.{Bool, cond}
 use mathlib.Core.List.{List, [], ◌∷◌, ◌++◌, flat_map, Memᴰ}
@@ -7,8 +8,7 @@ use native.Mathlib.Omega.{arith}
 use lib.IntN.{ℤ, pos, nat_abs}
 use lib.ListN.{get_or, length}
 use Rattle.arith.specs.Fractions.{Frac}
-use Rattle.sheet.specs.declared.Reading.{Reading}
-use Rattle.sheet.specs.declared.Reading.TheVariants.{Taken}
+use Rattle.sheet.specs.Refusals.{Reading}
 use Rattle.sheet.specs.declared.Sheet.{Sheet}
 use Rattle.sheet.specs.Ends.{End, door, closed}
 use Rattle.sheet.specs.Layout.{sheet_of}
@@ -19,7 +19,7 @@ use Rattle.statics.specs.Loads.{Rule, rule_of}
 use Rattle.statics.specs.Forces as F
 use Rattle.statics.specs.Reported.{Reported, Directed, reported_number, EndReported}
 use Rattle.statics.proofs.Arrays.{entry_at}
-use Rattle.answer.specs.declared.Outcome.{Outcome}
+use Rattle.answer.specs.Outcomes.{Outcome}
 use Rattle.answer.specs.Findings.{Kind, racking, compression, corner_tension, lock_tension, lash_tension, lash_vertical, lash_athwart}
 use Rattle.answer.specs.Findings.{kinds}
 use Rattle.answer.specs.Findings.{Finding, end_code, kind_code, figures_of, first_index, index_count, size_at, named, findings_from}
@@ -165,7 +165,7 @@ module _ {margin : ℕ} {rule : Rule} {t : Sheet} {bytes : List ℕ} (a : Answer
 -- a check that does not refuse answers
 pub answered :
     {margin : ℕ} {s before after : List ℕ} {r : Outcome} →
-    refusal s (length before) ≡ Taken →
+    refusal s (length before) ≡ Ok tt →
     Checked margin s before after r →
     Answered margin (rule_of (sheet_of s)) (sheet_of s) before after r
 answered {margin} {s} {before} {after} {r} e c =

@@ -1,16 +1,16 @@
 -- What the check answers by name is what it must say: of a sheet within the limits, by any rule; and of a sheet's bytes.
+use Rattle.std.specs.Prelude.{Ok, Err}
 use mathlib.Core.Path.{◌≡◌, refl}
 use mathlib.Core.List.{List}
 use Prim.Native.Nat.{ℕ}
 use lib.ListN.{length}
-use Rattle.sheet.specs.declared.Reading.{Reading}
-use Rattle.sheet.specs.declared.Reading.TheVariants.{Taken, Refused}
+use Rattle.sheet.specs.Refusals.{Reading}
 use Rattle.sheet.specs.declared.Sheet.{Sheet}
 use Rattle.sheet.specs.Ends.{End, door, closed}
 use Rattle.sheet.specs.Fits.{Fits}
 use Rattle.sheet.specs.Layout.{sheet_of}
 use Rattle.sheet.specs.Refusals.{refusal}
-use Rattle.sheet.proofs.Refusal.{sheet_taken}
+use Rattle.sheet.proofs.CallRefusals.{sheet_taken}
 use Rattle.sheet.proofs.SheetLimits.{sheet_limits}
 use Rattle.sheet.proofs.TakenSheets.{taken_fits}
 use Rattle.statics.specs.declared.LoadRule.{LoadRule}
@@ -48,8 +48,8 @@ module _ {c : LoadRule} {rule : Rule} {t : Sheet} (stands : StandsFor c rule) (f
   answer_by_named before = go (room_for (length before))
     where
       go : (q : Reading) → AnsweredAs q kept rule t before (written_as q (answer_by c t) before) (returned_as q (answer_by c t))
-      go (Refused n p) = record { refused = refl; untouched = refl }
-      go Taken = record { bytes = answer_by c t; answer = answer_named; taken = refl; written = refl }
+      go (Err why) = record { refused = refl; untouched = refl }
+      go (Ok _) = record { bytes = answer_by c t; answer = answer_named; taken = refl; written = refl }
 
 pub check_named : (s before : List ℕ) → Checked kept s before (written s before) (returned s (length before))
 unfolding written returned
@@ -59,7 +59,7 @@ check_named s before = record { holds = go (refusal s (length before)) refl }
         (q : Reading) →
         refusal s (length before) ≡ q →
         AnsweredAs q kept (rule_of (sheet_of s)) (sheet_of s) before (written_as q (check_bytes s) before) (returned_as q (check_bytes s))
-    go (Refused n p) e = record { refused = refl; untouched = refl }
-    go Taken e =
+    go (Err why) e = record { refused = refl; untouched = refl }
+    go (Ok _) e =
         let fits = taken_fits s (sheet_taken s (length before) e) in
         record { bytes = check_bytes s; answer = answer_named (rule_stands (sheet_limits fits)) fits; taken = refl; written = refl }

@@ -1,4 +1,5 @@
 -- The two numbers that a call returns which answers as a check does: its refusals', or 0 and at most 834. Those of a check: 0 to 13.
+use Rattle.std.specs.Prelude.{Ok, Err}
 use Prim.Native.Nat.{ℕ, ◌≤◌}
 use mathlib.Core.Bool.{Bool, true, false, cond}
 use mathlib.Core.List.{List, [], ◌∷◌, ◌++◌}
@@ -7,18 +8,17 @@ use native.Mathlib.Omega.{arith}
 use lib.ListN.{length, take, length-take}
 use Rattle.sheet.specs.declared.Lash.{Lash}
 use Rattle.sheet.specs.declared.Sheet.{Sheet}
-use Rattle.sheet.specs.declared.Reading.{Reading}
-use Rattle.sheet.specs.declared.Reading.TheVariants.{Taken, Refused}
-use Rattle.sheet.specs.Refusals.{Row, first, refusal}
+use Rattle.sheet.specs.Refusals.{Reading, numbers, Row, first, refusal}
 use Rattle.sheet.specs.Fits.{Fits}
 use Rattle.sheet.proofs.Numbers.{check_numbers}
-use Rattle.sheet.proofs.Refusal.{sheet_taken}
+use Rattle.sheet.proofs.CallRefusals.{sheet_taken}
 use Rattle.sheet.proofs.TakenSheets.{taken_fits}
 use Rattle.sheet.specs.Ends.{End, door, closed, lashes_of}
 use Rattle.statics.specs.Loads.{Rule}
-use Rattle.answer.specs.declared.Outcome.{Outcome}
+use Rattle.answer.specs.Outcomes.{Outcome}
 use Rattle.answer.specs.Checked.{number, second, AnsweredAs, Checked}
 use Rattle.answer.proofs.Longest.{answer_most}
+use Rattle.sheet.specs.declared.Refusal.{Refusal}
 
 pub record Numbers (most : ℕ) (r : Outcome) : Type 0 where
   pub first : number r ≤ most
@@ -26,19 +26,19 @@ pub record Numbers (most : ℕ) (r : Outcome) : Type 0 where
 
 -- rows whose numbers are from 1 to `most` and whose second numbers are at most 834: so are those of the first that holds
 abbrev pub Small : ℕ → Reading → Type 0
-Small most Taken = Unit {0}
-Small most (Refused n p) = (1 ≤ n) × (n ≤ most) × (p ≤ 834)
+Small most (Ok _) = Unit {0}
+Small most (Err why) = (1 ≤ why.number) × (why.number ≤ most) × (why.second ≤ 834)
 
 abbrev pub Each : ℕ → List Row → Type 0
 Each most [] = Unit {0}
-Each most (r ∷ rs) = Small most (Refused r.number r.second) × Each most rs
+Each most (r ∷ rs) = Small most (Err (numbers r.number r.second)) × Each most rs
 
 pub first_small : (most : ℕ) (rs : List Row) → Each most rs → Small most (first rs)
 unfolding first
 first_small most [] each = tt
 first_small most (r ∷ rs) (here, rest) = go r.holds (first_small most rs rest)
   where
-    go : (x : Bool) → Small most (first rs) → Small most (cond x (Refused r.number r.second) (first rs))
+    go : (x : Bool) → Small most (first rs) → Small most (cond x (Err (numbers r.number r.second)) (first rs))
     go true later = here
     go false later = later
 
@@ -56,19 +56,19 @@ lashes {t} f closed = at_most t.closed t.nclosed f.closed.few
 -- by cases on a refusal, whose number is at most `most`
 pub answered_numbers :
     (most : ℕ) (q : Reading) (margin : ℕ) (rule : Rule) (t : Sheet) (before after : List ℕ) {r : Outcome} →
-    ((n p : ℕ) → q ≡ Refused n p → (1 ≤ n) × (n ≤ most) × (p ≤ 834)) →
-    (q ≡ Taken → Fits t) →
+    ((why : Refusal) → q ≡ Err why → (1 ≤ why.number) × (why.number ≤ most) × (why.second ≤ 834)) →
+    (q ≡ Ok tt → Fits t) →
     AnsweredAs q margin rule t before after r →
     Numbers most r
-answered_numbers most (Refused n p) margin rule t before after small fits h =
-    let b = small n p refl in
+answered_numbers most (Err why) margin rule t before after small fits h =
+    let b = small why refl in
     rw h.refused (record { first = b.1; next = b.2 })
-answered_numbers most Taken margin rule t before after small fits h =
+answered_numbers most (Ok _) margin rule t before after small fits h =
     let f = fits refl in
     let short = answer_most t h.answer.figures f.few (lashes f) in
     rw h.taken (record { first = omega arith; next = rw h.answer.encoded (omega (arith, short)) })
 
-pub numbers : {margin : ℕ} {s before after : List ℕ} {r : Outcome} → Checked margin s before after r → Numbers 13 r
-numbers {margin} {s} {before} {after} c =
-    answered_numbers 13 (refusal s (length before)) margin _ _ before after (λ n p e. check_numbers s (length before) e)
+pub two_numbers : {margin : ℕ} {s before after : List ℕ} {r : Outcome} → Checked margin s before after r → Numbers 13 r
+two_numbers {margin} {s} {before} {after} c =
+    answered_numbers 13 (refusal s (length before)) margin _ _ before after (λ _ e. check_numbers s (length before) e)
     (λ e. taken_fits s (sheet_taken s (length before) e)) c.holds

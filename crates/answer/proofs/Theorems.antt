@@ -1,17 +1,17 @@
 -- The theorems of specs/Theorems hold.
+use Rattle.std.specs.Prelude.{Ok, Err}
 use mathlib.Core.Path.{◌≡◌, sym, subst}
 use mathlib.Core.List.{List}
 use Prim.Native.Nat.{ℕ, ◌≤◌}
 use lib.Dec.{lit≤}
 use lib.ListN.{length, drop}
-use Rattle.sheet.specs.declared.Reading.{Reading}
-use Rattle.sheet.specs.declared.Reading.TheVariants.{Taken, Refused}
+use Rattle.sheet.specs.Refusals.{Reading}
 use Rattle.sheet.specs.declared.Sheet.{Sheet}
 use Rattle.sheet.specs.Layout.{sheet_of}
 use Rattle.sheet.specs.Refusals.{refusal}
 use Rattle.statics.proofs.Margins.{figured_wider}
 use Rattle.statics.specs.Loads.{Rule, rule_of}
-use Rattle.answer.specs.declared.Outcome.{Outcome}
+use Rattle.answer.specs.Outcomes.{Outcome}
 use Rattle.answer.specs.Checked.{AnswerTo, AnsweredAs, Checked, kept, demanded}
 use Rattle.answer.specs.Consequences.{AnswerSays}
 use Rattle.answer.specs.Theorems.{DemandThree, Theorems}
@@ -42,12 +42,12 @@ module _ {m n : ℕ} (wider : m ≤ n) where
           (q : Reading) →
           AnsweredAs q m (rule_of (sheet_of s)) (sheet_of s) before after r →
           AnsweredAs q n (rule_of (sheet_of s)) (sheet_of s) before after r
-      go (Refused c p) h = h
-      go Taken h = record { bytes = h.bytes; answer = answer_wider h.answer; taken = h.taken; written = h.written }
+      go (Err why) h = h
+      go (Ok _) h = record { bytes = h.bytes; answer = answer_wider h.answer; taken = h.taken; written = h.written }
 
 demand_three :
     {s before after : List ℕ} {r : Outcome} →
-    refusal s (length before) ≡ Taken →
+    refusal s (length before) ≡ Ok tt →
     Checked kept s before after r →
     DemandThree (sheet_of s) after
 demand_three {s} {before} {after} e c =

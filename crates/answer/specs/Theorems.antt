@@ -1,6 +1,5 @@
 -- Theorems of the answer, stated; proofs/Theorems shows that they hold.
-use Rattle.std.specs.Prelude.{◌≡◌, List, ◌++◌, ℕ, ◌≤◌, length}
-use Rattle.sheet.specs.declared.Reading.TheVariants.{Taken}
+use Rattle.std.specs.Prelude.{Ok, Err, ◌≡◌, List, ◌++◌, ℕ, ◌≤◌, length}
 use Rattle.sheet.specs.declared.Sheet.{Sheet}
 use Rattle.sheet.specs.Fits.{Fits}
 use Rattle.sheet.specs.Layout.{sheet_of}
@@ -9,7 +8,7 @@ use Rattle.sheet.specs.Ends.{End}
 use Rattle.statics.specs.declared.LoadRule.{LoadRule}
 use Rattle.statics.specs.Loads.{Rule, rule_of, StandsFor}
 use Rattle.statics.specs.Ends.{OneSolution}
-use Rattle.answer.specs.declared.Outcome.{Outcome}
+use Rattle.answer.specs.Outcomes.{Outcome}
 use Rattle.answer.specs.Checked.{AnswerTo, Checked, kept, demanded}
 use Rattle.answer.specs.Consequences.{AnswerSays}
 use Rattle.answer.specs.Places.{ReadBack}
@@ -50,7 +49,7 @@ pub record Theorems : Type 0 where
   -- what `check` says is demand 3 for every sheet that it takes
   pub demand_three :
       (s before after : List ℕ) (r : Outcome) →
-      refusal s (length before) ≡ Taken →
+      refusal s (length before) ≡ Ok tt →
       Checked kept s before after r →
       DemandThree (sheet_of s) after
   -- document 01's figures (a) to (j)

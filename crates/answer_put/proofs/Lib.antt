@@ -1,4 +1,3 @@
 -- What the functions' proofs rest on; the entries and the puts are for the crates above too.
 pub mod Entries
 pub mod Puts
-mod Sizes

@@ -102,7 +102,7 @@ module _ (l : List ℕ) (at end kind index : ℕ) (room : at < length l) (byte :
         room = length-set l at word;
       }
 
--- the findings of one kind: before the first, after one more, and after the last of n
+-- the findings of one kind: before the first, and after one more
 module _ (end kind first : ℕ) (size limit : ℕ → ℕ) where
   pub over_none : (l : List ℕ) (at : ℕ) → Put l at (findings_over end kind first size limit 0) l at
   unfolding findings_over flat_map from
@@ -116,8 +116,3 @@ module _ (end kind first : ℕ) (size limit : ℕ → ℕ) where
         Put l at (findings_over end kind first size limit (k + 1)) n q
     unfolding findings_over finding_where
     over_more e v = rw (one_more (λ j. finding_where end kind (first + j) (size (first + j)) (limit (first + j))) k) (then w (rw e at v))
-
-    pub over_all : (n : ℕ) → k ≤ n → n ≤ k → Put l at (findings_over end kind first size limit n) m p
-    over_all n h g =
-        let e : n ≡ k = omega arith in
-        rw e w

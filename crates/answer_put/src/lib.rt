@@ -28,6 +28,9 @@ pub fn put_where(found: &mut [u32], at: usize, end: u8, kind: u8, index: usize, 
     at + (over as usize)
 }
 
+// Three loops, one for rackings, one for sizes with one limit, one for tensions. A generic one over what exceeds would be no plainer: its
+// contract would need each kind's sizes and limits as functions beside the closure.
+
 // The findings of n rackings: kind 1, tiers from 1 on.
 pub fn put_rackings(found: &mut [u32], at: usize, end: u8, xs: &[i32], n: usize) -> usize
     requires { (n ≤ 10) × (n ≤ length xs.now) × (at + n ≤ length found.old) }
@@ -36,10 +39,8 @@ pub fn put_rackings(found: &mut [u32], at: usize, end: u8, xs: &[i32], n: usize)
         found.new result × (result ≤ at + n) }
 {
     let mut next = at;
-    let mut k = 0;
-    while k < n {
+    for k in 0..n {
         next = put_where(found, next, end, 1, 1 + k, racking_over(xs[k]));
-        k += 1;
     }
     next
 }
@@ -60,11 +61,9 @@ pub fn put_over(
         found.new result × (result ≤ at + n) }
 {
     let mut next = at;
-    let mut k = 0;
-    while k < n {
+    for k in 0..n {
         let i = first + k;
         next = put_where(found, next, end, kind, i, limit < xs[i]);
-        k += 1;
     }
     next
 }
@@ -83,12 +82,10 @@ pub fn put_pulls(
         found.new result × (result ≤ at + m) }
 {
     let mut next = at;
-    let mut j = 0;
-    while j < m {
+    for j in 0..m {
         let l = lashes[j];
         let limit = safe_load(l.material, l.breakingLoad);
         next = put_where(found, next, end, 5, j, limit < xs[j]);
-        j += 1;
     }
     next
 }

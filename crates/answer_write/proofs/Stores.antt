@@ -52,7 +52,7 @@ module _ (entry : ℕ → List ℕ) where
     pub entries_more : {n : List ℕ} {q : ℕ} → Wrote m p (entry i) n q → Wrote l at (flat_map entry (below (i + 1))) n q
     entries_more v = rw (one_more entry i) (then w v)
 
-    pub entries_all : (n : ℕ) → i ≤ n → n ≤ i → Wrote l at (flat_map entry (below n)) m p
+    entries_all : (n : ℕ) → i ≤ n → n ≤ i → Wrote l at (flat_map entry (below n)) m p
     entries_all n h g =
         let e : n ≡ i = omega arith in
         rw e w
@@ -67,7 +67,7 @@ module _ (entry : ℕ → List ℕ) where
       Wrote l at (counted n entry) m p
   counted_all i n e w h g = then (run {bytes = n ∷ []} e refl) (entries_all i w n h g)
 
--- the first findings of a list of words: none, one more, and n
+-- the first findings of a list of words: none, and one more
 module _ (s : List ℕ) where
   abbrev first : ℕ → List ℕ
   first n = flat_map word_bytes (take n s)
@@ -83,8 +83,3 @@ module _ (s : List ℕ) where
         let e : first (suc i) ≡ first i ++ word_bytes (get_or s i 0) =
         ap (flat_map word_bytes) (take-suc s i 0 h) ∙ words_append (take i s) (get_or s i 0 ∷ []) in
         rw (add-one i, e) (then w v)
-
-    pub words_all : (n : ℕ) → i ≤ n → n ≤ i → Wrote l at (first n) m p
-    words_all n h g =
-        let e : n ≡ i = omega arith in
-        rw e w

@@ -6,12 +6,16 @@ ghost use mathlib.Core.List.{flat_map};
 ghost use Rattle.std.specs.Prelude.{◌≡◌, ◌+◌, ◌*◌, ◌≤◌, pos, length, get_or, take};
 ghost use Rattle.std.proofs.lemmas.List.Edits.{sets};
 ghost use Rattle.arith.specs.Bytes.{bytes4, twos};
-ghost use Rattle.statics.specs.Inner.InArrays.{Lengths, figures_in};
+ghost use Rattle.statics.specs.Inner.InArrays.{end_in};
 ghost use Rattle.arith.specs.Lists.{counted};
 ghost use Rattle.answer_put.specs.Inner.Puts.{word_bytes};
 ghost use Rattle.answer_write.specs.Inner.Encoding.{Wrote, lash_bytes, end_bytes_of};
 
 use arith::bytes::{write_signed, write1, write4};
+use statics::EndArrays;
+
+// Three sections, each a count and its entries. A generic one over what writes an entry would be no plainer: its contract would need the
+// entry's bytes as a function beside the closure.
 
 // A count n and n rackings; the place behind them.
 fn write_rackings(answer: &mut [u8], at: usize, xs: &[i32], n: usize) -> usize
@@ -21,11 +25,9 @@ fn write_rackings(answer: &mut [u8], at: usize, xs: &[i32], n: usize) -> usize
 {
     write1(answer, at, n as u64);
     let mut next = at + 1;
-    let mut i = 0;
-    while i < n {
+    for i in 0..n {
         write_signed(answer, next, xs[i]);
         next += 4;
-        i += 1;
     }
     next
 }
@@ -45,11 +47,9 @@ fn write_figures(answer: &mut [u8], at: usize, xs: &[u32], n: usize) -> usize
 {
     write1(answer, at, n as u64);
     let mut next = at + 1;
-    let mut i = 0;
-    while i < n {
+    for i in 0..n {
         write_figure(answer, next, xs[i]);
         next += 4;
-        i += 1;
     }
     next
 }
@@ -82,38 +82,27 @@ fn write_lashes<'a>(
 {
     write1(answer, at, m as u64);
     let mut next = at + 1;
-    let mut j = 0;
-    while j < m {
+    for j in 0..m {
         next = write_lash(answer, next, pull[j], athwart[j], vertical[j]);
-        j += 1;
     }
     next
 }
 
-// An end of n tiers and m lashes, whose figures stand in three arrays.
-pub fn write_end(
-    answer: &mut [u8],
-    at: usize,
-    n: usize,
-    m: usize,
-    racking: &[i32],
-    levels: &[u32],
-    forces: &[u32],
-) -> usize
-    requires { (n ≤ 10) × (m ≤ 8) × (at + 8 + 12 * n + 12 * m ≤ length answer.old) × Lengths racking.now levels.now forces.now }
-    ensures { Wrote answer.old at
-        (end_bytes_of n m (figures_in racking.now levels.now forces.now)) answer.new result
+// An end of n tiers and m lashes.
+pub fn write_end(answer: &mut [u8], at: usize, n: usize, m: usize, figures: &EndArrays) -> usize
+    requires { (n ≤ 10) × (m ≤ 8) × (at + 8 + 12 * n + 12 * m ≤ length answer.old) }
+    ensures { Wrote answer.old at (end_bytes_of n m (end_in figures.now)) answer.new result
         × (result ≡ at + 8 + 12 * n + 12 * m) }
 {
     let second = 11;
-    let compression = &levels[..second];
-    let tension = &levels[second..];
+    let compression = &figures.levels[..second];
+    let tension = &figures.levels[second..];
     let middle = 8;
     let last = 16;
-    let pull = &forces[..middle];
-    let athwart = &forces[middle..last];
-    let vertical = &forces[last..];
-    let p = write_rackings(answer, at, racking, n);
+    let pull = &figures.forces[..middle];
+    let athwart = &figures.forces[middle..last];
+    let vertical = &figures.forces[last..];
+    let p = write_rackings(answer, at, &figures.racking, n);
     let q = write_figures(answer, p, compression, n + 1);
     let s = write_figures(answer, q, tension, n);
     write_lashes(answer, s, pull, athwart, vertical, m)
@@ -137,10 +126,8 @@ pub fn write_found(answer: &mut [u8], at: usize, found: &[u32], n: usize) -> usi
         × (result ≡ at + 3 * n) }
 {
     let mut next = at;
-    let mut i = 0;
-    while i < n {
+    for i in 0..n {
         next = write_finding(answer, next, found[i]);
-        i += 1;
     }
     next
 }

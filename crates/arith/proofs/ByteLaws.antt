@@ -1,17 +1,16 @@
 -- Numbers written as bytes read back: of 2 and of 4 bytes, and signed ones, wherever the bytes stand in a list.
 use Prim.Native.Nat.{ℕ, suc, ◌+◌, ◌*◌, ◌-◌, ◌/◌, ◌%◌, ◌<◌, ◌≤◌}
-use mathlib.Core.Bool.{true, false, true≢false}
 use mathlib.Core.List.{List, ◌++◌, append_assoc}
 use mathlib.Core.Path.{◌≡◌, refl, sym, ap, ◌∙◌}
 use native.Mathlib.Nat.{div-div-eq-div-mul, add-zero}
 use native.Mathlib.Omega.{arith}
-use borrow.Author.Tests.{ltb-true, lt-ltb, le-ltb}
-use lib.IntN.{ℤ, pos, negsuc, ◌+ℤ◌}
+use borrow.Author.Tests.{lt-ltb, le-ltb}
+use lib.IntN.{ℤ, pos, negsuc}
 use lib.ListN.{length, get_or, take, drop}
-use lib.Seq.{sets, sets-eq, get_or-append-add, length-take-le}
-use lib.Signed.{lt_z}
+use lib.Seq.{drop-drop, sets, sets-eq, get_or-append-add, length-take-le}
+use borrow.Rule.Slice.PartMut.{put_mid}
 use mir.Syntax.{w32, w64}
-use mir.Val.{Fits, SFits}
+use mir.Val.{SFits, of_z}
 use Rattle.arith.specs.Bytes.{le2, le4, bytes2, bytes4, twos, of_twos, signed4}
 
 -- digits of base 256
@@ -64,7 +63,30 @@ module _ (v : ℕ) (l : List ℕ) (at : ℕ) where
       let s : at ≤ length l = omega arith in
       rw (sets-eq (bytes4 v) l at r, append_assoc) (le4_back v (take at l) (drop (at + 4) l) at (length-take-le at l s) h)
 
--- the bits of a signed number of 32 bits
+-- a copy into the bytes from `at` on
+pub put_bytes :
+    (l : List ℕ) (at k : ℕ) (bytes : List ℕ) {part : List ℕ} →
+    at + length bytes ≤ length l →
+    k ≡ length bytes →
+    part ≡ bytes →
+    put_mid at (at + k - at) l part ≡ sets l at bytes
+put_bytes l at k bytes {part} r size e =
+    let n : at + k - at ≡ length bytes = omega (arith, size) in
+    rw (e, n, drop-drop) (sym (append_assoc (take at l) bytes (drop (at + length bytes) l)) ∙ sym (sets-eq bytes l at r))
+
+-- of a greater number the lowest two bytes
+pub low2 : (v : ℕ) → bytes2 (v % 65536) ≡ bytes2 v
+low2 v =
+    let low : v % 65536 % 256 ≡ v % 256 = omega arith in
+    let high : v % 65536 / 256 % 256 ≡ v / 256 % 256 = omega arith in
+    rw (low, high) refl
+
+-- two's complement is how a word holds a signed number
+pub twos_word : (z : ℤ) → of_z w32 z ≡ twos z
+unfolding twos
+twos_word (pos n) = refl
+twos_word (negsuc n) = refl
+
 pub twos_lt : (z : ℤ) → SFits w32 z → twos z < 4294967296
 unfolding twos
 twos_lt (pos n) f = omega (arith, f.sfits)
@@ -90,25 +112,6 @@ signed_back z f a b at e = ap of_twos (le4_back (twos z) a b at e (twos_lt z f))
 pub signed_stored : (z : ℤ) → SFits w32 z → (l : List ℕ) (at : ℕ) → at + 4 ≤ length l → signed4 (sets l at (bytes4 (twos z))) at ≡ z
 signed_stored z f l at r = ap of_twos (le4_stored (twos z) l at (twos_lt z f) r) ∙ twos_back z f
 
--- what the function `bits` computes
-not_below_lem : (n : ℕ) → n < 0 → ⊥
-not_below_lem n h = omega arith
-
-pub below_zero : (z : ℤ) → SFits w32 z → lt_z z (pos 0) ≡ true → pos 4294967296 +ℤ z ≡ pos (twos z)
-unfolding twos
-below_zero (pos n) f e = absurd (not_below_lem n (ltb-true n 0 e))
-below_zero (negsuc n) f e = simp (le-ltb 4294967296 (suc n) (omega (arith, f.sfits)))
-
-pub from_zero : (z : ℤ) → lt_z z (pos 0) ≡ false → z ≡ pos (twos z)
-unfolding twos
-from_zero (pos n) e = refl
-from_zero (negsuc n) e = absurd (true≢false e)
-
+-- a number of 32 bits in 64
 pub wide64 : {z : ℤ} → SFits w32 z → SFits w64 z
 wide64 {z} f = record { sfits = omega (arith, f.sfits) }
-
-pub twos64 : (z : ℤ) → SFits w32 z → SFits w64 (pos (twos z))
-twos64 z f = record { sfits = omega (arith, twos_lt z f) }
-
-pub twos_u : (z : ℤ) → SFits w32 z → Fits w64 (twos z)
-twos_u z f = record { fits = omega (arith, twos_lt z f) }

@@ -1,9 +1,9 @@
--- Quotients of whole numbers as the code computes them: of products by parts, and rounded up by a step.
+-- Quotients of whole numbers as the code computes them: of products by parts, rounded down and up.
 use Prim.Native.Nat.{ℕ, ◌+◌, ◌*◌, ◌-◌, ◌/◌, ◌%◌, ◌<◌, ◌≤◌}
 use mathlib.Core.Path.{◌≡◌, sym, ap, ◌∙◌}
 use native.Mathlib.Nat.{mul_comm, mul_assoc, add-mul, div-add-mod', mul-add-div_right, mul-add-mod_self_right, mod-lt, le_of_lt}
-use native.Mathlib.Nat.{mul-le-mul_left, mul-le-mul_right, div-le_of_le-mul, div-div-eq-div-mul, div-eq_of_lt, div-eq_of_lt-le}
-use native.Mathlib.Nat.{add-zero, add_comm, div-lt_iff_lt-mul}
+use native.Mathlib.Nat.{mul-le-mul_left, mul-le-mul_right, div-le_of_le-mul, div-div-eq-div-mul}
+use native.Mathlib.Nat.{add_comm, div-lt_iff_lt-mul}
 use native.Mathlib.Omega.{arith}
 
 -- x = x / c * c + x % c, times m
@@ -53,27 +53,6 @@ module _ (x y m : ℕ) (h : 0 < m) where
 
 pub split_mul_twice : (x y m n : ℕ) → 0 < m → (x * (y / m) + x * (y % m) / m) / n ≡ x * y / (m * n)
 split_mul_twice x y m n h = rw (split_mul x y m h) (div-div-eq-div-mul (x * y) m n)
-
--- rounded up: one above the quotient rounded down where there is a remainder
-module _ (x d : ℕ) (h : 0 < d) where
-  up_by_parts : (x + (d - 1)) / d ≡ x / d + (x % d + (d - 1)) / d
-  up_by_parts =
-      let e : x + (d - 1) ≡ x / d * d + (x % d + (d - 1)) = omega (arith, div-add-mod' x d) in
-      ap (λ (n : ℕ). n / d) e ∙ mul-add-div_right h (x / d) (x % d + (d - 1))
-
-  pub up_step : 0 < x % d → x / d + 1 ≡ (x + (d - 1)) / d
-  up_step r =
-      let l : 1 * d ≤ x % d + (d - 1) = omega arith in
-      let u : x % d + (d - 1) < (1 + 1) * d = omega (arith, mod-lt x h) in
-      sym (up_by_parts ∙ ap (λ (n : ℕ). x / d + n) (div-eq_of_lt-le d l u))
-
-  pub up_level : x % d ≤ 0 → x / d ≡ (x + (d - 1)) / d
-  up_level r =
-      let l : x % d + (d - 1) < d = omega arith in
-      sym (up_by_parts ∙ ap (λ (n : ℕ). x / d + n) (div-eq_of_lt l) ∙ add-zero (x / d))
-
-  pub step_le : 0 < x % d → x / d + 1 ≤ x
-  step_le r = omega (arith, div-add-mod' x d, mul-le-mul_left (x / d) h)
 
 -- a product rounded up, by the parts of y over m, then over n
 module _ (x y m : ℕ) (h : 0 < m) where

@@ -41,9 +41,5 @@ pub fn ceil_div(x: u64, d: u64) -> u64
     requires { 0 < d }
     ensures { (result ≡ rounded_up x d) × (result ≤ x / d + 1) }
 {
-    let q = x / d;
-    if x % d > 0 {
-        return q + 1;
-    }
-    q
+    x.div_ceil(d)
 }

@@ -1,4 +1,5 @@
 -- The theorems of lists.
+use Rattle.std.specs.Prelude.{Ok, Err}
 use Prim.Native.Nat.{ℕ, ◌+◌, ◌*◌, ◌/◌, ◌%◌, ◌^◌, ◌<◌, ◌≤◌}
 use mathlib.Core.List.{List, [], ◌∷◌, ◌++◌, Memᴰ}
 use mathlib.Core.Path.{◌≡◌, refl, sym, ap, subst, ◌∙◌}
@@ -7,15 +8,13 @@ use borrow.Author.Tests.{eq-eqb, eqb-true}
 use lib.ListN.{length, get_or, take, drop}
 use lib.Seq.{take_at}
 use Rattle.arith.specs.Bytes.{byte_at}
-use Rattle.sheet.specs.declared.Decoded.{Decoded}
-use Rattle.sheet.specs.declared.Reading.{Reading}
-use Rattle.sheet.specs.declared.Reading.TheVariants.{Taken}
+use Rattle.sheet.specs.Refusals.{first, sheet_rows, Reading}
 use Rattle.sheet.specs.declared.Sheet.{Sheet}
 use Rattle.sheet.specs.Layout.{sheet_of, ◌is◌}
 use Rattle.sheet.specs.Refusals.{decoded, longest_answer}
-use Rattle.sheet.proofs.Refusal.{decoded_sheet, all_taken}
+use Rattle.sheet.proofs.CallRefusals.{decoded_taken, all_taken}
 use Rattle.statics.specs.Loads.{Rule, rule_of}
-use Rattle.answer.specs.declared.Outcome.{Outcome}
+use Rattle.answer.specs.Outcomes.{Outcome}
 use Rattle.answer.specs.Answers.{answer_bytes}
 use Rattle.answer.specs.Checked.{AnswerTo, kept, demanded}
 use Rattle.answer.specs.Consequences.{WithinLimits}
@@ -78,7 +77,7 @@ read_back answer m h {list} rest e =
     ∙ take_at cs rest (length cs) refl
 
 -- what is said of each
-module _ (s g before : List ℕ) (e : list_refusal s g (length before) ≡ Taken) where
+module _ (s g before : List ℕ) (e : list_refusal s g (length before) ≡ Ok tt) where
   abbrev m : ℕ
   m = gear_count g
 
@@ -119,21 +118,21 @@ module _ (s g before : List ℕ) (e : list_refusal s g (length before) ≡ Taken
 
 -- the plain check of the sheet with a choice
 module _ (s g before : List ℕ) (c : ℕ) (answer : List ℕ) (in-sheet : InBytes s) (in-gear : InBytes g)
-    (e : list_refusal s g (length before) ≡ Taken)
+    (e : list_refusal s g (length before) ≡ Ok tt)
     (h : c < 2 ^ gear_count g)
     (room : longest_answer ≤ length answer) where
   abbrev bytes : List ℕ
   bytes = bytes_with s g c
 
-  held : decoded bytes ≡ record { reading = Taken; sheet = with_choice s g c }
+  held : decoded bytes ≡ Ok (with_choice s g c)
   unfolding sheet_of
   held = choice_in_bytes s g c in-sheet in-gear (sheet_is_taken s g (length before) e) (gear_is_taken s g (length before) e)
 
-  taken : (decoded bytes).reading ≡ Taken
-  taken = ap (λ (d : Decoded). d.reading) held
+  taken : first (sheet_rows bytes) ≡ Ok tt
+  taken = (decoded_taken bytes held).0
 
   same : sheet_of bytes ≡ with_choice s g c
-  same = sym (decoded_sheet bytes taken) ∙ ap (λ (d : Decoded). d.sheet) held
+  same = (decoded_taken bytes held).1
 
   verdict_same : byte_at (N.written bytes answer) 0 ≡ byte_at (answer_with (sheet_of s) (gear_lashes g) c) 0
   unfolding N.written answer_bytes

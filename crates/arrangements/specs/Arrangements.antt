@@ -1,14 +1,12 @@
 -- Document 02, P13: what the call for arrangements says that is given a stack sheet s, a gear section g and a list buffer.
-use Rattle.std.specs.Prelude.{ℕ, ◌<◌, ◌^◌, List, ◌∷◌, ◌++◌, ◌≡◌, length, drop}
+use Rattle.std.specs.Prelude.{Ok, Err, ℕ, ◌<◌, ◌^◌, List, ◌∷◌, ◌++◌, ◌≡◌, length, drop}
 use Rattle.arith.specs.Bytes.{byte_at, bytes2}
-use Rattle.sheet.specs.declared.Reading.{Reading}
-use Rattle.sheet.specs.declared.Reading.TheVariants.{Taken, Refused}
+use Rattle.sheet.specs.Refusals.{Reading}
 use Rattle.sheet.specs.declared.Sheet.{Sheet}
 use Rattle.sheet.specs.Layout.{sheet_of, ◌is◌}
 use Rattle.sheet.specs.Refusals.{Row, refusal_of}
 use Rattle.statics.specs.Loads.{rule_of}
-use Rattle.answer.specs.declared.Outcome.{Outcome}
-use Rattle.answer.specs.declared.Outcome.TheVariants as O
+use Rattle.answer.specs.Outcomes.{Outcome}
 use Rattle.answer.specs.Checked.{AnswerTo, TurnedBack}
 use Rattle.choices.specs.Choices.{chosen, choices, those}
 use Rattle.gear.specs.Gear.{gear_count, gear_lashes, row24, gear_rows, with_lashes}
@@ -41,13 +39,13 @@ list_bytes answer m = bytes2 (length (accepted_by answer m)) ++ accepted_by answ
 pub record ListWritten (margin : ℕ) (s g before after : List ℕ) (r : Outcome) : Type 0 where
   pub answer : ℕ → List ℕ
   pub answers : (c : ℕ) → c < 2 ^ gear_count g → AnswerTo margin (rule_of (with_choice s g c)) (with_choice s g c) (answer c)
-  pub taken : r ≡ O.Taken (length (list_bytes answer (gear_count g)))
+  pub taken : r ≡ Ok (length (list_bytes answer (gear_count g)))
   pub written : after ≡ list_bytes answer (gear_count g) ++ drop (length (list_bytes answer (gear_count g))) before
 
 -- by cases on a refusal, which leaves the buffer as it was
 abbrev pub ListedAs : Reading → ℕ → List ℕ → List ℕ → List ℕ → List ℕ → Outcome → Type 0
-ListedAs (Refused number second) margin s g before after r = TurnedBack number second before after r
-ListedAs Taken margin s g before after r = ListWritten margin s g before after r
+ListedAs (Err why) margin s g before after r = TurnedBack why before after r
+ListedAs (Ok _) margin s g before after r = ListWritten margin s g before after r
 
 -- the call with a list buffer that held `before`
 pub record Listed (margin : ℕ) (s g before after : List ℕ) (r : Outcome) : Type 0 where

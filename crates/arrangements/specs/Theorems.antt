@@ -1,12 +1,11 @@
 -- What is proved of lists; proofs/Theorems shows that it holds.
-use Rattle.std.specs.Prelude.{ℕ, ◌<◌, ◌≤◌, ◌^◌, List, ◌≡◌, length, get_or, take, drop}
+use Rattle.std.specs.Prelude.{Ok, Err, ℕ, ◌<◌, ◌≤◌, ◌^◌, List, ◌≡◌, length, get_or, take, drop}
 use Rattle.arith.specs.Bytes.{byte_at, le2}
-use Rattle.sheet.specs.declared.Reading.TheVariants.{Taken}
 use Rattle.sheet.specs.declared.Sheet.{Sheet}
 use Rattle.sheet.specs.Fits.{Fits}
 use Rattle.sheet.specs.Refusals.{longest_answer}
 use Rattle.statics.specs.Loads.{Rule, rule_of}
-use Rattle.answer.specs.declared.Outcome.{Outcome}
+use Rattle.answer.specs.Outcomes.{Outcome}
 use Rattle.answer.specs.Checked.{number, second, kept, demanded}
 use Rattle.answer.specs.Consequences.{WithinLimits, Justified}
 use Rattle.answer.specs.Findings.{Finding}
@@ -53,11 +52,11 @@ pub record Theorems : Type 0 where
   pub numbers :
       (margin : ℕ) (s g before after : List ℕ) (r : Outcome) → Listed margin s g before after r → (number r ≤ 24) × (second r ≤ 834)
   -- no choice is refused
-  pub choice_fits : (s g : List ℕ) (room c : ℕ) → list_refusal s g room ≡ Taken → Fits (with_choice s g c)
+  pub choice_fits : (s g : List ℕ) (room c : ℕ) → list_refusal s g room ≡ Ok tt → Fits (with_choice s g c)
   -- what a list says
   pub says_of_each :
       (s g before after : List ℕ) (r : Outcome) →
-      list_refusal s g (length before) ≡ Taken →
+      list_refusal s g (length before) ≡ Ok tt →
       ListWritten kept s g before after r →
       SaysOfEach s g after
   -- and what the plain check says of each choice
@@ -65,7 +64,7 @@ pub record Theorems : Type 0 where
       (s g before : List ℕ) (c : ℕ) (answer : List ℕ) →
       InBytes s →
       InBytes g →
-      list_refusal s g (length before) ≡ Taken →
+      list_refusal s g (length before) ≡ Ok tt →
       c < 2 ^ gear_count g →
       longest_answer ≤ length answer →
       CheckedAlone s g before c answer

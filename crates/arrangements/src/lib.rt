@@ -12,12 +12,13 @@ ghost use Rattle.arrangements.specs.Arrangements.{Listed};
 ghost use Rattle.arrangements.specs.Inner.Named.{list_for, room_reading, gear_reading, list_returned, list_written};
 ghost use Rattle.arrangements.specs.Inner.Named.{Aboard, Settled};
 
-use answer::Outcome;
+use arrangements_judge::Stack;
 use arrangements_list::{put_choices, put_count};
 use figures_lashes::lash_stiffnesses;
 use figures_tiers::loads_of;
 use limits::{lower_of, safe_load};
-use sheet::{Lash, Reading, Sheet};
+use sheet::{Lash, Refusal, Sheet};
+use statics::{LashMeasures, TierMeasures, TierSprings};
 use tier_springs::{CLOSED_SPRING, DOOR_SPRING, springs_of};
 
 // The room that a list is given, in bytes; none is longer.
@@ -28,82 +29,64 @@ fn write_list(t: Sheet, lashes: [Lash; 8], m: usize, list: &mut [u8]) -> usize
     requires { Fits t × Aboard t m (take m lashes) × (258 ≤ length list.old) }
     ensures { Wrote list.old 0 (list_for t (take m lashes)) list.new result × (result ≤ 258) }
 {
-    let n = t.ntiers;
-    let ts = t.tiers;
     let head = t.head;
     let rule = load_rules::rule_of(head);
-    let mut loads = [0u64; 10];
-    let mut weights = [0u64; 22];
-    let mut heights = [0u16; 10];
-    loads_of(n, ts, rule, &mut loads, &mut weights, &mut heights);
-    let mut k = [DOOR_SPRING; 10];
-    let mut h = [CLOSED_SPRING; 10];
-    springs_of(n, ts, &mut k, &mut h);
-    let mut lengths = [0u64; 8];
-    let mut stiffnesses = [0u64; 8];
-    let mut levels = [0u64; 10];
-    lash_stiffnesses(lashes, m, &mut lengths, &mut stiffnesses, &mut levels);
     let pull = lower_of(safe_load(head.lockMaterial, head.lockBreakingLoad));
-    let next = put_choices(
-        t,
+    let mut stack = Stack {
+        sheet: t,
         pull,
-        lashes,
-        m,
-        &lengths,
-        &stiffnesses,
-        &k,
-        &h,
-        &heights,
-        &loads,
-        &weights,
-        list,
-    );
+        springs: TierSprings {
+            door: [DOOR_SPRING; 10],
+            closed: [CLOSED_SPRING; 10],
+        },
+        tiers: TierMeasures::ZEROS,
+    };
+    loads_of(t.ntiers, t.tiers, rule, &mut stack.tiers);
+    springs_of(t.ntiers, t.tiers, &mut stack.springs);
+    let mut measures = LashMeasures::ZEROS;
+    lash_stiffnesses(lashes, m, &mut measures);
+    let next = put_choices(&stack, lashes, m, &measures, list);
     put_count(list, next - 2);
     next
 }
 
 // The list of a stack within the limits, unless the buffer is short, which is left as it was.
-fn list_aboard(t: Sheet, lashes: [Lash; 8], m: usize, list: &mut [u8]) -> Outcome
+fn list_aboard(t: Sheet, lashes: [Lash; 8], m: usize, list: &mut [u8]) -> Result<usize, Refusal>
     requires { Fits t × Aboard t m (take m lashes) }
     ensures { Settled (room_reading (length list.old)) (list_for t (take m lashes)) list.old
         list.new result }
 {
     if list.len() < LONGEST {
-        return Outcome::Refused(13, LONGEST);
+        return Err(Refusal {
+            number: 13,
+            second: LONGEST,
+        });
     }
-    Outcome::Taken(write_list(t, lashes, m, list))
+    Ok(write_list(t, lashes, m, list))
 }
 
 // The list of a stack within the limits, unless it holds a lash or the gear section is turned back.
-fn list_gear(t: Sheet, gear: &[u8], list: &mut [u8]) -> Outcome
+fn list_gear(t: Sheet, gear: &[u8], list: &mut [u8]) -> Result<usize, Refusal>
     requires { Fits t }
     ensures { Settled (gear_reading t gear.now (length list.old)) (list_for t (gear_lashes gear.now))
         list.old list.new result }
 {
     if (0 < t.ndoor) | (0 < t.nclosed) {
-        return Outcome::Refused(24, 0);
+        return Err(Refusal {
+            number: 24,
+            second: 0,
+        });
     }
-    let aboard = gear::decode(gear, t.ntiers);
-    let reading = aboard.reading;
-    match reading {
-        Reading::Refused(number, second) => Outcome::Refused(number, second),
-        Reading::Taken => {
-            let lashes = aboard.lashes;
-            list_aboard(t, lashes, aboard.count, list)
-        }
-    }
+    let aboard = gear::decode(gear, t.ntiers)?;
+    list_aboard(t, aboard.lashes, aboard.count, list)
 }
 
 // The list of a stack sheet and the gear aboard, written from the buffer's start; a refusal leaves the buffer as it was.
-pub fn list(sheet: &[u8], gear: &[u8], list: &mut [u8]) -> Outcome
+pub fn list(sheet: &[u8], gear: &[u8], list: &mut [u8]) -> Result<usize, Refusal>
     ensures listed { Listed kept sheet.now gear.now list.old list.new result }
     ensures named { (result ≡ list_returned sheet.now gear.now (length list.old))
         × (list.new ≡ list_written sheet.now gear.now list.old) }
 {
-    let decoded = sheet_decode::decode(sheet);
-    let reading = decoded.reading;
-    match reading {
-        Reading::Refused(number, second) => Outcome::Refused(number, second),
-        Reading::Taken => list_gear(decoded.sheet, gear, list),
-    }
+    let t = sheet_decode::decode(sheet)?;
+    list_gear(t, gear, list)
 }

@@ -23,16 +23,15 @@ use Rattle.statics.specs.Inner.Computed.{springs_of, end_figures_by, figures_by,
 use Rattle.statics.proofs.EndChain.{rule_stands}
 use Rattle.figures_lashes.specs.Inner.Lashes.{LashesMeasured, LevelStiffnesses}
 use Rattle.figures.specs.Inner.Ends.{Workable, figures_with}
-use Rattle.figures.proofs.EndLaws.{each_ten, end_solvable, workable, named_fits, springs_long}
+use Rattle.figures.proofs.EndLaws.{each_ten, end_solvable, workable, named_fits}
 use Rattle.limits.specs.declared.PullLimit.{PullLimit}
 use Rattle.answer.specs.Findings.{end_code, figures_of, named, end_findings}
 use Rattle.answer_findings.proofs.FindingLaws.{end_none, ends_accepted}
 use Rattle.end_verdict.specs.Inner.NoneOver.{none_found}
 use Rattle.end_verdict.proofs.NoneFound.{none_found_lem}
 use Rattle.gear.specs.Gear.{with_lashes}
-use Rattle.chosen_lashes.specs.declared.Chosen.{Chosen}
+use Rattle.gear.specs.declared.Gear.{Gear}
 use Rattle.chosen_lashes.specs.Inner.Gathered.{Held, held_in, held_of}
-use Rattle.chosen_lashes.proofs.Picked.{levels_long}
 use Rattle.chosen_lashes.proofs.Held.{lashes_held, held_measured, held_levels}
 use Rattle.arrangements_judge.specs.Inner.Judged.{lashes_in, EndGiven, no_finding, StackGiven, accepted_with}
 
@@ -44,14 +43,11 @@ module _ {n : ℕ} {k hs : List ℕ} {m : ℕ} {ls : List Lash} {κ ω weights :
       let few : length ls ≤ 8 = omega (arith, e.counted, e.works.few_lashes) in
       rw e.levelled (held_levels ls few (λ j q. each_ten e.works e.counted j (omega (arith, e.counted))))
 
-  pub given_solvable : Solvable n k κ ω × (n ≤ length k) × (n ≤ length κ) × (n ≤ length ω)
-  given_solvable =
-      let few = e.works.few in
-      let held = ap length e.levelled ∙ levels_long ls in
-      (end_solvable e.works e.counted levels, omega (arith, e.long), omega arith, omega (arith, e.long))
+  pub given_solvable : Solvable n k κ ω
+  given_solvable = end_solvable e.works e.counted levels
 
 -- a stack that is given, with lashes with which it fits
-module _ {t : Sheet} {pull : PullLimit} {k h hs ω weights : List ℕ} (given : StackGiven t pull k h hs ω weights) {g : Chosen}
+module _ {t : Sheet} {pull : PullLimit} {k h hs ω weights : List ℕ} (given : StackGiven t pull k h hs ω weights) {g : Gear}
     {lengths stiffs κ : List ℕ}
     (held : held_in g lengths stiffs κ ≡ held_of (lashes_in g))
     (fits : Fits (with_lashes (lashes_in g) t)) where
@@ -82,7 +78,6 @@ module _ {t : Sheet} {pull : PullLimit} {k h hs ω weights : List ℕ} (given : 
         works = rw (springs_are e, same e) works;
         counted = sym counted;
         levelled = ap (λ (x : Held). x.levels) held;
-        long = (ap length (springs_are e) ∙ springs_long e (tiers_of t), given.long.0, given.long.1, given.long.2);
       }
     where
       works : Workable t.ntiers (springs_of e (tiers_of t)) hs g.count (lashes_of e with_them) ω weights

@@ -11,105 +11,66 @@ ghost use Rattle.figures_tiers.specs.Inner.Loads.{TiersMeasured};
 ghost use Rattle.figures_lashes.specs.Inner.Lashes.{LashesMeasured};
 ghost use Rattle.gear.specs.Gear.{with_lashes};
 ghost use Rattle.chosen_lashes.specs.Inner.Gathered.{held_in, held_of};
-ghost use Rattle.arrangements_judge.specs.Inner.Judged.{EndGiven, no_finding, StackGiven, accepted_with};
+ghost use Rattle.arrangements_judge.specs.Inner.Judged.{EndGiven, no_finding, Given, accepted_with};
 
-use chosen_lashes::Chosen;
 use end_verdict::no_finding;
 use figures::figures_at;
+use gear::Gear;
 use limits::PullLimit;
-use sheet::{Lash, Sheet};
+use sheet::Sheet;
+use springs::SpringChain;
+use statics::{EndArrays, LashMeasures, TierMeasures, TierSprings};
 
-// Whether an end has no finding: n tiers with springs k, m lashes of these lengths and stiffnesses, whose sums by level are kappa. Of the
-// tiers only the heights are needed, as in figures_at.
-fn end_without_finding(
-    n: usize,
-    k: &[u64; 10],
-    heights: &[u16; 10],
-    lashes: [Lash; 8],
-    m: usize,
-    lengths: &[u64; 8],
-    stiffnesses: &[u64; 8],
-    kappa: &[u64; 10],
-    pull: PullLimit,
-    loads: &[u64; 10],
-    weights: &[u64; 22],
-) -> bool
-    requires end_given { EndGiven n k.now heights.now m (take m lashes) kappa.now loads.now weights.now }
-    requires lashes_measured { LashesMeasured m (take m lashes) lengths.now stiffnesses.now }
-    ensures { (ts : List Tier) → TiersMeasured n ts heights.now weights.now
-        → Fitting (figures_with n k.now ts (take m lashes) loads.now)
-        → result ≡ no_finding n k.now ts lashes m pull loads.now }
+// A stack before its lashes are chosen: its sheet, the lower limit of a pull, and what else does not depend on the lashes.
+#[derive(Clone, Copy)]
+pub struct Stack {
+    pub sheet: Sheet,
+    pub pull: PullLimit,
+    pub springs: TierSprings,
+    pub tiers: TierMeasures,
+}
+
+// Whether an end with springs k has no finding with these lashes, which are measured. Of the tiers only what is measured of them is needed,
+// as in figures_at.
+fn end_without_finding(stack: &Stack, k: &[u64; 10], g: Gear, measures: &LashMeasures) -> bool
+    requires end_given { EndGiven stack.now.sheet.ntiers k.now stack.now.tiers.heights g.count (take g.count g.lashes) measures.now.levels
+        stack.now.tiers.loads stack.now.tiers.weights }
+    requires lashes_measured { LashesMeasured g.count (take g.count g.lashes) measures.now.lengths measures.now.stiffnesses }
+    ensures { (ts : List Tier) → TiersMeasured stack.now.sheet.ntiers ts stack.now.tiers.heights stack.now.tiers.weights
+        → Fitting (figures_with stack.now.sheet.ntiers k.now ts (take g.count g.lashes) stack.now.tiers.loads)
+        → result ≡ no_finding stack.now.sheet.ntiers k.now ts g.lashes g.count stack.now.pull stack.now.tiers.loads }
 {
-    let d = springs_solve::solve(n, k, kappa, loads);
-    let mut racking = [0i32; 10];
-    let mut levels = [0u32; 21];
-    let mut forces = [0u32; 24];
+    let n = stack.sheet.ntiers;
+    let chain = SpringChain {
+        n,
+        k,
+        kappa: &measures.levels,
+        omega: &stack.tiers.loads,
+    };
+    let d = springs_solve::solve(chain);
+    let mut out = EndArrays::ZEROS;
     figures_at(
         n,
         k,
-        heights,
-        lashes,
-        m,
-        lengths,
-        stiffnesses,
+        &stack.tiers,
+        g.lashes,
+        g.count,
+        measures,
         &d,
-        weights,
-        &mut racking,
-        &mut levels,
-        &mut forces,
+        &mut out,
     );
-    no_finding(n, pull, lashes, m, &racking, &levels, &forces)
+    no_finding(n, stack.pull, g.lashes, g.count, &out)
 }
 
-// Whether a stack with these lashes at both ends is accepted: kappa are the sums of their stiffnesses by level, k and h the springs of the
-// door end and of the closed end.
-pub fn accepts(
-    t: Sheet,
-    g: Chosen,
-    lengths: &[u64; 8],
-    stiffnesses: &[u64; 8],
-    kappa: &[u64; 10],
-    pull: PullLimit,
-    k: &[u64; 10],
-    h: &[u64; 10],
-    heights: &[u16; 10],
-    loads: &[u64; 10],
-    weights: &[u64; 22],
-) -> bool
-    requires stack_given { StackGiven t pull k.now h.now heights.now loads.now weights.now }
-    requires kappa_value { (held_in g lengths.now stiffnesses.now kappa.now ≡ held_of (take g.count g.lashes))
-        × Fits (with_lashes (take g.count g.lashes) t) }
-    ensures { result ≡ accepted_with (take g.count g.lashes) t }
+// Whether a stack with these lashes, which are measured, at both ends is accepted.
+pub fn accepts(stack: &Stack, g: Gear, measures: &LashMeasures) -> bool
+    requires stack_given { Given stack.now }
+    requires held { (held_in g measures.now.lengths measures.now.stiffnesses measures.now.levels ≡ held_of (take g.count g.lashes))
+        × Fits (with_lashes (take g.count g.lashes) stack.now.sheet) }
+    ensures { result ≡ accepted_with (take g.count g.lashes) stack.now.sheet }
 {
-    let n = t.ntiers;
-    let lashes = g.lashes;
-    let m = g.count;
-    if !end_without_finding(
-        n,
-        k,
-        heights,
-        lashes,
-        m,
-        lengths,
-        stiffnesses,
-        kappa,
-        pull,
-        loads,
-        weights,
-    ) {
+    if !end_without_finding(stack, &stack.springs.door, g, measures) {
         return false;
     }
-    end_without_finding(
-        n,
-        h,
-        heights,
-        lashes,
-        m,
-        lengths,
-        stiffnesses,
-        kappa,
-        pull,
-        loads,
-        weights,
-    )
+    end_without_finding(stack, &stack.springs.closed, g, measures)
 }

@@ -7,14 +7,14 @@ ghost use Rattle.std.proofs.lemmas.List.Edits.{sets};
 ghost use Rattle.arith.specs.Bytes.{bytes2};
 ghost use Rattle.answer_write.specs.Inner.Encoding.{Wrote};
 ghost use Rattle.choices.specs.Choices.{chosen};
-ghost use Rattle.arrangements_judge.specs.Inner.Judged.{StackGiven, accepted_with};
+ghost use Rattle.arrangements_judge.specs.Inner.Judged.{Given, accepted_with};
 ghost use Rattle.arrangements_list.specs.Inner.Listing.{GearGiven, accepted_choices};
 
-use arrangements_judge::accepts;
+use arrangements_judge::{Stack, accepts};
 use choices::choice_at;
 use chosen_lashes::gather;
-use limits::PullLimit;
-use sheet::{Lash, Sheet};
+use sheet::Lash;
+use statics::LashMeasures;
 
 // How many choices there are of 0 to 8 lashes.
 const COUNTS: [usize; 9] = [1, 2, 4, 8, 16, 32, 64, 128, 256];
@@ -30,41 +30,21 @@ fn choices_of(m: usize) -> usize
 fn judge(
     choice: u8,
     all: usize,
-    t: Sheet,
-    pull: PullLimit,
+    stack: &Stack,
     lashes: [Lash; 8],
     m: usize,
-    lengths: &[u64; 8],
-    stiffnesses: &[u64; 8],
-    k: &[u64; 10],
-    h: &[u64; 10],
-    heights: &[u16; 10],
-    loads: &[u64; 10],
-    weights: &[u64; 22],
+    measures: &LashMeasures,
 ) -> bool
-    requires stack_given { StackGiven t pull k.now h.now heights.now loads.now weights.now }
-    requires gear_given { GearGiven t m (take m lashes) lengths.now stiffnesses.now }
-    ensures { result ≡ ltb choice all && accepted_with (chosen choice (take m lashes)) t }
+    requires stack_given { Given stack.now }
+    requires gear_given { GearGiven stack.now.sheet m (take m lashes) measures.now.lengths measures.now.stiffnesses }
+    ensures { result ≡ ltb choice all && accepted_with (chosen choice (take m lashes)) stack.now.sheet }
 {
     if all <= choice as usize {
         return false;
     }
-    let mut long = [0u64; 8];
-    let mut stiff = [0u64; 8];
-    let mut kappa = [0u64; 10];
-    let g = gather(
-        choice,
-        lashes,
-        m,
-        lengths,
-        stiffnesses,
-        &mut long,
-        &mut stiff,
-        &mut kappa,
-    );
-    accepts(
-        t, g, &long, &stiff, &kappa, pull, k, h, heights, loads, weights,
-    )
+    let mut used = LashMeasures::ZEROS;
+    let g = gather(choice, lashes, m, measures, &mut used);
+    accepts(stack, g, &used)
 }
 
 // A choice's byte at `at` if it is accepted, and the place behind it.
@@ -79,48 +59,25 @@ fn put_choice(list: &mut [u8], at: usize, choice: u8, accepted: bool) -> usize
     at + 1
 }
 
-// The accepted choices of m lashes, one behind another from byte 2 on; the place behind them. k and h are the springs of the door end and
-// of the closed end.
+// The accepted choices of m lashes, one behind another from byte 2 on; the place behind them.
 pub fn put_choices(
-    t: Sheet,
-    pull: PullLimit,
+    stack: &Stack,
     lashes: [Lash; 8],
     m: usize,
-    lengths: &[u64; 8],
-    stiffnesses: &[u64; 8],
-    k: &[u64; 10],
-    h: &[u64; 10],
-    heights: &[u16; 10],
-    loads: &[u64; 10],
-    weights: &[u64; 22],
+    measures: &LashMeasures,
     list: &mut [u8],
 ) -> usize
-    requires stack_given { StackGiven t pull k.now h.now heights.now loads.now weights.now }
-    requires gear_given { GearGiven t m (take m lashes) lengths.now stiffnesses.now × (258 ≤ length list.old) }
-    ensures { Wrote list.old 2 (accepted_choices t (take m lashes) m) list.new result × (result ≤ 258) }
+    requires stack_given { Given stack.now }
+    requires gear_given { GearGiven stack.now.sheet m (take m lashes) measures.now.lengths measures.now.stiffnesses
+        × (258 ≤ length list.old) }
+    ensures { Wrote list.old 2 (accepted_choices stack.now.sheet (take m lashes) m) list.new result × (result ≤ 258) }
 {
     let all = choices_of(m);
     let mut next = 2;
-    let mut i = 0;
-    while i < 256 {
+    for i in 0..256 {
         let choice = choice_at(i);
-        let accepted = judge(
-            choice,
-            all,
-            t,
-            pull,
-            lashes,
-            m,
-            lengths,
-            stiffnesses,
-            k,
-            h,
-            heights,
-            loads,
-            weights,
-        );
+        let accepted = judge(choice, all, stack, lashes, m, measures);
         next = put_choice(list, next, choice, accepted);
-        i += 1;
     }
     next
 }
@@ -130,6 +87,5 @@ pub fn put_count(list: &mut [u8], n: usize)
     requires { 2 ≤ length list.old }
     ensures { list.new ≡ sets list.old 0 (bytes2 n) }
 {
-    list[0] = (n % 256) as u8;
-    list[1] = (n / 256 % 256) as u8;
+    arith::bytes::write2(list, 0, n as u64);
 }

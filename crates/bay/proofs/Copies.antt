@@ -1,4 +1,5 @@
 -- A taken sheet's bytes with the wind codes of a bay put in: what they hold, and that they are taken.
+use Rattle.std.specs.Prelude.{Ok}
 use Prim.Native.Nat.{ℕ, zero, suc, ◌+◌, ◌/◌, ◌%◌, ◌<◌, ◌≤◌}
 use mathlib.Core.Bool.{Bool, true, false, cond}
 use mathlib.Core.List.{List, map}
@@ -13,7 +14,6 @@ use lib.Seq.{get_or-set_same, get_or-set_other}
 use Rattle.arith.specs.Bytes.{byte_at, le2}
 use Rattle.arith.specs.Lists.{below, padded}
 use Rattle.arith.proofs.Arrays.{length_entries, entry, entries_are, entry_at}
-use Rattle.sheet.specs.declared.Reading.TheVariants.{Taken}
 use Rattle.sheet.specs.declared.Tier.{Tier}
 use Rattle.sheet.specs.Layout.{tier_of, tier_count, tier_place, tier_in, blank_tier, tiers_in, wind_code, exposed, turned, tier_fits}
 use Rattle.sheet.specs.Layout.{sheet_of}
@@ -62,7 +62,7 @@ module _ (wind : ℕ → ℕ) (s : List ℕ) where
           ∙ before (omega (arith, h, ne))
 
 -- a taken sheet between these neighbours
-module _ (near : Neighbours) (s : List ℕ) (taken : first (sheet_rows s) ≡ Taken) where
+module _ (near : Neighbours) (s : List ℕ) (taken : first (sheet_rows s) ≡ Ok tt) where
   abbrev n : ℕ
   n = tier_count s
 
@@ -163,7 +163,7 @@ module _ (near : Neighbours) (s : List ℕ) (taken : first (sheet_rows s) ≡ Ta
   held_as : (j : ℕ) → j < n → tier_in copy j ≡ tier_at (sheet_in_bay near (sheet_of s)).tiers j
   held_as j h = tier_is j h ∙ sym (fresh_is j h)
 
-  pub copy_taken : first (sheet_rows copy) ≡ Taken
+  pub copy_taken : first (sheet_rows copy) ≡ Ok tt
   copy_taken =
       let f = in_bay_fits near fits in
       let inside : (j : ℕ) → j < n → j < (sheet_of s).ntiers = λ j h. rw count_is h in

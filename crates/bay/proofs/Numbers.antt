@@ -1,4 +1,5 @@
 -- How great the three numbers of a report are.
+use Rattle.std.specs.Prelude.{Ok, Err}
 use Prim.Native.Nat.{ℕ, zero, suc, ◌+◌, ◌*◌, ◌<◌, ◌≤◌}
 use mathlib.Core.Bool.{Bool, true, false}
 use mathlib.Core.List.{List, flat_map}
@@ -8,20 +9,17 @@ use native.Mathlib.Omega.{arith}
 use lib.ListN.{length, length-append}
 use Rattle.arith.specs.Lists.{from}
 use Rattle.answer.proofs.Longest.{answer_most}
-use Rattle.bay_rows.specs.declared.BayReading.{BayReading}
-use Rattle.bay_rows.specs.declared.BayReading.TheVariants as R
 use Rattle.bay_rows.specs.Bay.{row_count, row_of, is_empty}
-use Rattle.bay_rows.specs.Refusals.{rows_refusal, bay_refusal}
+use Rattle.bay_rows.specs.Refusals.{BayReading, rows_refusal, bay_refusal}
 use Rattle.bay_rows.proofs.Numbers.{Most, bay_numbers}
 use Rattle.bay_rows.proofs.Readings.{sound, rows_taken_of}
 use Rattle.bay_answer.specs.Rows.{row_bytes}
 use Rattle.bay_put.proofs.Answers.{lashes}
-use Rattle.bay.specs.declared.BayOutcome.{BayOutcome}
-use Rattle.bay.specs.Reports.{number, second, row, row_sheet, report_bytes, RowAnswered, ReportedAs, BayReported}
+use Rattle.bay.specs.Reports.{BayOutcome, number, second, row, row_sheet, report_bytes, RowAnswered, ReportedAs, BayReported}
 use Rattle.bay.proofs.Named.{row_fits}
 
 -- a row's answer is at most 834 bytes long
-module _ {margin : ℕ} (b : List ℕ) (taken : rows_refusal b ≡ R.Taken) (k : ℕ) (h : k < row_count b) {bytes : List ℕ}
+module _ {margin : ℕ} (b : List ℕ) (taken : rows_refusal b ≡ Ok tt) (k : ℕ) (h : k < row_count b) {bytes : List ℕ}
     (a : RowAnswered margin b k bytes) where
   answer_short : length bytes ≤ 834
   answer_short = go (is_empty (row_of b k)) refl
@@ -51,7 +49,7 @@ rows_short answer i (suc m) h =
         let e : suc i + j ≡ i + suc j = omega arith in
         rw e q
 
-module _ {margin : ℕ} (b : List ℕ) (taken : rows_refusal b ≡ R.Taken) (answer : ℕ → List ℕ)
+module _ {margin : ℕ} (b : List ℕ) (taken : rows_refusal b ≡ Ok tt) (answer : ℕ → List ℕ)
     (rows : (k : ℕ) → k < row_count b → RowAnswered margin b k (answer k)) where
   pub report_short : length (report_bytes b answer) ≤ 20073
   unfolding report_bytes
@@ -72,6 +70,6 @@ bay_most margin b before after r c = go (bay_refusal b (length before)) refl (ba
         Most 16 20073 24 q →
         ReportedAs q margin b before after r →
         (number r ≤ 16) × (second r ≤ 20073) × (row r ≤ 24)
-    go (R.Refused n p k) e small h = rw h.refused small
-    go R.Taken e small h =
+    go (Err why) e small h = rw h.refused small
+    go (Ok _) e small h =
         rw h.taken (omega arith, report_short b (rows_taken_of b (length before) e) h.answer h.rows, omega arith)

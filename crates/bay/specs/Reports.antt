@@ -1,5 +1,5 @@
 -- Document 02, P6: the whole bay in one report. Rows are counted from 0 here, from 1 in a refusal.
-use Rattle.std.specs.Prelude.{ℕ, ◌<◌, true, false, ◌≡◌, drop, length}
+use Rattle.std.specs.Prelude.{Result, Ok, Err, ℕ, ◌<◌, true, false, ◌≡◌, drop, length}
 use mathlib.Core.List.{List, [], ◌∷◌, ◌++◌, flat_map}
 use Rattle.arith.specs.Bytes.{bytes4}
 use Rattle.arith.specs.Lists.{below}
@@ -9,26 +9,27 @@ use Rattle.statics.specs.Loads.{rule_of}
 use Rattle.answer.specs.Checked.{AnswerTo}
 use Rattle.bay_wind.specs.Sums.{sum_of, greatest_of}
 use Rattle.bay_wind.specs.Exposure.{neighbours_of, sheet_in_bay}
-use Rattle.bay_rows.specs.declared.BayReading.{BayReading}
-use Rattle.bay_rows.specs.declared.BayReading.TheVariants as R
+use Rattle.bay_rows.specs.declared.BayRefusal.{BayRefusal}
 use Rattle.bay_rows.specs.Bay.{row_count, row_of, is_empty, outlines}
-use Rattle.bay_rows.specs.Refusals.{bay_refusal}
+use Rattle.bay_rows.specs.Refusals.{BayReading, bay_refusal}
 use Rattle.bay_answer.specs.Rows.{row_bytes, accepted_in, mass_of, racking_in}
-use Rattle.bay.specs.declared.BayOutcome.{BayOutcome}
-use Rattle.bay.specs.declared.BayOutcome.TheVariants.{Taken, Refused}
+
+-- what a report returns: its length, or the three numbers of a refusal
+abbrev pub BayOutcome : Type 0
+BayOutcome = Result ℕ BayRefusal
 
 -- the three numbers that are returned: 0, the report's length and 0; or a refusal's number, its second number and the row
 abbrev pub number : BayOutcome → ℕ
-number (Taken n) = 0
-number (Refused c p k) = c
+number (Ok n) = 0
+number (Err why) = why.number
 
 abbrev pub second : BayOutcome → ℕ
-second (Taken n) = n
-second (Refused c p k) = p
+second (Ok n) = n
+second (Err why) = why.second
 
 abbrev pub row : BayOutcome → ℕ
-row (Taken n) = 0
-row (Refused c p k) = k
+row (Ok n) = 0
+row (Err why) = why.row
 
 -- the sheet of row k with the wind codes that the rows beside it give it
 abbrev pub row_sheet : List ℕ → ℕ → Sheet
@@ -49,21 +50,21 @@ pub record RowAnswered (margin : ℕ) (b : List ℕ) (k : ℕ) (bytes : List ℕ
   pub loaded : is_empty (row_of b k) ≡ false → AnswerTo margin (rule_of (row_sheet b k)) (row_sheet b k) bytes
 
 -- a refused bay: its three numbers, and the buffer as it was
-pub record BayTurnedBack (number second row : ℕ) (before after : List ℕ) (r : BayOutcome) : Type 0 where
-  pub refused : r ≡ Refused number second row
+pub record BayTurnedBack (why : BayRefusal) (before after : List ℕ) (r : BayOutcome) : Type 0 where
+  pub refused : r ≡ Err why
   pub untouched : after ≡ before
 
 -- a taken bay: 0 and the report's length; the buffer holds the report's bytes, then what stood there
 pub record ReportWritten (margin : ℕ) (b before after : List ℕ) (r : BayOutcome) : Type 0 where
   pub answer : ℕ → List ℕ
   pub rows : (k : ℕ) → k < row_count b → RowAnswered margin b k (answer k)
-  pub taken : r ≡ Taken (length (report_bytes b answer))
+  pub taken : r ≡ Ok (length (report_bytes b answer))
   pub written : after ≡ report_bytes b answer ++ drop (length (report_bytes b answer)) before
 
 -- by cases on a refusal
 abbrev pub ReportedAs : BayReading → ℕ → List ℕ → List ℕ → List ℕ → BayOutcome → Type 0
-ReportedAs (R.Refused number second row) margin b before after r = BayTurnedBack number second row before after r
-ReportedAs R.Taken margin b before after r = ReportWritten margin b before after r
+ReportedAs (Err why) margin b before after r = BayTurnedBack why before after r
+ReportedAs (Ok _) margin b before after r = ReportWritten margin b before after r
 
 -- the report of the bay b with a buffer that held `before`
 pub record BayReported (margin : ℕ) (b before after : List ℕ) (r : BayOutcome) : Type 0 where

@@ -1,20 +1,16 @@
 -- What is proved of reports; proofs/Theorems shows that it holds.
-use Rattle.std.specs.Prelude.{ℕ, zero, suc, ◌+◌, ◌/◌, ◌%◌, ◌<◌, ◌≤◌, Bool, false, cond, List, ◌++◌, ◌≢◌, ◌≡◌, drop, length, set}
+use Rattle.std.specs.Prelude.{Ok, ℕ, zero, suc, ◌+◌, ◌/◌, ◌%◌, ◌<◌, ◌≤◌, Bool, false, cond, List, ◌++◌, ◌≢◌, ◌≡◌, drop, length, set}
 use Rattle.arith.specs.Bytes.{byte_at}
-use Rattle.sheet.specs.declared.Reading.TheVariants as R
 use Rattle.sheet.specs.Layout.{tier_count, tier_place, sheet_of}
 use Rattle.sheet.specs.Fits.{tier_at}
 use Rattle.sheet.specs.Refusals.{decoded, longest_answer}
-use Rattle.answer.specs.declared.Outcome.TheVariants as O
 use Rattle.answer.specs.Checked.{kept}
 use Rattle.answer.specs.Theorems.{DemandThree}
 use Rattle.answer.specs.Inner.Named.{returned, written}
 use Rattle.bay_wind.specs.Exposure.{height_of, neighbours_of, exposed_in_bay}
-use Rattle.bay_rows.specs.declared.BayReading.TheVariants.{Taken}
 use Rattle.bay_rows.specs.Bay.{row_count, row_of, is_empty, outlines}
 use Rattle.bay_rows.specs.Refusals.{rows_refusal}
-use Rattle.bay.specs.declared.BayOutcome.{BayOutcome}
-use Rattle.bay.specs.Reports.{number, second, row, row_sheet, ReportWritten, BayReported}
+use Rattle.bay.specs.Reports.{BayOutcome, number, second, row, row_sheet, ReportWritten, BayReported}
 use Rattle.bay.specs.Inner.Named.{row_answer, bay_returned, bay_written}
 
 -- a stack sheet's bytes with other wind bytes in its first k tiers
@@ -32,7 +28,7 @@ exposed_at b k j =
     let tiers = (sheet_of (row_of b k)).tiers in
     exposed_in_bay (neighbours_of (outlines b) k) (tier_at tiers j) (height_of tiers (suc j))
 
--- only bit 0 of the wind bytes is replaced, by whether the box is exposed; the bytes are a sheet that is taken, and holds the row's sheet
+-- only bit 0 of the wind bytes is replaced, by whether the box is exposed; the bytes are taken, and hold the row's sheet
 pub record WindsPut (b : List ℕ) (k : ℕ) : Type 0 where
   pub size : length (row_in_bay b k) ≡ length (row_of b k)
   pub elsewhere :
@@ -45,12 +41,11 @@ pub record WindsPut (b : List ℕ) (k : ℕ) : Type 0 where
       (j : ℕ) →
       j < tier_count (row_of b k) →
       byte_at (row_in_bay b k) (tier_place j + 1) / 2 ≡ byte_at (row_of b k) (tier_place j + 1) / 2
-  pub taken : (decoded (row_in_bay b k)).reading ≡ R.Taken
-  pub holds : sheet_of (row_in_bay b k) ≡ row_sheet b k
+  pub decodes : decoded (row_in_bay b k) ≡ Ok (row_sheet b k)
 
 -- what the plain check returns and writes on these bytes: the row's answer
 pub record CheckedAlone (b : List ℕ) (k : ℕ) (before : List ℕ) : Type 0 where
-  pub returns : returned (row_in_bay b k) (length before) ≡ O.Taken (length (row_answer b k))
+  pub returns : returned (row_in_bay b k) (length before) ≡ Ok (length (row_answer b k))
   pub writes : written (row_in_bay b k) before ≡ row_answer b k ++ drop (length (row_answer b k)) before
 
 pub record Theorems : Type 0 where
@@ -66,10 +61,10 @@ pub record Theorems : Type 0 where
       (number r ≤ 16) × (second r ≤ 20073) × (row r ≤ 24)
   -- of each loaded row of a bay that has no refusal: its bytes with the wind bits put in, the plain check of these, and demand 3
   pub winds_put :
-      (b : List ℕ) (k : ℕ) → rows_refusal b ≡ Taken → k < row_count b → is_empty (row_of b k) ≡ false → WindsPut b k
+      (b : List ℕ) (k : ℕ) → rows_refusal b ≡ Ok tt → k < row_count b → is_empty (row_of b k) ≡ false → WindsPut b k
   pub alone :
       (b : List ℕ) (k : ℕ) (before : List ℕ) →
-      rows_refusal b ≡ Taken →
+      rows_refusal b ≡ Ok tt →
       k < row_count b →
       is_empty (row_of b k) ≡ false →
       longest_answer ≤ length before →

@@ -3,7 +3,7 @@
 
 #![tactic(auto)]
 
-ghost use Rattle.std.specs.Prelude.{◌≡◌, [], ◌∷◌, ◌++◌, ◌<◌, ◌≤◌, length, drop};
+ghost use Rattle.std.specs.Prelude.{Ok, ◌≡◌, [], ◌∷◌, ◌++◌, ◌<◌, ◌≤◌, length, drop};
 ghost use Rattle.std.proofs.lemmas.List.Edits.{sets};
 ghost use Rattle.arith.specs.Bytes.{bytes4};
 ghost use Rattle.answer.specs.Checked.{kept};
@@ -12,14 +12,7 @@ ghost use Rattle.bay.specs.Reports.{BayReported};
 ghost use Rattle.bay.specs.Inner.Named.{bay_bytes, bay_returned, bay_written};
 
 use bay_answer::Totals;
-use bay_rows::BayReading;
-
-// What a report returns: its length, or the two numbers of a refusal and the row, from 1, or 0 where it is about none.
-#[derive(Clone, Copy)]
-pub enum BayOutcome {
-    Taken(usize),
-    Refused(u64, usize, usize),
-}
+use bay_rows::BayRefusal;
 
 // The room that a report is given, in bytes; none is longer.
 const LONGEST: usize = 20073;
@@ -37,7 +30,7 @@ fn put_totals(report: &mut [u8], totals: Totals)
 
 // The report of a bay that has no refusal: its length.
 fn put_report(bay: &[u8], report: &mut [u8]) -> usize
-    requires { (rows_refusal bay.now ≡ BayReading.Taken) × (20073 ≤ length report.old) }
+    requires { (rows_refusal bay.now ≡ Ok tt) × (20073 ≤ length report.old) }
     ensures { (result ≡ length (bay_bytes bay.now))
         × (report.new ≡ bay_bytes bay.now ++ drop (length (bay_bytes bay.now)) report.old) }
 {
@@ -48,19 +41,18 @@ fn put_report(bay: &[u8], report: &mut [u8]) -> usize
 }
 
 // The report of a bay. A refusal leaves the buffer as it was.
-pub fn report(bay: &[u8], report: &mut [u8]) -> BayOutcome
+pub fn report(bay: &[u8], report: &mut [u8]) -> Result<usize, BayRefusal>
     ensures reported { BayReported kept bay.now report.old report.new result }
     ensures named { (result ≡ bay_returned bay.now (length report.old))
         × (report.new ≡ bay_written bay.now report.old) }
 {
-    let reading = bay_rows::test_bay(bay);
-    match reading {
-        BayReading::Refused(number, second, row) => BayOutcome::Refused(number, second, row),
-        BayReading::Taken => {
-            if report.len() < LONGEST {
-                return BayOutcome::Refused(13, LONGEST, 0);
-            }
-            BayOutcome::Taken(put_report(bay, report))
-        }
+    bay_rows::test_bay(bay)?;
+    if report.len() < LONGEST {
+        return Err(BayRefusal {
+            number: 13,
+            second: LONGEST,
+            row: 0,
+        });
     }
+    Ok(put_report(bay, report))
 }

@@ -26,19 +26,13 @@ fn size_at(s: &[u8], at: usize) -> u32
     ensures { (result ≡ nat_abs (signed4 s.now at)) × (result ≤ 2 ^ 31) }
 {
     let bits = bytes::read4(s, at) as u32;
-    if bits < 2147483648 {
-        return bits;
-    }
-    4294967295 - bits + 1
+    bits.cast_signed().unsigned_abs()
 }
 
 pub fn larger_of(a: u32, b: u32) -> u32
     ensures { result ≡ larger a b }
 {
-    if a < b {
-        return b;
-    }
-    a
+    a.max(b)
 }
 
 // The greatest size among n rackings of each end, whose counts stand at `door` and at `closed`.
@@ -47,12 +41,10 @@ fn greatest_at(answer: &[u8], door: usize, closed: usize, n: usize) -> u32
     ensures { (result ≡ larger (greatest_at answer.now door n) (greatest_at answer.now closed n)) × (result ≤ 2 ^ 31) }
 {
     let mut greatest: u32 = 0;
-    let mut i = 0;
-    while i < n {
+    for i in 0..n {
         let at_door = size_at(answer, door + 1 + 4 * i);
         let at_closed = size_at(answer, closed + 1 + 4 * i);
         greatest = larger_of(greatest, larger_of(at_door, at_closed));
-        i += 1;
     }
     greatest
 }
@@ -72,11 +64,9 @@ pub fn mass_of(row: &[u8], n: usize) -> u64
     ensures { (result ≡ sum_of (λ j. (tier_at (tiers_in row.now n) j).mass) n) × (result ≤ 655350) }
 {
     let mut mass: u64 = 0;
-    let mut k = 0;
-    while k < n {
+    for k in 0..n {
         let tier = sheet_fields::tier_of(row, 9 + 12 * k);
         mass += tier.mass as u64;
-        k += 1;
     }
     mass
 }
@@ -85,10 +75,7 @@ pub fn mass_of(row: &[u8], n: usize) -> u64
 fn accepted_by(verdict: u8) -> u64
     ensures { (result ≡ cond (eqb verdict 0) 1 0) × (result ≤ 1) }
 {
-    if verdict == 0 {
-        return 1;
-    }
-    0
+    u64::from(verdict == 0)
 }
 
 // What the report takes from an answer for n tiers of this mass together and so many lashes at the door end.

@@ -1,5 +1,6 @@
 -- What is exposed is what shows above the height that both sides cover.
-use Prim.Native.Nat.{ℕ, ◌+◌, ◌*◌, ◌-◌, ◌<◌, ◌≤◌}
+use Rattle.std.specs.Prelude.{Option, None, Some}
+use Prim.Native.Nat.{ℕ, ◌+◌, ◌*◌, ◌-◌, ◌<◌, ◌≤◌, min}
 use mathlib.Core.Bool.{Bool, true, false, cond, ◌&&◌, ◌||◌}
 use mathlib.Core.Path.{◌≡◌, refl, sym, ap₂, ◌∙◌}
 use native.Mathlib.Omega.{arith}
@@ -9,20 +10,17 @@ use Rattle.sheet.specs.declared.Tier.{Tier}
 use Rattle.sheet.specs.Layout.{◌is◌}
 use Rattle.bay_wind.specs.declared.Outline.{Outline}
 use Rattle.bay_wind.specs.declared.Nearest.{Nearest}
-use Rattle.bay_wind.specs.declared.Nearest.TheVariants.{Nothing, Loaded}
 use Rattle.bay_wind.specs.declared.Neighbours.{Neighbours}
 use Rattle.bay_wind.specs.Exposure.{exposed_above, exposed_beside, exposed_in_bay}
-use Rattle.bay_cover.specs.Inner.Covers.{cover_above, cover_beside, smaller, cover_of, shown_above}
+use Rattle.bay_cover.specs.Inner.Covers.{cover_above, cover_beside, cover_of, shown_above}
 use Rattle.bay_cover.proofs.Thirds.{shown}
 
 module _ (a b : ℕ) where
-  pub left_smaller : a < b → a ≡ smaller a b
-  unfolding smaller
-  left_smaller h = rw (lt-ltb a b h)
+  left_smaller : a < b → a ≡ min a b
+  left_smaller h = omega arith
 
-  pub right_smaller : b ≤ a → b ≡ smaller a b
-  unfolding smaller
-  right_smaller h = rw (le-ltb a b h)
+  right_smaller : b ≤ a → b ≡ min a b
+  right_smaller h = omega arith
 
 or_last : (x : Bool) → x || true ≡ true
 or_last true = refl
@@ -30,7 +28,7 @@ or_last false = refl
 
 -- shown above either is shown above the smaller
 pub shown_either :
-    (a b height top : ℕ) → shown_above a height top || shown_above b height top ≡ shown_above (smaller a b) height top
+    (a b height top : ℕ) → shown_above a height top || shown_above b height top ≡ shown_above (min a b) height top
 shown_either a b height top = go (ltb a b) refl (shown_above a height top) refl (shown_above b height top) refl
   where
     go :
@@ -40,7 +38,7 @@ shown_either a b height top = go (ltb a b) refl (shown_above a height top) refl 
         shown_above a height top ≡ x →
         (y : Bool) →
         shown_above b height top ≡ y →
-        shown_above a height top || shown_above b height top ≡ shown_above (smaller a b) height top
+        shown_above a height top || shown_above b height top ≡ shown_above (min a b) height top
     go true e true f y g = rw (← left_smaller a b (ltb-true a b e), f) refl
     go true e false f y g =
         let p = ltb-true a b e in
@@ -67,9 +65,9 @@ module _ (t : Tier) (top : ℕ) (some : 0 < t.height) (inside : t.height ≤ top
       go true = fully
       go false = sym (shown t.height row.height top)
 
-  beside : (nearest : Nearest) → exposed_beside t top nearest ≡ shown_above (cover_beside t.size nearest) t.height top
-  beside Nothing = fully
-  beside (Loaded between row) = above between row
+  beside : (nearest : Option Nearest) → exposed_beside t top nearest ≡ shown_above (cover_beside t.size nearest) t.height top
+  beside None = fully
+  beside (Some near) = above near.between near.row
 
   pub in_bay : (near : Neighbours) → exposed_in_bay near t top ≡ shown_above (cover_of t.size near) t.height top
   in_bay near =

@@ -3,7 +3,7 @@
 #![tactic(auto)]
 
 ghost use Rattle.std.specs.Prelude.{◌≡◌};
-ghost use Rattle.bay_cover.specs.Inner.Covers.{cover_above, cover_beside, smaller, cover_of, shown_above};
+ghost use Rattle.bay_cover.specs.Inner.Covers.{cover_above, cover_beside, cover_of, shown_above};
 
 use bay_wind::{Nearest, Neighbours, Outline};
 
@@ -21,22 +21,13 @@ fn cover_above(size: u8, between: usize, row: Outline) -> u32
 }
 
 // On one side.
-fn cover_beside(size: u8, nearest: Nearest) -> u32
+fn cover_beside(size: u8, nearest: Option<Nearest>) -> u32
     ensures { result ≡ cover_beside size nearest }
 {
     match nearest {
-        Nearest::Nothing => 0,
-        Nearest::Loaded(between, row) => cover_above(size, between, row),
+        None => 0,
+        Some(Nearest { between, row }) => cover_above(size, between, row),
     }
-}
-
-fn smaller_of(a: u32, b: u32) -> u32
-    ensures { result ≡ smaller a b }
-{
-    if a < b {
-        return a;
-    }
-    b
 }
 
 // On both sides.
@@ -45,7 +36,7 @@ pub fn cover_of(size: u8, near: Neighbours) -> u32
 {
     let port = near.port;
     let starboard = near.starboard;
-    smaller_of(cover_beside(size, port), cover_beside(size, starboard))
+    cover_beside(size, port).min(cover_beside(size, starboard))
 }
 
 // Whether a box is exposed whose top stands at `top`.

@@ -1,4 +1,5 @@
 -- A row as the rows beside it see it, by its bytes.
+use Rattle.std.specs.Prelude.{Ok}
 use Prim.Native.Nat.{ℕ, ◌<◌, ◌≤◌}
 use mathlib.Core.List.{List}
 use mathlib.Core.Path.{◌≡◌, sym, ap, ◌∙◌}
@@ -8,7 +9,6 @@ use lib.ListN.{length}
 use Rattle.arith.specs.Bytes.{byte_at}
 use Rattle.arith.proofs.Arrays.{entry_at}
 use Rattle.sheet.specs.declared.Tier.{Tier}
-use Rattle.sheet.specs.declared.Reading.TheVariants.{Taken}
 use Rattle.sheet.specs.Layout.{tier_count, tier_place, tier_in, tiers_in, blank_tier, sheet_of}
 use Rattle.sheet.specs.Refusals.{first, sheet_rows}
 use Rattle.sheet.proofs.Clear.{parts, some_tier, few_tiers, tiers_there}
@@ -22,7 +22,7 @@ module _ (s : List ℕ) where
   unfolding outline_of
   empty_outline e = rw (eq-eqb (length s) 0 e)
 
-  module _ (loaded : length s ≡ 0 → ⊥) (taken : first (sheet_rows s) ≡ Taken) where
+  module _ (loaded : length s ≡ 0 → ⊥) (taken : first (sheet_rows s) ≡ Ok tt) where
     pub tiers_few : tier_count s ≤ 10
     tiers_few = few_tiers s (parts s taken).tiers
 

@@ -2,24 +2,14 @@
 
 #![tactic(auto)]
 
-ghost use Rattle.std.specs.Prelude.{◌≡◌, map, ◌+◌, ◌*◌, ◌≤◌, length};
+ghost use Rattle.std.specs.Prelude.{Ok, ◌≡◌, map, ◌+◌, ◌*◌, ◌≤◌, length};
 ghost use Rattle.arith.specs.Lists.{below, padded};
-ghost use Rattle.sheet.specs.declared.Reading.TheVariants.{Taken};
 ghost use Rattle.sheet.specs.Layout.{tiers_in};
 ghost use Rattle.bay_wind.specs.Exposure.{height_of, empty_row};
-ghost use Rattle.bay_wind.specs.Inner.Paired.{paired};
-ghost use Rattle.bay_rows.specs.declared.BayReading.TheVariants as R;
 ghost use Rattle.bay_rows.specs.Bay.{row_count, row_of, outline_of};
 ghost use Rattle.bay_rows.specs.Refusals.{row_reading, rows_refusal};
 
 use bay_wind::Outline;
-
-// The outlines of up to 24 rows, by their heights and their sizes; 0 behind the last row.
-#[derive(Clone, Copy)]
-pub struct Measures {
-    pub heights: [u32; 24],
-    pub sizes: [u8; 24],
-}
 
 // The height of the first n tiers of a stack sheet together.
 fn height_of(row: &[u8], n: usize) -> u32
@@ -27,11 +17,9 @@ fn height_of(row: &[u8], n: usize) -> u32
     ensures { result ≡ height_of (tiers_in row.now n) n }
 {
     let mut height: u32 = 0;
-    let mut k = 0;
-    while k < n {
+    for k in 0..n {
         let t = sheet_fields::tier_of(row, 9 + 12 * k);
         height += t.height as u32;
-        k += 1;
     }
     height
 }
@@ -44,7 +32,7 @@ fn empty_row() -> Outline
 
 // A row that has no refusal, as the rows beside it see it.
 fn outline_of(row: &[u8]) -> Outline
-    requires { row_reading row.now ≡ Taken }
+    requires { row_reading row.now ≡ Ok tt }
     ensures { result ≡ outline_of row.now }
 {
     if row.len() == 0 {
@@ -57,22 +45,16 @@ fn outline_of(row: &[u8]) -> Outline
     }
 }
 
-// The outlines of the n rows of a bay that has no refusal.
-pub fn outlines(bay: &[u8], n: usize) -> Measures
-    requires { (n ≤ 24) × (n ≡ row_count bay.now) × (rows_refusal bay.now ≡ R.Taken) }
-    ensures { (paired result.heights result.sizes ≡ padded 24 empty_row (map (λ k. outline_of (row_of bay.now k)) (below n)))
-        × (length result.heights ≡ 24) × (length result.sizes ≡ 24) }
+// The outlines of the n rows of a bay that has no refusal; empty rows behind the last.
+pub fn outlines(bay: &[u8], n: usize) -> [Outline; 24]
+    requires { (n ≤ 24) × (n ≡ row_count bay.now) × (rows_refusal bay.now ≡ Ok tt) }
+    ensures { result ≡ padded 24 empty_row (map (λ k. outline_of (row_of bay.now k)) (below n)) }
 {
-    let mut heights = [0u32; 24];
-    let mut sizes = [0u8; 24];
+    let mut outlines = [empty_row(); 24];
     let mut at = 1;
-    let mut k = 0;
-    while k < n {
-        let row = outline_of(bay_rows::row_at(bay, at));
-        heights[k] = row.height;
-        sizes[k] = row.size;
+    for k in 0..n {
+        outlines[k] = outline_of(bay_rows::row_at(bay, at));
         at = bay_rows::next_place(bay, at);
-        k += 1;
     }
-    Measures { heights, sizes }
+    outlines
 }

@@ -1,4 +1,5 @@
 -- The answer to a sheet within the limits in a buffer with room for it, and the lengths of its parts.
+use Rattle.std.specs.Prelude.{Ok}
 use Prim.Native.Nat.{ℕ, ◌+◌, ◌*◌, ◌-◌, ◌≤◌}
 use mathlib.Core.List.{List, [], ◌++◌, append_assoc}
 use mathlib.Core.Path.{◌≡◌, refl, sym, ap, ap₂, ◌∙◌}
@@ -12,15 +13,13 @@ use lib.Seq.{sets, sets-eq, length-take-le, drop_at, take_at}
 use Rattle.arith.specs.Bytes.{bytes2, signed4}
 use Rattle.arith.proofs.Parts.{part_put}
 use Rattle.sheet.specs.declared.Sheet.{Sheet}
-use Rattle.sheet.specs.declared.Reading.TheVariants.{Taken}
 use Rattle.sheet.specs.Ends.{End, door, closed, lashes_of}
 use Rattle.sheet.specs.Fits.{Fits}
 use Rattle.sheet.specs.Refusals.{row13, longest_answer}
 use Rattle.sheet.proofs.Rows.{no_rows, row_passed}
 use Rattle.statics.specs.declared.LoadRule.{LoadRule}
 use Rattle.statics.specs.Inner.Computed.{load_rule_of, figures_by}
-use Rattle.answer.specs.declared.Outcome.{Outcome}
-use Rattle.answer.specs.declared.Outcome.TheVariants as O
+use Rattle.answer.specs.Outcomes.{Outcome}
 use Rattle.answer.specs.Answers.{answer_bytes}
 use Rattle.answer.specs.Checked.{room_for}
 use Rattle.answer.specs.Places.{entry_place, end_place}
@@ -36,23 +35,17 @@ use Rattle.bay_answer.specs.Inner.Totalled.{answer_of, row_totals, greatest_with
 module _ (c : LoadRule) (t : Sheet) (before : List ℕ) {after : List ℕ} {r : Outcome} (room : 834 ≤ length before) (rule : c ≡ load_rule_of t)
     (named : (r ≡ returned_as (room_for (length before)) (answer_by c t))
     × (after ≡ written_as (room_for (length before)) (answer_by c t) before)) where
-  roomy : room_for (length before) ≡ Taken
+  roomy : room_for (length before) ≡ Ok tt
   roomy = row_passed (row13 longest_answer (length before)) [] (le-ltb (length before) 834 room) ∙ no_rows
 
   bytes : answer_by c t ≡ answer_of t
   bytes = ap (λ c. answer_by c t) rule
 
-  pub returns_length : r ≡ O.Taken (length (answer_of t))
+  pub returns_length : r ≡ Ok (length (answer_of t))
   returns_length = named.0 ∙ ap₂ returned_as roomy bytes
 
   pub writes_answer : after ≡ answer_of t ++ drop (length (answer_of t)) before
   writes_answer = named.1 ∙ ap₂ (λ q b. written_as q b before) roomy bytes
-
-pub taken_length : {m n : ℕ} → O.Taken m ≡ O.Taken n → m ≡ n
-taken_length e = cc
-
-pub never_refused : {A : Type 0} {m c p : ℕ} → O.Refused c p ≡ O.Taken m → A
-never_refused e = let z : ◌≡◌ {A = ℕ} 0 1 = cc in absurd (omega arith)
 
 -- the rackings of an end whose bytes begin at `at`
 pub end_racking_lem :

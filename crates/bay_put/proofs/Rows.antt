@@ -1,4 +1,5 @@
 -- One row: empty, or answered as its sheet is.
+use Rattle.std.specs.Prelude.{Ok}
 use Prim.Native.Nat.{ℕ, ◌+◌, ◌*◌, ◌≤◌}
 use mathlib.Core.List.{List, [], ◌∷◌, ◌++◌}
 use mathlib.Core.Path.{◌≡◌, refl, sym, ap, ◌∙◌}
@@ -8,7 +9,6 @@ use lib.ListN.{length, drop}
 use lib.Seq.{sets, sets-eq}
 use Rattle.arith.specs.Bytes.{byte_at, bytes2}
 use Rattle.sheet.specs.declared.Sheet.{Sheet}
-use Rattle.sheet.specs.declared.Reading.TheVariants.{Taken}
 use Rattle.sheet.specs.declared.Tier.{Tier}
 use Rattle.sheet.specs.Layout.{tier_count, tier_place, door_place, tiers_in, sheet_of}
 use Rattle.sheet.specs.Fits.{tier_at, Fits}
@@ -61,14 +61,14 @@ module _ (near : Neighbours) where
     unfolding answer_in
     loaded_answer = rw (ne_eqb (length s) 0 loaded)
 
-    pub row_taken_lem : row_reading s ≡ Taken → first (sheet_rows s) ≡ Taken
+    pub row_taken_lem : row_reading s ≡ Ok tt → first (sheet_rows s) ≡ Ok tt
     row_taken_lem e = sym (loaded_reading s loaded) ∙ e
 
-    pub sheet_fits : row_reading s ≡ Taken → Fits (sheet_in_bay near (sheet_of s))
+    pub sheet_fits : row_reading s ≡ Ok tt → Fits (sheet_in_bay near (sheet_of s))
     sheet_fits e = in_bay_fits near (taken_fits s (row_taken_lem e))
 
   -- a row whose sheet has no refusal
-  module _ (s : List ℕ) (taken : first (sheet_rows s) ≡ Taken) where
+  module _ (s : List ℕ) (taken : first (sheet_rows s) ≡ Ok tt) where
     abbrev in_bay : Sheet
     in_bay = sheet_in_bay near (sheet_of s)
 
@@ -115,7 +115,7 @@ module _ (near : Neighbours) where
         )
 
 -- its tiers are there, ten at most
-pub tiers_held : (s : List ℕ) → first (sheet_rows s) ≡ Taken → (tier_count s ≤ 10) × (tier_place (tier_count s) ≤ length s)
+pub tiers_held : (s : List ℕ) → first (sheet_rows s) ≡ Ok tt → (tier_count s ≤ 10) × (tier_place (tier_count s) ≤ length s)
 tiers_held s taken =
     let p = (parts s taken).tiers in
     (few_tiers s p, tiers_there s p)

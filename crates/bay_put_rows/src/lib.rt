@@ -2,8 +2,7 @@
 
 #![tactic(auto)]
 
-ghost use Rattle.std.specs.Prelude.{◌≡◌, ◌++◌, ◌<◌, ◌≤◌, ◌^◌, length, drop};
-ghost use Rattle.bay_rows.specs.declared.BayReading.TheVariants as R;
+ghost use Rattle.std.specs.Prelude.{Ok, ◌≡◌, ◌++◌, ◌<◌, ◌≤◌, ◌^◌, length, drop};
 ghost use Rattle.bay_rows.specs.Bay.{row_count};
 ghost use Rattle.bay_rows.specs.Refusals.{rows_refusal};
 ghost use Rattle.bay_answer.specs.Inner.Totalled.{Bounded};
@@ -39,23 +38,19 @@ fn added_up(a: Totals, b: Totals) -> Totals
 
 // The answers of the n rows of a bay that has no refusal, one behind another, and what is said of the rows together.
 pub fn put_rows(bay: &[u8], n: usize, report: &mut [u8]) -> Totals
-    requires { (rows_refusal bay.now ≡ R.Taken) × (n ≡ row_count bay.now) × (20064 ≤ length report.old) }
+    requires { (rows_refusal bay.now ≡ Ok tt) × (n ≡ row_count bay.now) × (20064 ≤ length report.old) }
     ensures { (result ≡ totals_of bay.now n) × Bounded n result
         × (report.new ≡ rows_bytes bay.now n ++ drop (length (rows_bytes bay.now n)) report.old) }
 {
     let rows = bay_outlines::outlines(bay, n);
-    let heights = rows.heights;
-    let sizes = rows.sizes;
     let mut totals = none();
     let mut at = 1;
-    let mut k = 0;
-    while k < n {
-        let near = bay_wind::neighbours_of(&heights, &sizes, n, k);
+    for k in 0..n {
+        let near = bay_wind::neighbours_of(&rows[..n], k);
         let to = totals.length;
         let row = bay_put::put_row(bay_rows::row_at(bay, at), near, &mut report[to..]);
         totals = added_up(totals, row);
         at = bay_rows::next_place(bay, at);
-        k += 1;
     }
     totals
 }

@@ -1,4 +1,5 @@
 -- Which row of a bay is refused first, and what holds of a bay that is not.
+use Rattle.std.specs.Prelude.{Ok, Err}
 use Prim.Native.Nat.{ℕ, zero, suc, ◌+◌, ◌-◌, ◌<◌, ◌≤◌}
 use mathlib.Core.Bool.{Bool, true, false, not}
 use mathlib.Core.List.{List, [], ◌∷◌}
@@ -10,20 +11,19 @@ use borrow.Author.Tests.{eqb-true, leb-true, not-false, eq-eqb, ne_eqb, lt-ltb, 
 use lib.Dec.{eqb, leb}
 use lib.ListN.{length}
 use Rattle.arith.specs.Lists.{from, below}
-use Rattle.sheet.specs.declared.Reading.{Reading}
-use Rattle.sheet.specs.declared.Reading.TheVariants as R
 use Rattle.sheet.specs.Layout.{within}
-use Rattle.sheet.specs.Refusals.{row13, first, sheet_rows}
+use Rattle.sheet.specs.Refusals.{Reading, numbers, row13, first, sheet_rows}
 use Rattle.sheet.proofs.Bools.{or_false, and_true}
 use Rattle.sheet.proofs.Rows.{no_rows, row_holds, row_passed}
-use Rattle.bay_rows.specs.declared.BayReading.{BayReading}
-use Rattle.bay_rows.specs.declared.BayReading.TheVariants.{Taken, Refused}
 use Rattle.bay_rows.specs.Bay.{row_count, row_place, row_of}
-use Rattle.bay_rows.specs.Refusals.{about, ◌else◌, row16, row_reading, first_of, rows_refusal, longest_report, bay_refusal}
+use Rattle.bay_rows.specs.Refusals.{BayReading, of_row, about, ◌else◌, row16, row_reading, first_of, rows_refusal, longest_report, bay_refusal}
+use Rattle.sheet.specs.declared.Refusal.{Refusal}
+use Rattle.bay_rows.specs.declared.BayRefusal.{BayRefusal}
+use Rattle.sheet.proofs.Results.{err_not_ok}
 
 -- a row of its own
 module _ (s : List ℕ) where
-  pub empty_reading : length s ≡ 0 → row_reading s ≡ R.Taken
+  pub empty_reading : length s ≡ 0 → row_reading s ≡ Ok tt
   empty_reading e = rw (eq-eqb (length s) 0 e)
 
   pub loaded_reading : (length s ≡ 0 → ⊥) → row_reading s ≡ first (sheet_rows s)
@@ -40,13 +40,14 @@ module _ (b : List ℕ) (k n : ℕ) where
       let e : n - k ≡ suc (n - (k + 1)) = omega arith in
       rw (e, add-one k)
 
-  pub next_taken : k < n → row_reading (row_of b k) ≡ R.Taken → rest k ≡ rest (k + 1)
+  pub next_taken : k < n → row_reading (row_of b k) ≡ Ok tt → rest k ≡ rest (k + 1)
   next_taken h e = split h ∙ ap (λ r. about (suc k) r else rest (k + 1)) e
 
-  pub next_refused : {c p : ℕ} → k < n → row_reading (row_of b k) ≡ R.Refused c p → rest k ≡ Refused c p (k + 1)
-  next_refused {c} {p} h e = split h ∙ ap (λ r. about (suc k) r else rest (k + 1)) e ∙ ap (Refused c p) (sym (add-one k))
+  pub next_refused : {why : Refusal} → k < n → row_reading (row_of b k) ≡ Err why → rest k ≡ Err (of_row (k + 1) why)
+  next_refused {why} h e =
+      split h ∙ ap (λ r. about (suc k) r else rest (k + 1)) e ∙ ap (λ i. Err (of_row i why)) (sym (add-one k))
 
-  pub none_left : n ≤ k → rest k ≡ Taken
+  pub none_left : n ≤ k → rest k ≡ Ok tt
   unfolding first_of from
   none_left h =
       let e : n - k ≡ 0 = omega arith in
@@ -85,7 +86,7 @@ module _ (b : List ℕ) where
     pub ends_there : row_place b (row_count b) ≡ length b
     ends_there = eqb-true _ _ (not-false _ parts.1)
 
-  pub laid_badly : (row16 b).holds ≡ true → rows_refusal b ≡ Refused 16 0 0
+  pub laid_badly : (row16 b).holds ≡ true → rows_refusal b ≡ Err (of_row 0 (numbers 16 0))
   unfolding rows_refusal
   laid_badly e = rw (row_holds (row16 b) [] e)
 
@@ -98,16 +99,13 @@ pub record Sound (b : List ℕ) : Type 0 where
   pub some : 1 ≤ row_count b
   pub few : row_count b ≤ 24
   pub ends : row_place b (row_count b) ≡ length b
-  pub rows : (k : ℕ) → k < row_count b → row_reading (row_of b k) ≡ R.Taken
+  pub rows : (k : ℕ) → k < row_count b → row_reading (row_of b k) ≡ Ok tt
 
-never : {A : Type 0} {c p k : ℕ} → Refused c p k ≡ Taken → A
-never e = let z : ◌≡◌ {A = ℕ} 0 1 = cc in absurd (omega arith)
+first_taken : (k : ℕ) (r : Reading) (q : BayReading) → about k r else q ≡ Ok tt → (r ≡ Ok tt) × (q ≡ Ok tt)
+first_taken k (Ok _) q e = (refl, e)
+first_taken k (Err why) q e = err_not_ok e
 
-first_taken : (k : ℕ) (r : Reading) (q : BayReading) → about k r else q ≡ Taken → (r ≡ R.Taken) × (q ≡ Taken)
-first_taken k R.Taken q e = (refl, e)
-first_taken k (R.Refused c p) q e = never e
-
-each_taken : (b : List ℕ) (i m : ℕ) → first_of b (from i m) ≡ Taken → (j : ℕ) → j < m → row_reading (row_of b (i + j)) ≡ R.Taken
+each_taken : (b : List ℕ) (i m : ℕ) → first_of b (from i m) ≡ Ok tt → (j : ℕ) → j < m → row_reading (row_of b (i + j)) ≡ Ok tt
 unfolding first_of from
 each_taken b i zero e j h = absurd (omega (arith, h))
 each_taken b i (suc m) e zero h = rw (add-zero i) (first_taken (suc i) (row_reading (row_of b i)) _ e).0
@@ -115,12 +113,12 @@ each_taken b i (suc m) e (suc j) h =
     rw (add-suc i j, ← suc-add i j)
     (each_taken b (suc i) m (first_taken (suc i) (row_reading (row_of b i)) _ e).1 j (omega (arith, h)))
 
-module _ (b : List ℕ) (e : rows_refusal b ≡ Taken) where
-  by_parts : ((row16 b).holds ≡ false) × (first_of b (below (row_count b)) ≡ Taken)
+module _ (b : List ℕ) (e : rows_refusal b ≡ Ok tt) where
+  by_parts : ((row16 b).holds ≡ false) × (first_of b (below (row_count b)) ≡ Ok tt)
   by_parts = go (row16 b).holds refl
     where
-      go : (h : Bool) → (row16 b).holds ≡ h → ((row16 b).holds ≡ false) × (first_of b (below (row_count b)) ≡ Taken)
-      go true q = never (sym (laid_badly b q) ∙ e)
+      go : (h : Bool) → (row16 b).holds ≡ h → ((row16 b).holds ≡ false) × (first_of b (below (row_count b)) ≡ Ok tt)
+      go true q = err_not_ok (sym (laid_badly b q) ∙ e)
       go false q = (q, sym (laid_well b q) ∙ e)
 
   pub sound : Sound b
@@ -138,25 +136,25 @@ module _ (b : List ℕ) (room : ℕ) where
   abbrev short : Reading
   short = first (row13 longest_report room ∷ [])
 
-  pub rows_refused : {c p k : ℕ} → rows_refusal b ≡ Refused c p k → bay_refusal b room ≡ Refused c p k
+  pub rows_refused : {why : BayRefusal} → rows_refusal b ≡ Err why → bay_refusal b room ≡ Err why
   unfolding bay_refusal
   rows_refused e = ap (λ r. r else about 0 short) e
 
-  pub rows_taken_of : bay_refusal b room ≡ Taken → rows_refusal b ≡ Taken
+  pub rows_taken_of : bay_refusal b room ≡ Ok tt → rows_refusal b ≡ Ok tt
   unfolding bay_refusal
   rows_taken_of e = go (rows_refusal b) e
     where
-      go : (r : BayReading) → r else about 0 short ≡ Taken → r ≡ Taken
-      go Taken q = refl
-      go (Refused c p k) q = never q
+      go : (r : BayReading) → r else about 0 short ≡ Ok tt → r ≡ Ok tt
+      go (Ok _) q = refl
+      go (Err why) q = err_not_ok q
 
-  module _ (taken : rows_refusal b ≡ Taken) where
-    pub room_short : room < 20073 → bay_refusal b room ≡ Refused 13 20073 0
+  module _ (taken : rows_refusal b ≡ Ok tt) where
+    pub room_short : room < 20073 → bay_refusal b room ≡ Err (of_row 0 (numbers 13 20073))
     unfolding bay_refusal
     room_short h =
         ap (λ r. r else about 0 short) taken ∙ ap (about 0) (row_holds (row13 longest_report room) [] (lt-ltb room 20073 h))
 
-    pub all_taken : 20073 ≤ room → bay_refusal b room ≡ Taken
+    pub all_taken : 20073 ≤ room → bay_refusal b room ≡ Ok tt
     unfolding bay_refusal
     all_taken h =
         ap (λ r. r else about 0 short) taken

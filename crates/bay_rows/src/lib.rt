@@ -8,13 +8,14 @@ ghost use Rattle.arith.specs.Lists.{below};
 ghost use Rattle.bay_rows.specs.Bay.{row_place, row_at};
 ghost use Rattle.bay_rows.specs.Refusals.{row16, row_reading, first_of, rows_refusal};
 
-use sheet::Reading;
+use sheet::Refusal;
 
-// What comes of reading a bay: it is taken, or refused with the two numbers of a refusal and the row, from 1, or 0 where it is about none.
+// Why a bay is turned back: the two numbers of a refusal and the row, from 1, or 0 where it is about none.
 #[derive(Clone, Copy)]
-pub enum BayReading {
-    Taken,
-    Refused(u64, usize, usize),
+pub struct BayRefusal {
+    pub number: u64,
+    pub second: usize,
+    pub row: usize,
 }
 
 // The length that stands at `at`; bytes past the end read 0.
@@ -49,10 +50,8 @@ fn end_place(bay: &[u8], n: usize) -> usize
     ensures { result ≡ row_place bay.now n }
 {
     let mut at = 1;
-    let mut k = 0;
-    while k < n {
+    for _ in 0..n {
         at = next_place(bay, at);
-        k += 1;
     }
     at
 }
@@ -69,38 +68,44 @@ fn badly_laid_out(bay: &[u8]) -> bool
 }
 
 // The tests of one row.
-fn test_row(row: &[u8]) -> Reading
+fn test_row(row: &[u8]) -> Result<(), Refusal>
     ensures { result ≡ row_reading row.now }
 {
     if row.len() == 0 {
-        return Reading::Taken;
+        return Ok(());
     }
     sheet_decode::refusals::test_sheet(row)
 }
 
 // The tests of n rows, one after another.
-fn test_rows(bay: &[u8], n: usize) -> BayReading
+fn test_rows(bay: &[u8], n: usize) -> Result<(), BayRefusal>
     requires { (n ≤ 24) × (row_place bay.now n ≤ length bay.now) }
     ensures { result ≡ first_of bay.now (below n) }
 {
     let mut at = 1;
-    let mut k = 0;
-    while k < n {
-        if let Reading::Refused(number, second) = test_row(row_at(bay, at)) {
-            return BayReading::Refused(number, second, k + 1);
+    for k in 0..n {
+        if let Err(refusal) = test_row(row_at(bay, at)) {
+            return Err(BayRefusal {
+                number: refusal.number,
+                second: refusal.second,
+                row: k + 1,
+            });
         }
         at = next_place(bay, at);
-        k += 1;
     }
-    BayReading::Taken
+    Ok(())
 }
 
 // What turns the bay back before a report buffer is looked at.
-pub fn test_bay(bay: &[u8]) -> BayReading
+pub fn test_bay(bay: &[u8]) -> Result<(), BayRefusal>
     ensures { result ≡ rows_refusal bay.now }
 {
     if badly_laid_out(bay) {
-        return BayReading::Refused(16, 0, 0);
+        return Err(BayRefusal {
+            number: 16,
+            second: 0,
+            row: 0,
+        });
     }
     test_rows(bay, sheet_fields::byte_at(bay, 0) as usize)
 }

@@ -1,4 +1,5 @@
 -- The tiers of a row that has no refusal, under the height that covers all of them.
+use Rattle.std.specs.Prelude.{Ok}
 use Prim.Native.Nat.{ℕ, suc, ◌<◌, ◌≤◌}
 use mathlib.Core.List.{List, map}
 use mathlib.Core.Path.{◌≡◌, sym, ap, ◌∙◌}
@@ -9,7 +10,6 @@ use Rattle.arith.specs.Bytes.{byte_at}
 use Rattle.arith.specs.Lists.{below, padded}
 use Rattle.arith.proofs.Arrays.{length_entries, entry, entries_are, entry_at}
 use Rattle.sheet.specs.declared.Tier.{Tier}
-use Rattle.sheet.specs.declared.Reading.TheVariants.{Taken}
 use Rattle.sheet.specs.Layout.{tier_count, tier_place, tier_in, tiers_in, blank_tier, sheet_of}
 use Rattle.sheet.specs.Fits.{tier_at}
 use Rattle.sheet.specs.Refusals.{first, sheet_rows}
@@ -28,7 +28,7 @@ tier_under cover tiers k =
     let t = tier_at tiers k in
     with_wind (shown_above cover t.height (height_of tiers (suc k))) t
 
-module _ (s : List ℕ) (taken : first (sheet_rows s) ≡ Taken) where
+module _ (s : List ℕ) (taken : first (sheet_rows s) ≡ Ok tt) where
   abbrev n : ℕ
   n = tier_count s
 

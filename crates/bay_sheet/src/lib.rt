@@ -2,8 +2,7 @@
 
 #![tactic(auto)]
 
-ghost use Rattle.std.specs.Prelude.{◌≡◌};
-ghost use Rattle.sheet.specs.declared.Reading.TheVariants.{Taken};
+ghost use Rattle.std.specs.Prelude.{Ok, ◌≡◌};
 ghost use Rattle.sheet.specs.Layout.{wind_code, tier_count, sheet_of};
 ghost use Rattle.sheet.specs.Refusals.{first, sheet_rows};
 ghost use Rattle.bay_wind.specs.Exposure.{with_wind, sheet_in_bay};
@@ -28,18 +27,16 @@ fn with_wind(t: Tier, exposed: bool) -> Tier
 
 // The n tiers of a row, bottom first, with their wind parts worked out afresh. All are of one size, so the cover is the same for each.
 pub fn tiers_in_bay(row: &[u8], n: usize, near: Neighbours) -> [Tier; 10]
-    requires { (first (sheet_rows row.now) ≡ Taken) × (n ≡ tier_count row.now) }
+    requires { (first (sheet_rows row.now) ≡ Ok tt) × (n ≡ tier_count row.now) }
     ensures { result ≡ (sheet_in_bay near (sheet_of row.now)).tiers }
 {
     let cover = bay_cover::cover_of(sheet_fields::field1(row, 9), near);
     let mut tiers = [sheet_fields::blank_tier(); 10];
     let mut top: u32 = 0;
-    let mut k = 0;
-    while k < n {
+    for k in 0..n {
         let t = sheet_fields::tier_of(row, 9 + 12 * k);
         top += t.height as u32;
         tiers[k] = with_wind(t, bay_cover::shown_above(cover, t.height, top));
-        k += 1;
     }
     tiers
 }

@@ -1,4 +1,5 @@
 -- The nearest loaded row of a side, row by row away from the middle.
+use Rattle.std.specs.Prelude.{Option, None, Some}
 use Prim.Native.Nat.{ℕ, zero, suc, ◌+◌, ◌-◌, ◌<◌, ◌≤◌}
 use mathlib.Core.List.{List, [], ◌∷◌, reverse, reverse_aux-append}
 use mathlib.Core.Path.{◌≡◌, refl, ap, ◌∙◌}
@@ -7,12 +8,16 @@ use borrow.Author.Tests.{eq-eqb, ne_eqb}
 use lib.ListN.{length, get_or, take, drop, drop_of_length-le}
 use lib.Seq.{take-suc, drop-cons}
 use Rattle.bay_wind.specs.declared.Outline.{Outline}
-use Rattle.bay_wind.specs.declared.Nearest.TheVariants.{Nothing, Loaded}
+use Rattle.bay_wind.specs.declared.Nearest.{Nearest}
 use Rattle.bay_wind.specs.Exposure.{empty_row, nearest_behind, nearest_of}
+
+-- a loaded row behind m empty ones
+abbrev pub loaded : ℕ → Outline → Option Nearest
+loaded m row = Some (record { between = m; row = row })
 
 -- one row, then the rest
 module _ (m : ℕ) (row : Outline) (rows : List Outline) where
-  loaded_first : (row.size ≡ 0 → ⊥) → nearest_behind m (row ∷ rows) ≡ Loaded m row
+  loaded_first : (row.size ≡ 0 → ⊥) → nearest_behind m (row ∷ rows) ≡ loaded m row
   unfolding nearest_behind
   loaded_first h = rw (ne_eqb row.size 0 h)
 
@@ -20,7 +25,7 @@ module _ (m : ℕ) (row : Outline) (rows : List Outline) where
   unfolding nearest_behind
   empty_first h = rw (eq-eqb row.size 0 h)
 
-none_left : (m : ℕ) → nearest_behind m [] ≡ Nothing
+none_left : (m : ℕ) → nearest_behind m [] ≡ None
 unfolding nearest_behind
 none_left m = refl
 
@@ -37,7 +42,7 @@ module _ (rows : List Outline) (k j : ℕ) (some : 0 < j) (inside : j ≤ k) (th
       let e : j ≡ suc (j - 1) = omega arith in
       ap (λ n. reverse (take n rows)) e ∙ reverse_last rows (j - 1) (omega arith)
 
-  pub port_loaded : (last.size ≡ 0 → ⊥) → nearest_behind (k - j) (reverse (take j rows)) ≡ Loaded (k - j) last
+  pub port_loaded : (last.size ≡ 0 → ⊥) → nearest_behind (k - j) (reverse (take j rows)) ≡ loaded (k - j) last
   port_loaded h = ap (nearest_behind (k - j)) before ∙ loaded_first (k - j) last (reverse (take (j - 1) rows)) h
 
   pub port_empty :
@@ -49,36 +54,22 @@ module _ (rows : List Outline) (k j : ℕ) (some : 0 < j) (inside : j ≤ k) (th
       ∙ empty_first (k - j) last (reverse (take (j - 1) rows)) h
       ∙ ap (λ m. nearest_behind m (reverse (take (j - 1) rows))) e
 
-pub port_none : (rows : List Outline) (m j : ℕ) → j ≤ 0 → nearest_behind m (reverse (take j rows)) ≡ Nothing
+pub port_none : (rows : List Outline) (m j : ℕ) → j ≤ 0 → nearest_behind m (reverse (take j rows)) ≡ None
 port_none rows m zero h = none_left m
 port_none rows m (suc j) h = absurd (omega (arith, h))
 
--- to starboard of row k, from the row beside it on
-pub first_is : (rows : List Outline) (k : ℕ) → nearest_behind (k + 1 - (k + 1)) (drop (k + 1) rows) ≡ nearest_of (drop (suc k) rows)
-first_is rows k =
-    let e : k + 1 ≡ suc k = omega arith in
-    let f : k + 1 - (k + 1) ≡ 0 = omega arith in
-    rw (f, e) refl
-
--- to starboard, where the rows before j are passed, from `first` on
-module _ (rows : List Outline) (first j : ℕ) (after : first ≤ j) where
+-- to starboard, where the rows before j are passed
+module _ (rows : List Outline) (j : ℕ) where
   abbrev next : Outline
   next = get_or rows j empty_row
 
-  pub starboard_loaded : j < length rows → (next.size ≡ 0 → ⊥) → nearest_behind (j - first) (drop j rows) ≡ Loaded (j - first) next
-  starboard_loaded h g =
-      ap (nearest_behind (j - first)) (drop-cons rows j empty_row h) ∙ loaded_first (j - first) next (drop (suc j) rows) g
+  pub starboard_loaded : j < length rows → (next.size ≡ 0 → ⊥) → nearest_behind j (drop j rows) ≡ loaded j next
+  starboard_loaded h g = ap (nearest_behind j) (drop-cons rows j empty_row h) ∙ loaded_first j next (drop (suc j) rows) g
 
-  pub starboard_empty :
-      j < length rows →
-      next.size ≡ 0 →
-      nearest_behind (j - first) (drop j rows) ≡ nearest_behind (j + 1 - first) (drop (j + 1) rows)
+  pub starboard_empty : j < length rows → next.size ≡ 0 → nearest_behind j (drop j rows) ≡ nearest_behind (j + 1) (drop (j + 1) rows)
   starboard_empty h g =
-      let e : suc (j - first) ≡ j + 1 - first = omega arith in
       let f : suc j ≡ j + 1 = omega arith in
-      ap (nearest_behind (j - first)) (drop-cons rows j empty_row h)
-      ∙ empty_first (j - first) next (drop (suc j) rows) g
-      ∙ rw (e, f) refl
+      ap (nearest_behind j) (drop-cons rows j empty_row h) ∙ empty_first j next (drop (suc j) rows) g ∙ rw f refl
 
-  pub starboard_none : length rows ≤ j → nearest_behind (j - first) (drop j rows) ≡ Nothing
-  starboard_none h = ap (nearest_behind (j - first)) (drop_of_length-le rows h) ∙ none_left (j - first)
+  pub starboard_none : length rows ≤ j → nearest_behind j (drop j rows) ≡ None
+  starboard_none h = ap (nearest_behind j) (drop_of_length-le rows h) ∙ none_left j

@@ -1,6 +1,6 @@
 -- Document 02, P6: which boxes of a bay are exposed to the wind (CR 1.3.1(40)), and a row's sheet with the wind codes that say so. All rows
 -- start at the same height. Rows and tiers are counted from 0 here; heights are in mm.
-use Rattle.std.specs.Prelude.{ℕ, suc, ◌*◌, ◌-◌, Bool, true, cond, ◌&&◌, ◌||◌, List, [], ◌∷◌, map, reverse, leb, take, drop}
+use Rattle.std.specs.Prelude.{Option, None, Some, ℕ, suc, ◌*◌, ◌-◌, Bool, true, cond, ◌&&◌, ◌||◌, List, [], ◌∷◌, map, reverse, leb, take, drop}
 use Rattle.arith.specs.Lists.{below, padded}
 use Rattle.sheet.specs.declared.Tier.{Tier}
 use Rattle.sheet.specs.declared.Sheet.{Sheet}
@@ -8,7 +8,6 @@ use Rattle.sheet.specs.Layout.{◌is◌, ◌above◌, wind_code, turned, blank_t
 use Rattle.sheet.specs.Fits.{tier_at}
 use Rattle.bay_wind.specs.declared.Outline.{Outline}
 use Rattle.bay_wind.specs.declared.Nearest.{Nearest}
-use Rattle.bay_wind.specs.declared.Nearest.TheVariants.{Nothing, Loaded}
 use Rattle.bay_wind.specs.declared.Neighbours.{Neighbours}
 use Rattle.bay_wind.specs.Sums.{sum_of}
 
@@ -24,11 +23,11 @@ abbrev pub stack_of : Sheet → Outline
 stack_of t = record { height = height_of t.tiers t.ntiers; size = (tier_at t.tiers 0).size }
 
 -- the nearest loaded row among those of one side, given nearest first, and how many empty rows lie between
-unfoldable pub nearest_behind : ℕ → List Outline → Nearest
-nearest_behind between [] = Nothing
-nearest_behind between (row ∷ rows) = cond (row.size is 0) (nearest_behind (suc between) rows) (Loaded between row)
+unfoldable pub nearest_behind : ℕ → List Outline → Option Nearest
+nearest_behind between [] = None
+nearest_behind between (row ∷ rows) = cond (row.size is 0) (nearest_behind (suc between) rows) (Some (record { between = between; row = row }))
 
-abbrev pub nearest_of : List Outline → Nearest
+abbrev pub nearest_of : List Outline → Option Nearest
 nearest_of rows = nearest_behind 0 rows
 
 -- of row k on either side, where the rows are given from port to starboard
@@ -42,9 +41,9 @@ exposed_above t top between row =
     leb 3 between || t.size is 40 && row.size is 20 || 3 * (top - row.height) above t.height
 
 -- no loaded row beyond exposes it fully
-abbrev pub exposed_beside : Tier → ℕ → Nearest → Bool
-exposed_beside t top Nothing = true
-exposed_beside t top (Loaded between row) = exposed_above t top between row
+abbrev pub exposed_beside : Tier → ℕ → Option Nearest → Bool
+exposed_beside t top None = true
+exposed_beside t top (Some near) = exposed_above t top near.between near.row
 
 -- on either side
 abbrev pub exposed_in_bay : Neighbours → Tier → ℕ → Bool

@@ -2,9 +2,8 @@
 
 #![tactic(auto)]
 
-ghost use Rattle.std.specs.Prelude.{◌≡◌, reverse, suc, ◌<◌, ◌≤◌, length, take, drop};
+ghost use Rattle.std.specs.Prelude.{◌≡◌, reverse, ◌<◌, length};
 ghost use Rattle.bay_wind.specs.Exposure.{nearest_of, neighbours_of};
-ghost use Rattle.bay_wind.specs.Inner.Paired.{paired};
 
 // A row as the rows beside it see it: the height of its boxes together, in mm, and their size in feet, 0 in an empty row.
 #[derive(Clone, Copy)]
@@ -15,59 +14,54 @@ pub struct Outline {
 
 // The nearest loaded row on one side, behind so many empty ones.
 #[derive(Clone, Copy)]
-pub enum Nearest {
-    Nothing,
-    Loaded(usize, Outline),
+pub struct Nearest {
+    pub between: usize,
+    pub row: Outline,
 }
 
+// On each side, if there is one.
 #[derive(Clone, Copy)]
 pub struct Neighbours {
-    pub port: Nearest,
-    pub starboard: Nearest,
+    pub port: Option<Nearest>,
+    pub starboard: Option<Nearest>,
 }
 
-// The nearest loaded row to port of row k, counted from 0. The rows are lent by their heights and sizes, so that none is copied.
-fn nearest_to_port(heights: &[u32], sizes: &[u8], k: usize) -> Nearest
-    requires { (k ≤ length heights.now) × (length sizes.now ≡ length heights.now) }
-    ensures { result ≡ nearest_of (reverse (take k (paired heights.now sizes.now))) }
+// The nearest loaded row among those to port of a row, the last of which is beside it.
+fn nearest_to_port(rows: &[Outline]) -> Option<Nearest>
+    ensures { result ≡ nearest_of (reverse rows.now) }
 {
-    let mut j = k;
-    while 0 < j {
-        let height = heights[j - 1];
-        let size = sizes[j - 1];
-        if size != 0 {
-            return Nearest::Loaded(k - j, Outline { height, size });
+    for j in (0..rows.len()).rev() {
+        let row = rows[j];
+        if row.size != 0 {
+            let between = rows.len() - (j + 1);
+            return Some(Nearest { between, row });
         }
-        j -= 1;
     }
-    Nearest::Nothing
+    None
 }
 
-// The same to starboard, of n rows.
-fn nearest_to_starboard(heights: &[u32], sizes: &[u8], n: usize, k: usize) -> Nearest
-    requires { (k < n) × (n ≤ length heights.now) × (length sizes.now ≡ length heights.now) }
-    ensures { result ≡ nearest_of (drop (suc k) (take n (paired heights.now sizes.now))) }
+// The same to starboard, where the first is beside it. One function over an iterator would be no plainer: of rows that it has passed and of
+// those that are left its contract and its loop would speak by the iterator.
+fn nearest_to_starboard(rows: &[Outline]) -> Option<Nearest>
+    ensures { result ≡ nearest_of rows.now }
+{
+    for j in 0..rows.len() {
+        let row = rows[j];
+        if row.size != 0 {
+            return Some(Nearest { between: j, row });
+        }
+    }
+    None
+}
+
+// On both sides of row k.
+pub fn neighbours_of(rows: &[Outline], k: usize) -> Neighbours
+    requires { k < length rows.now }
+    ensures { result ≡ neighbours_of rows.now k }
 {
     let first = k + 1;
-    let mut j = first;
-    while j < n {
-        let height = heights[j];
-        let size = sizes[j];
-        if size != 0 {
-            return Nearest::Loaded(j - first, Outline { height, size });
-        }
-        j += 1;
-    }
-    Nearest::Nothing
-}
-
-// On both sides.
-pub fn neighbours_of(heights: &[u32], sizes: &[u8], n: usize, k: usize) -> Neighbours
-    requires { (k < n) × (n ≤ length heights.now) × (length sizes.now ≡ length heights.now) }
-    ensures { result ≡ neighbours_of (take n (paired heights.now sizes.now)) k }
-{
     Neighbours {
-        port: nearest_to_port(heights, sizes, k),
-        starboard: nearest_to_starboard(heights, sizes, n, k),
+        port: nearest_to_port(&rows[..k]),
+        starboard: nearest_to_starboard(&rows[first..]),
     }
 }

@@ -1,3 +1,4 @@
 -- What the functions' proofs rest on.
 mod MarkLaws
 mod FieldLaws
+mod CaseLaws

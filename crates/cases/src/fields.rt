@@ -1,59 +1,53 @@
 // An answer held to the fields of its case.
-ghost use Rattle.std.specs.Prelude.{◌+◌, ◌-◌, ◌/◌, ◌≤◌, ◌≡◌, length};
+ghost use Rattle.std.specs.Prelude.{◌+◌, ◌/◌, ◌≤◌, ◌≡◌, length, IfSome};
 ghost use Rattle.cases.specs.Inner.Fields.{size_if, size_within, held_from};
 
 use arith::bytes;
 
-// The answer is what the fields say, or differs first at a place.
-#[derive(Clone, Copy)]
-pub enum Held {
-    Inside,
-    Outside(usize),
-}
-
-// Holds the answer, the first n bytes of the buffer, to the fields that stand in the input from `from` up to `to`.
-pub fn hold(input: &[u8], from: usize, to: usize, buffer: &[u8], n: usize) -> Held
-    requires { (from ≤ to) × (to ≤ length input.now) }
-    ensures { result ≡ held_from input.now buffer.now n ((to - from) / 9) from 0 }
+// Holds the answer, the first n bytes of the buffer, to the fields, of 9 bytes each; an error is the place where it first differs.
+pub fn hold(fields: &[u8], buffer: &[u8], n: usize) -> Result<(), usize>
+    ensures { result ≡ held_from buffer.now n (length fields.now / 9) fields.now 0 }
 {
-    let mut at = from;
     let mut place = 0;
-    while 9 <= to - at {
-        let size = within(input, at, buffer, place);
-        if size == 0 {
-            return Held::Outside(place);
-        }
+    for field in fields.chunks_exact(9) {
+        let Some(size) = within(field, buffer, place) else {
+            return Err(place);
+        };
         place += size;
-        at += 9;
     }
     if place != n {
-        return Held::Outside(place);
+        return Err(place);
     }
-    Held::Inside
+    Ok(())
 }
 
-// The size of the number at `place`, if it is there and within the bounds of the field at `at`; else 0.
-fn within(input: &[u8], at: usize, buffer: &[u8], place: usize) -> usize
-    requires { (at + 9 ≤ length input.now) × (place ≤ length buffer.now) }
-    ensures { (result ≡ size_within input.now at buffer.now place) × (place + result ≤ length buffer.now) }
+// The size of the number at `place`, if it is there and within the bounds of the field.
+fn within(field: &[u8], buffer: &[u8], place: usize) -> Option<usize>
+    requires { (9 ≤ length field.now) × (place ≤ length buffer.now) }
+    ensures value { result ≡ size_within field.now buffer.now place }
+    ensures there { IfSome result (λ size. place + size ≤ length buffer.now) }
 {
-    let size = bytes::read1(input, at) as usize;
-    let least = bytes::read4(input, at + 1);
-    let most = bytes::read4(input, at + 5);
+    let size = bytes::read1(field, 0) as usize;
+    let least = bytes::read4(field, 1);
+    let most = bytes::read4(field, 5);
     if buffer.len() - place < size {
-        return 0;
+        return None;
     }
-    if size == 1 {
-        return size_if(size, bytes::read1(buffer, place), least, most);
+    match size {
+        1 => size_if(size, bytes::read1(buffer, place), least, most),
+        4 => size_if(size, bytes::read4(buffer, place), least, most),
+        _ => None,
     }
-    if size == 4 {
-        return size_if(size, bytes::read4(buffer, place), least, most);
-    }
-    0
 }
 
-fn size_if(size: usize, x: u64, least: u64, most: u64) -> usize
-    ensures { (result ≡ size_if size x least most) × (result ≤ size) }
+// The size of a number x that is within its bounds.
+fn size_if(size: usize, x: u64, least: u64, most: u64) -> Option<usize>
+    ensures value { result ≡ size_if size x least most }
+    ensures own { IfSome result (λ n. n ≤ size) }
 {
-    if (least <= x) & (x <= most) { size } else { 0 }
+    if least <= x && x <= most {
+        Some(size)
+    } else {
+        None
+    }
 }

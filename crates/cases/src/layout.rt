@@ -1,52 +1,35 @@
-// Where the parts of a case stand in the input.
-ghost use Rattle.std.specs.Prelude.{◌≤◌, ◌≡◌, length};
-ghost use Rattle.cases.specs.Inner.Places.{ItemAt, item_there};
+// A case, cut from the front of the input.
+ghost use Rattle.std.specs.Prelude.{◌↔◌, IsSome, IfSome};
+ghost use Rattle.cases.specs.Inner.Places.{IsWhole, IsCase};
 
 use arith::bytes;
 
-// The places of its name, its sheet and its fields, and of what follows it; the length of its answer buffer.
-#[derive(Clone, Copy)]
-pub struct Case {
-    pub name: usize,
-    pub sheet: usize,
-    pub fields: usize,
-    pub end: usize,
+// A name, a sheet and its fields, and the length of the answer buffer.
+#[derive(Drop)]
+pub struct Case<'a> {
+    pub name: &'a [u8],
+    pub sheet: &'a [u8],
+    pub fields: &'a [u8],
     pub room: usize,
 }
 
-#[derive(Clone, Copy)]
-pub enum Item {
-    Whole(Case),
-    Bad,
-}
-
-// The case whose head stands at `at`, if all of it is there and its answer buffer at most 1,024 bytes.
-pub fn case_at(input: &[u8], at: usize) -> Item
-    requires { at ≤ length input.now }
-    ensures { (result ≡ item_there input.now at) × ItemAt result at (length input.now) }
+// Takes the case at the front of the input, if all of it is there and its answer buffer at most 1,024 bytes.
+pub fn next<'a>(input: &mut &'a [u8]) -> Option<Case<'a>>
+    ensures whole { IsSome result ↔ IsWhole input.old.now }
+    ensures case { IfSome result (λ c. IsCase input.old.now c input.new.now) }
 {
-    if input.len() - at < 7 {
-        return Item::Bad;
-    }
-    let name = bytes::read1(input, at) as usize;
-    let sheet = bytes::read2(input, at + 1) as usize;
-    let room = bytes::read2(input, at + 3) as usize;
-    let fields = 9 * bytes::read2(input, at + 5) as usize;
-    let first = at + 7;
-    let second = first + name;
-    let third = second + sheet;
-    let end = third + fields;
+    let head = input.split_off(..7)?;
+    let room = bytes::read2(head, 3) as usize;
+    let name = input.split_off(..bytes::read1(head, 0) as usize)?;
+    let sheet = input.split_off(..bytes::read2(head, 1) as usize)?;
+    let fields = input.split_off(..9 * bytes::read2(head, 5) as usize)?;
     if room > 1024 {
-        return Item::Bad;
+        return None;
     }
-    if input.len() < end {
-        return Item::Bad;
-    }
-    Item::Whole(Case {
-        name: first,
-        sheet: second,
-        fields: third,
-        end,
+    Some(Case {
+        name,
+        sheet,
+        fields,
         room,
     })
 }

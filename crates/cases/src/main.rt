@@ -11,96 +11,57 @@
 #![tactic(auto)]
 
 mod fields; // fields.rt: an answer held to the fields of its case
-mod layout; // layout.rt: where the parts of a case stand
+mod layout; // layout.rt: a case, cut from the front of the input
 mod space; // space.rt: the answer buffer, filled before each case
 
-ghost use Rattle.std.specs.Prelude.{length};
-ghost use Rattle.cases.specs.Inner.Places.{Placed};
+ghost use Rattle.std.specs.Prelude.{◌≤◌};
 
-use answer::Outcome;
-use fields::Held;
-use layout::{Case, Item};
+use layout::Case;
+use std::io;
+use std::io::{Read, Result, Write};
 
-// File descriptors of standard input and output.
-const STDIN_FILENO: i32 = 0;
-
-const STDOUT_FILENO: i32 = 1;
-
-fn main() {
-    let mut input = io::large_buffer();
-    let n = io::read_full(STDIN_FILENO, &mut input);
-    if !run_all(&input[..n]) {
-        io::write_all(STDOUT_FILENO, b"bad input\n");
-    }
-}
-
-// Runs one case after another; answers whether the input was cases to its end.
-fn run_all(input: &[u8]) -> bool {
-    let mut at = 0;
-    while at < input.len() {
-        let Item::Whole(case) = layout::case_at(input, at) else {
-            return false;
+fn main(rt: HostRuntime) -> Result<()> {
+    let mut input = Vec::new(rt.alloc());
+    rt.stdin().take(65536).read_to_end(&mut input)?;
+    let mut rest = input.as_slice();
+    while !rest.is_empty() {
+        let Some(case) = layout::next(&mut rest) else {
+            return println!(rt; "bad input");
         };
-        run(input, case);
-        at = case.end;
+        run(&rt, &case)?;
     }
-    true
+    Ok(())
 }
 
-fn run(input: &[u8], case: Case)
-    requires { Placed case (length input.now) }
+// Checks the sheet of a case and tells what came out.
+fn run(rt: &impl Print, case: &Case<'_>) -> Result<()>
+    requires { case.now.room ≤ 1024 }
 {
-    let name = case.name;
-    let sheet = case.sheet;
-    let fields = case.fields;
-    let room = case.room;
-    io::write_all(STDOUT_FILENO, &input[name..sheet]);
-    let mut filled = space::filled();
-    let buffer: &mut [u8] = &mut filled;
-    let answer = &mut buffer[..room];
-    let outcome = stack_check::check(&input[sheet..fields], answer);
-    match outcome {
-        Outcome::Taken(n) => tell_taken(input, case, answer, n),
-        Outcome::Refused(number, second) => tell_refused(answer, number, second),
-    }
-}
-
-fn tell_taken(input: &[u8], case: Case, answer: &[u8], n: usize)
-    requires { Placed case (length input.now) }
-{
-    tell_numbers(0, n);
-    tell_held(fields::hold(input, case.fields, case.end, answer, n));
-    tell_rest(space::untouched(answer, n));
-}
-
-fn tell_refused(answer: &[u8], number: u64, second: usize) {
-    tell_numbers(number, second);
-    tell_rest(space::untouched(answer, 0));
-}
-
-fn tell_numbers(number: u64, second: usize) {
-    io::write_all(STDOUT_FILENO, b" ");
-    io::print_decimal(STDOUT_FILENO, number);
-    io::write_all(STDOUT_FILENO, b" ");
-    io::print_decimal(STDOUT_FILENO, second as u64);
-}
-
-fn tell_held(held: Held) {
-    match held {
-        Held::Inside => {
-            io::write_all(STDOUT_FILENO, b" inside");
+    io::writer(rt).write_all(case.name)?;
+    let mut buffer = space::filled();
+    let answer = &mut buffer[..case.room];
+    match stack_check::check(case.sheet, answer) {
+        Ok(n) => {
+            print!(rt; " 0 {n}")?;
+            match fields::hold(case.fields, answer, n) {
+                Ok(()) => print!(rt; " inside")?,
+                Err(place) => print!(rt; " outside at {place}")?,
+            }
+            tell_rest(rt, answer, n)
         }
-        Held::Outside(place) => {
-            io::write_all(STDOUT_FILENO, b" outside at ");
-            io::print_decimal(STDOUT_FILENO, place as u64);
+        Err(refusal) => {
+            print!(rt; " {} {}", refusal.number, refusal.second)?;
+            tell_rest(rt, answer, 0)
         }
     }
 }
 
-fn tell_rest(untouched: bool) {
-    if untouched {
-        io::write_all(STDOUT_FILENO, b" untouched\n");
+// Tells whether the buffer behind an answer of n bytes is as it was.
+fn tell_rest(rt: &impl Print, buffer: &[u8], n: usize) -> Result<()> {
+    let word = if space::untouched(buffer, n) {
+        "untouched"
     } else {
-        io::write_all(STDOUT_FILENO, b" changed\n");
-    }
+        "changed"
+    };
+    println!(rt; " {word}")
 }

@@ -3,31 +3,20 @@ ghost use Rattle.std.specs.Prelude.{map, ◌≡◌, drop};
 ghost use Rattle.arith.specs.Lists.{below};
 ghost use Rattle.cases.specs.Inner.Marks.{mark_of, all_marked};
 
+use std::array;
+
 // 1,024 bytes, each with the mark of its place.
 pub fn filled() -> [u8; 1024]
     ensures { result ≡ map mark_of (below 1024) }
 {
-    let mut buffer = [0u8; 1024];
-    let mut i = 0;
-    while i < 1024 {
-        buffer[i] = mark(i);
-        i += 1;
-    }
-    buffer
+    array::from_fn(mark)
 }
 
 // Whether every byte from the index `from` on has the mark of its place.
 pub fn untouched(buffer: &[u8], from: usize) -> bool
     ensures { result ≡ all_marked from (drop from buffer.now) }
 {
-    let mut i = from;
-    while i < buffer.len() {
-        if buffer[i] != mark(i) {
-            return false;
-        }
-        i += 1;
-    }
-    true
+    (from..buffer.len()).all(|i| buffer[i] == mark(i))
 }
 
 // 200 to 250, by turns.

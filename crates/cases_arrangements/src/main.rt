@@ -6,94 +6,69 @@
 
 #![tactic(auto)]
 
-ghost use Rattle.std.specs.Prelude.{◌+◌, ◌≤◌, ◌<◌, length};
+ghost use Rattle.std.specs.Prelude.{◌<◌, ◌≤◌, length, OnSome, IfSome};
 
-use answer::Outcome;
 use arith::bytes;
+use std::io::{Read, Result};
 
-// File descriptors of standard input and output.
-const STDIN_FILENO: i32 = 0;
+// No question asks for a longer list buffer.
+const LONGEST: usize = 260;
 
-const STDOUT_FILENO: i32 = 1;
-
-fn main() {
-    let mut input = io::large_buffer();
-    let n = io::read_full(STDIN_FILENO, &mut input);
-    if !ask_all(&input[..n]) {
-        io::write_all(STDOUT_FILENO, b"bad input\n");
-    }
+// The length of the list buffer, the stack sheet and the gear section.
+#[derive(Drop)]
+struct Question<'a> {
+    room: usize,
+    sheet: &'a [u8],
+    gear: &'a [u8],
 }
 
-// Asks one question after another; answers whether the input was questions to its end.
-fn ask_all(input: &[u8]) -> bool {
-    let mut at = 0;
-    while at < input.len() {
-        if input.len() - at < 6 {
-            return false;
-        }
-        let sheet = bytes::read2(input, at + 2) as usize;
-        let size = sheet + bytes::read2(input, at + 4) as usize;
-        if input.len() - at - 6 < size {
-            return false;
-        }
-        if !ask(input, at, sheet, size) {
-            return false;
-        }
-        at += 6 + size;
+fn main(rt: HostRuntime) -> Result<()> {
+    let mut input = Vec::new(rt.alloc());
+    rt.stdin().take(65536).read_to_end(&mut input)?;
+    let mut rest = input.as_slice();
+    while !rest.is_empty() {
+        let Some(question) = next(&mut rest) else {
+            return println!(rt; "bad input");
+        };
+        ask(&rt, &question)?;
     }
-    true
+    Ok(())
 }
 
-// Asks the question at `at`, whose sheet and section are `size` bytes and the sheet the first of these, unless its buffer is longer than
-// any here.
-fn ask(input: &[u8], at: usize, sheet: usize, size: usize) -> bool
-    requires { (at + 6 + size ≤ length input.now) × (sheet ≤ size) }
+// Takes a question from the front of the input, if all of it is there and its buffer not too long.
+fn next<'a>(input: &mut &'a [u8]) -> Option<Question<'a>>
+    ensures room { IfSome result (λ q. q.room ≤ 260) }
+    ensures shorter { OnSome result (length input.new.now < length input.old.now) }
 {
-    let room = bytes::read2(input, at) as usize;
-    if 260 < room {
-        return false;
+    let head = input.split_off(..6)?;
+    let room = bytes::read2(head, 0) as usize;
+    let sheet = input.split_off(..bytes::read2(head, 2) as usize)?;
+    let gear = input.split_off(..bytes::read2(head, 4) as usize)?;
+    if room > LONGEST {
+        return None;
     }
-    let mut space = [0u8; 260];
-    let buffer: &mut [u8] = &mut space;
-    let list = &mut buffer[..room];
-    let start = at + 6;
-    let next = start + sheet;
-    let outcome = arrangements::list(&input[start..next], &input[next..start + size], list);
-    match outcome {
-        Outcome::Taken(n) => tell_taken(list, n),
-        Outcome::Refused(number, second) => tell_refused(number, second),
-    }
-    true
+    Some(Question { room, sheet, gear })
 }
 
-// The numbers of a list of n bytes.
-fn tell_taken(list: &[u8], n: usize) {
-    io::write_all(STDOUT_FILENO, b"taken ");
-    tell_number(n as u64, b"");
-    if n < 2 {
-        return;
+// Asks a question and tells what came out.
+fn ask(rt: &impl Print, question: &Question<'_>) -> Result<()>
+    requires { question.now.room ≤ 260 }
+{
+    let mut buffer = [0u8; LONGEST];
+    let list = &mut buffer[..question.room];
+    match arrangements::list(question.sheet, question.gear, list) {
+        Ok(n) => tell_taken(rt, &list[..n]),
+        Err(refusal) => println!(rt; "refused {} {}", refusal.number, refusal.second),
     }
-    if list.len() < n {
-        return;
-    }
-    io::write_all(STDOUT_FILENO, b" ");
-    tell_number(bytes::read2(list, 0), b"");
-    let mut at = 2;
-    while at < n {
-        io::write_all(STDOUT_FILENO, b" ");
-        tell_number(bytes::read1(list, at), b"");
-        at += 1;
-    }
-    io::write_all(STDOUT_FILENO, b"\n");
 }
 
-fn tell_refused(number: u64, second: usize) {
-    io::write_all(STDOUT_FILENO, b"refused ");
-    tell_number(number, b" ");
-    tell_number(second as u64, b"\n");
-}
-
-fn tell_number(x: u64, end: &[u8]) {
-    io::print_decimal(STDOUT_FILENO, x);
-    io::write_all(STDOUT_FILENO, end);
+// Tells the numbers of a list: its length, its count and each of its choices.
+fn tell_taken(rt: &impl Print, list: &[u8]) -> Result<()>
+    requires { 2 ≤ length list.now }
+{
+    print!(rt; "taken {} {}", list.len(), bytes::read2(list, 0))?;
+    for choice in &list[2..] {
+        print!(rt; " {choice}")?;
+    }
+    println!(rt;)
 }

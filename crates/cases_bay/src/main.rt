@@ -7,114 +7,94 @@
 
 #![tactic(auto)]
 
-ghost use Rattle.std.specs.Prelude.{◌+◌, ◌≤◌, length};
+ghost use Rattle.std.specs.Prelude.{◌<◌, ◌≤◌, length, OnSome, IfSome};
 
 use arith::bytes;
-use bay::BayOutcome;
+use std::io::{Read, Result};
 
-// File descriptors of standard input and output.
-const STDIN_FILENO: i32 = 0;
+// No question asks for a longer report buffer.
+const LONGEST: usize = 20073;
 
-const STDOUT_FILENO: i32 = 1;
-
-fn main() {
-    let mut input = io::large_buffer();
-    let n = io::read_full(STDIN_FILENO, &mut input);
-    if !ask_all(&input[..n]) {
-        io::write_all(STDOUT_FILENO, b"bad input\n");
-    }
+// A question: the length of the report buffer, the bounds of the greatest racking, and the bay sheet.
+#[derive(Drop)]
+struct Question<'a> {
+    room: usize,
+    least: u64,
+    most: u64,
+    bay: &'a [u8],
 }
 
-// Asks one question after another; answers whether the input was questions to its end.
-fn ask_all(input: &[u8]) -> bool {
-    let mut at = 0;
-    while at < input.len() {
-        if input.len() - at < 12 {
-            return false;
-        }
-        let size = bytes::read2(input, at + 10) as usize;
-        if input.len() - at - 12 < size {
-            return false;
-        }
-        if !ask(input, at, size) {
-            return false;
-        }
-        at += 12 + size;
+fn main(rt: HostRuntime) -> Result<()> {
+    let mut input = Vec::new(rt.alloc());
+    rt.stdin().take(65536).read_to_end(&mut input)?;
+    let mut rest = input.as_slice();
+    while !rest.is_empty() {
+        let Some(question) = next(&mut rest) else {
+            return println!(rt; "bad input");
+        };
+        ask(&rt, &question)?;
     }
-    true
+    Ok(())
 }
 
-// Asks the question at `at`, unless its buffer is longer than any here.
-fn ask(input: &[u8], at: usize, size: usize) -> bool
-    requires { at + 12 + size ≤ length input.now }
+// Takes a question from the front of the input, if all of it is there and its buffer not too long.
+fn next<'a>(input: &mut &'a [u8]) -> Option<Question<'a>>
+    ensures room { IfSome result (λ q. q.room ≤ 20073) }
+    ensures shorter { OnSome result (length input.new.now < length input.old.now) }
 {
-    let room = bytes::read2(input, at) as usize;
-    if 20073 < room {
-        return false;
+    let head = input.split_off(..12)?;
+    let room = bytes::read2(head, 0) as usize;
+    let bay = input.split_off(..bytes::read2(head, 10) as usize)?;
+    if room > LONGEST {
+        return None;
     }
-    let mut space = [0u8; 20073];
-    let buffer: &mut [u8] = &mut space;
-    let report = &mut buffer[..room];
-    let sheet = at + 12;
-    let bay = &input[sheet..sheet + size];
-    let outcome = bay::report(bay, report);
-    match outcome {
-        BayOutcome::Taken(n) => {
-            tell_taken(input, at, report, n);
-            tell_rows(bay, report);
-        }
-        BayOutcome::Refused(number, second, row) => tell_refused(number, second, row),
-    }
-    true
+    Some(Question {
+        room,
+        least: bytes::read4(head, 2),
+        most: bytes::read4(head, 6),
+        bay,
+    })
 }
 
-fn tell_taken(input: &[u8], at: usize, report: &[u8], n: usize)
-    requires { at + 12 ≤ length input.now }
+// Asks a question and tells what came out.
+fn ask(rt: &impl Print, question: &Question<'_>) -> Result<()>
+    requires { question.now.room ≤ 20073 }
 {
-    tell_number(b"taken ", n as u64);
-    if report.len() < 9 {
-        return;
+    let mut buffer = [0u8; LONGEST];
+    let report = &mut buffer[..question.room];
+    match bay::report(question.bay, report) {
+        Ok(n) => tell_taken(rt, question, &report[..n]),
+        Err(why) => println!(rt; "refused {} {} {}", why.number, why.second, why.row),
     }
-    tell_number(b" ", bytes::read1(report, 0));
-    tell_number(b" ", bytes::read4(report, 1));
+}
+
+// Tells of a report its length, its totals and its rows.
+fn tell_taken(rt: &impl Print, question: &Question<'_>, report: &[u8]) -> Result<()>
+    requires { 9 ≤ length report.now }
+{
+    let mass = bytes::read4(report, 1);
     let racking = bytes::read4(report, 5);
-    if (bytes::read4(input, at + 2) <= racking) & (racking <= bytes::read4(input, at + 6)) {
-        io::write_all(STDOUT_FILENO, b" inside");
+    let place = if question.least <= racking && racking <= question.most {
+        "inside"
     } else {
-        io::write_all(STDOUT_FILENO, b" outside");
-    }
+        "outside"
+    };
+    print!(rt; "taken {} {} {mass} {place}", report.len(), report[0])?;
+    tell_rows(rt, &report[9..])?;
+    println!(rt;)
 }
 
-// Of each row its answer's length, and the verdict.
-fn tell_rows(bay: &[u8], report: &[u8]) {
-    if 20073 < report.len() {
-        return;
-    }
-    let mut left = sheet_fields::byte_at(bay, 0);
-    let mut at: usize = 9;
-    while 0 < left {
-        if report.len() < at + 2 {
-            return;
+// Tells of each row its answer's length and, where that is not 0, the verdict.
+fn tell_rows(rt: &impl Print, rows: &[u8]) -> Result<()> {
+    let mut rest = rows;
+    while let Some(head) = rest.split_off(..2) {
+        let size = bytes::read2(head, 0) as usize;
+        print!(rt; " {size}")?;
+        if let Some(answer) = rest.split_off(..size)
+            && let Some(verdict) = answer.first()
+        {
+            print!(rt; ":{verdict}")?;
         }
-        let size = bytes::read2(report, at);
-        tell_number(b" ", size);
-        if size != 0 {
-            tell_number(b":", sheet_fields::byte_at(report, at + 2));
-        }
-        at += 2 + size as usize;
-        left -= 1;
     }
-    io::write_all(STDOUT_FILENO, b"\n");
-}
-
-fn tell_refused(number: u64, second: usize, row: usize) {
-    tell_number(b"refused ", number);
-    tell_number(b" ", second as u64);
-    tell_number(b" ", row as u64);
-    io::write_all(STDOUT_FILENO, b"\n");
-}
-
-fn tell_number(before: &[u8], x: u64) {
-    io::write_all(STDOUT_FILENO, before);
-    io::print_decimal(STDOUT_FILENO, x);
+    Ok(())
 }

@@ -7,104 +7,92 @@
 
 #![tactic(auto)]
 
-ghost use Rattle.std.specs.Prelude.{◌+◌, ◌≤◌, ◌<◌, length};
+ghost use Rattle.std.specs.Prelude.{◌<◌, ◌≤◌, length, OnSome, IfSome};
 
-use answer::Outcome;
 use arith::bytes;
+use std::io::{Read, Result};
 
-// File descriptors of standard input and output.
-const STDIN_FILENO: i32 = 0;
+// No question asks for a longer answer buffer.
+const LONGEST: usize = 834;
 
-const STDOUT_FILENO: i32 = 1;
-
-fn main() {
-    let mut input = io::large_buffer();
-    let n = io::read_full(STDIN_FILENO, &mut input);
-    if !ask_all(&input[..n]) {
-        io::write_all(STDOUT_FILENO, b"bad input\n");
-    }
+// A question: the forecast, the length of the answer buffer, the bounds of the racking, and the sheet.
+#[derive(Drop)]
+struct Question<'a> {
+    wave: u16,
+    breadth: u16,
+    hours: u32,
+    room: usize,
+    least: u64,
+    most: u64,
+    sheet: &'a [u8],
 }
 
-// Asks one question after another; answers whether the input was questions to its end.
-fn ask_all(input: &[u8]) -> bool {
-    let mut at = 0;
-    while at < input.len() {
-        if input.len() - at < 20 {
-            return false;
-        }
-        let size = bytes::read2(input, at + 18) as usize;
-        if input.len() - at - 20 < size {
-            return false;
-        }
-        if !ask(input, at, size) {
-            return false;
-        }
-        at += 20 + size;
+fn main(rt: HostRuntime) -> Result<()> {
+    let mut input = Vec::new(rt.alloc());
+    rt.stdin().take(65536).read_to_end(&mut input)?;
+    let mut rest = input.as_slice();
+    while !rest.is_empty() {
+        let Some(question) = next(&mut rest) else {
+            return println!(rt; "bad input");
+        };
+        ask(&rt, &question)?;
     }
-    true
+    Ok(())
 }
 
-// Asks the question at `at`, unless its buffer is longer than any here.
-fn ask(input: &[u8], at: usize, size: usize) -> bool
-    requires { at + 20 + size ≤ length input.now }
+// Takes a question from the front of the input, if all of it is there and its buffer not too long.
+fn next<'a>(input: &mut &'a [u8]) -> Option<Question<'a>>
+    ensures room { IfSome result (λ q. q.room ≤ 834) }
+    ensures shorter { OnSome result (length input.new.now < length input.old.now) }
 {
-    let wave = bytes::read2(input, at) as u16;
-    let breadth = bytes::read2(input, at + 2) as u16;
-    let hours = bytes::read4(input, at + 4) as u32;
-    let room = bytes::read2(input, at + 8) as usize;
-    if 834 < room {
-        return false;
+    let head = input.split_off(..20)?;
+    let room = bytes::read2(head, 8) as usize;
+    let sheet = input.split_off(..bytes::read2(head, 18) as usize)?;
+    if room > LONGEST {
+        return None;
     }
-    tell_number(wave as u64, b" ");
-    tell_number(breadth as u64, b" ");
-    tell_number(hours as u64, b"");
-    tell_factor(wave, breadth);
-    let mut space = [0u8; 834];
-    let buffer: &mut [u8] = &mut space;
-    let answer = &mut buffer[..room];
-    let sheet = at + 20;
-    let outcome = forecast::forecast(&input[sheet..sheet + size], wave, breadth, hours, answer);
-    match outcome {
-        Outcome::Taken(n) => tell_taken(input, at, answer, n),
-        Outcome::Refused(number, second) => tell_refused(number, second),
-    }
-    true
+    Some(Question {
+        wave: bytes::read2(head, 0) as u16,
+        breadth: bytes::read2(head, 2) as u16,
+        hours: bytes::read4(head, 4) as u32,
+        room,
+        least: bytes::read4(head, 10),
+        most: bytes::read4(head, 14),
+        sheet,
+    })
 }
 
-// The factor, in thousandths.
-fn tell_factor(wave: u16, breadth: u16) {
-    if breadth == 0 {
-        return;
-    }
-    let found = forecast_factor::factor_of(wave, breadth);
-    io::write_all(STDOUT_FILENO, b" factor ");
-    tell_number(found.factor, b"");
-}
-
-fn tell_taken(input: &[u8], at: usize, answer: &[u8], n: usize)
-    requires { at + 20 ≤ length input.now }
+// Asks a question and tells what came out.
+fn ask(rt: &impl Print, question: &Question<'_>) -> Result<()>
+    requires { question.now.room ≤ 834 }
 {
-    io::write_all(STDOUT_FILENO, b" taken ");
-    tell_number(n as u64, b" ");
-    if answer.len() < 6 {
-        return;
+    let wave = question.wave;
+    let breadth = question.breadth;
+    let hours = question.hours;
+    print!(rt; "{wave} {breadth} {hours}")?;
+    if breadth != 0 {
+        print!(rt;
+            " factor {}",
+            forecast_factor::factor_of(wave, breadth).factor
+        )?;
     }
-    tell_number(bytes::read1(answer, 0), b"");
+    let mut buffer = [0u8; LONGEST];
+    let answer = &mut buffer[..question.room];
+    match forecast::forecast(question.sheet, wave, breadth, hours, answer) {
+        Ok(n) => tell_taken(rt, question, &answer[..n]),
+        Err(refusal) => println!(rt; " refused {} {}", refusal.number, refusal.second),
+    }
+}
+
+// Tells of an answer its length, its verdict and whether the racking of tier 1 at the door end is within the question's bounds.
+fn tell_taken(rt: &impl Print, question: &Question<'_>, answer: &[u8]) -> Result<()>
+    requires { 6 ≤ length answer.now }
+{
     let racking = bytes::read4(answer, 2);
-    if (bytes::read4(input, at + 10) <= racking) & (racking <= bytes::read4(input, at + 14)) {
-        io::write_all(STDOUT_FILENO, b" inside\n");
+    let place = if question.least <= racking && racking <= question.most {
+        "inside"
     } else {
-        io::write_all(STDOUT_FILENO, b" outside\n");
-    }
-}
-
-fn tell_refused(number: u64, second: usize) {
-    io::write_all(STDOUT_FILENO, b" refused ");
-    tell_number(number, b" ");
-    tell_number(second as u64, b"\n");
-}
-
-fn tell_number(x: u64, end: &[u8]) {
-    io::print_decimal(STDOUT_FILENO, x);
-    io::write_all(STDOUT_FILENO, end);
+        "outside"
+    };
+    println!(rt; " taken {} {} {place}", answer.len(), answer[0])
 }

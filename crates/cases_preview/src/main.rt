@@ -7,110 +7,78 @@
 
 #![tactic(auto)]
 
-ghost use Rattle.std.specs.Prelude.{◌+◌, ◌≤◌, length};
+ghost use Rattle.std.specs.Prelude.{◌≤◌, length, IfSome};
 
-use answer::Outcome;
 use arith::bytes;
+use std::io::{Read, Result};
 
-// File descriptors of standard input and output.
-const STDIN_FILENO: i32 = 0;
+// No move asks for a longer answer buffer.
+const LONGEST: usize = 1024;
 
-const STDOUT_FILENO: i32 = 1;
-
-fn main() {
-    let mut input = io::large_buffer();
-    let n = io::read_full(STDIN_FILENO, &mut input);
-    if !preview_all(&input[..n]) {
-        io::write_all(STDOUT_FILENO, b"bad input\n");
-    }
+// A move: its tier and mass, the length of the answer buffer, the sheet and the copy.
+#[derive(Drop)]
+struct Move<'a> {
+    tier: u32,
+    mass: u16,
+    room: usize,
+    sheet: &'a [u8],
+    copy: &'a [u8],
 }
 
-// Previews one move after another; answers whether the input was moves to its end.
-fn preview_all(input: &[u8]) -> bool {
-    let mut at = 0;
-    while at < input.len() {
-        if input.len() - at < 512 {
-            return false;
-        }
-        if !preview_one(input, at) {
-            return false;
-        }
-        at += 512;
+fn main(rt: HostRuntime) -> Result<()> {
+    let mut input = Vec::new(rt.alloc());
+    rt.stdin().take(65536).read_to_end(&mut input)?;
+    for bytes in input.chunks(512) {
+        let Some(moved) = move_in(bytes) else {
+            return println!(rt; "bad input");
+        };
+        preview(&rt, &moved)?;
     }
-    true
+    Ok(())
 }
 
-// Previews the move at `at`, unless its buffer, its sheet or its copy is longer than there is room for.
-fn preview_one(input: &[u8], at: usize) -> bool
-    requires { at + 512 ≤ length input.now }
+// The move in 512 bytes, unless they are fewer or its buffer, its sheet or its copy is longer than there is room for.
+fn move_in(bytes: &[u8]) -> Option<Move<'_>>
+    ensures { IfSome result (λ m. m.room ≤ 1024) }
 {
-    let room = number(input, at + 6);
-    let sheet = number(input, at + 8);
-    let copy = number(input, at + 10);
-    if 1024 < room {
-        return false;
+    if bytes.len() < 512 {
+        return None;
     }
-    if 250 < sheet {
-        return false;
+    let room = bytes::read2(bytes, 6) as usize;
+    let sheet = bytes::read2(bytes, 8) as usize;
+    let copy = bytes::read2(bytes, 10) as usize;
+    if room > LONGEST || sheet > 250 || copy > 250 {
+        return None;
     }
-    if 250 < copy {
-        return false;
-    }
-    let tier = bytes::read4(input, at) as u32;
-    let mass = bytes::read2(input, at + 4) as u16;
-    tell_number(tier as u64);
-    tell_number(mass as u64);
-    tell_number(room as u64);
-    let from = at + 12;
-    let to = from + sheet;
-    let copied = at + 262;
-    let end = copied + copy;
-    run(&input[from..to], &input[copied..end], tier, mass, room);
-    true
+    Some(Move {
+        tier: bytes::read4(bytes, 0) as u32,
+        mass: bytes::read2(bytes, 4) as u16,
+        room,
+        sheet: &bytes[12..12 + sheet],
+        copy: &bytes[262..262 + copy],
+    })
 }
 
-// The preview of a sheet and the check of a copy, each in a buffer of `room` bytes.
-fn run(sheet: &[u8], copy: &[u8], tier: u32, mass: u16, room: usize)
-    requires { room ≤ 1024 }
+// Previews a move and tells what came out, beside the check of its copy.
+fn preview(rt: &impl Print, moved: &Move<'_>) -> Result<()>
+    requires { moved.now.room ≤ 1024 }
 {
-    let mut first = [170u8; 1024];
-    let left: &mut [u8] = &mut first;
+    let tier = moved.tier;
+    let mass = moved.mass;
+    let room = moved.room;
+    let mut left = [170u8; LONGEST];
     let previewed = &mut left[..room];
-    tell_outcome(preview::preview(sheet, tier, mass, previewed));
-    let mut second = [170u8; 1024];
-    let right: &mut [u8] = &mut second;
+    let (number, second) = match preview::preview(moved.sheet, tier, mass, previewed) {
+        Ok(n) => (0, n),
+        Err(refusal) => (refusal.number, refusal.second),
+    };
+    let mut right = [170u8; LONGEST];
     let checked = &mut right[..room];
-    stack_check::check(copy, checked);
-    tell_same(check::same(previewed, checked));
-}
-
-fn number(input: &[u8], at: usize) -> usize
-    requires { at + 2 ≤ length input.now }
-{
-    bytes::read2(input, at) as usize
-}
-
-fn tell_outcome(outcome: Outcome) {
-    match outcome {
-        Outcome::Taken(n) => tell_numbers(0, n),
-        Outcome::Refused(number, second) => tell_numbers(number, second),
-    }
-}
-
-fn tell_numbers(number: u64, second: usize) {
-    tell_number(number);
-    tell_number(second as u64);
-}
-
-fn tell_same(same: bool) {
-    if same {
-        io::write_all(STDOUT_FILENO, b"same\n");
+    let _ = stack_check::check(moved.copy, checked);
+    let word = if *previewed == *checked {
+        "same"
     } else {
-        io::write_all(STDOUT_FILENO, b"other\n");
-    }
-}
-
-fn tell_number(x: u64) {
-    io::print_decimal(STDOUT_FILENO, x);
-    io::write_all(STDOUT_FILENO, b" ");
+        "other"
+    };
+    println!(rt; "{tier} {mass} {room} {number} {second} {word}")
 }

@@ -5,52 +5,41 @@
 
 #![tactic(auto)]
 
-ghost use Rattle.std.specs.Prelude.{◌+◌, ◌≤◌, ◌<◌, length};
+ghost use Rattle.std.specs.Prelude.{◌+◌, ◌≤◌, length};
 
 use arith::bytes;
-use roll::{Accelerations, Condition, Rolled};
+use roll::Condition;
+use std::io::{Read, Result};
 
-// File descriptors of standard input and output.
-const STDIN_FILENO: i32 = 0;
-
-const STDOUT_FILENO: i32 = 1;
-
-fn main() {
-    let mut input = io::large_buffer();
-    let n = io::read_full(STDIN_FILENO, &mut input);
-    if !roll_all(&input[..n]) {
-        io::write_all(STDOUT_FILENO, b"bad input\n");
+fn main(rt: HostRuntime) -> Result<()> {
+    let mut input = Vec::new(rt.alloc());
+    rt.stdin().take(65536).read_to_end(&mut input)?;
+    for bytes in input.chunks(40) {
+        let Some(condition) = condition_in(bytes) else {
+            return println!(rt; "bad input");
+        };
+        tell(&rt, condition)?;
     }
+    Ok(())
 }
 
-// One condition after another; answers whether the input was conditions to its end.
-fn roll_all(input: &[u8]) -> bool {
-    let mut at = 0;
-    while at < input.len() {
-        if input.len() - at < 40 {
-            return false;
-        }
-        tell(roll::condition_a(condition(input, at)));
-        at += 40;
+// The condition in 40 bytes, unless they are fewer.
+fn condition_in(bytes: &[u8]) -> Option<Condition> {
+    if bytes.len() < 40 {
+        return None;
     }
-    true
-}
-
-fn condition(input: &[u8], at: usize) -> Condition
-    requires { at + 40 ≤ length input.now }
-{
-    Condition {
-        sine: number(input, at),
-        cosine: number(input, at + 4),
-        heave: number(input, at + 8),
-        angle: number(input, at + 12),
-        period: number(input, at + 16),
-        length: number(input, at + 20),
-        centre: signed(bytes::read4(input, at + 24)),
-        x: signed(bytes::read4(input, at + 28)),
-        y: signed(bytes::read4(input, at + 32)),
-        z: signed(bytes::read4(input, at + 36)),
-    }
+    Some(Condition {
+        sine: number(bytes, 0),
+        cosine: number(bytes, 4),
+        heave: number(bytes, 8),
+        angle: number(bytes, 12),
+        period: number(bytes, 16),
+        length: number(bytes, 20),
+        centre: number(bytes, 24).cast_signed(),
+        x: number(bytes, 28).cast_signed(),
+        y: number(bytes, 32).cast_signed(),
+        z: number(bytes, 36).cast_signed(),
+    })
 }
 
 fn number(input: &[u8], at: usize) -> u32
@@ -59,37 +48,10 @@ fn number(input: &[u8], at: usize) -> u32
     bytes::read4(input, at) as u32
 }
 
-// The number whose 32 bits these are.
-fn signed(bits: u64) -> i32
-    requires { bits < 4294967296 }
-{
-    if bits < 2147483648 {
-        return bits as i32;
+// Works out a condition's accelerations and tells what came out.
+fn tell(rt: &impl Print, condition: Condition) -> Result<()> {
+    match roll::condition_a(condition) {
+        Ok(a) => println!(rt; "given {} {} {}", a.aT, a.aVmax, a.aVmin),
+        Err(refusal) => println!(rt; "refused {} {}", refusal.number, refusal.second),
     }
-    (bits as i64 - 4294967296) as i32
-}
-
-fn tell(rolled: Rolled) {
-    match rolled {
-        Rolled::Given(accelerations) => tell_given(accelerations),
-        Rolled::Refused(number, second) => tell_refused(number, second),
-    }
-}
-
-fn tell_given(a: Accelerations) {
-    io::write_all(STDOUT_FILENO, b"given ");
-    tell_number(a.aT, b" ");
-    tell_number(a.aVmax, b" ");
-    tell_number(a.aVmin, b"\n");
-}
-
-fn tell_refused(number: u64, second: usize) {
-    io::write_all(STDOUT_FILENO, b"refused ");
-    tell_number(number, b" ");
-    tell_number(second as u64, b"\n");
-}
-
-fn tell_number(x: u64, end: &[u8]) {
-    io::print_decimal(STDOUT_FILENO, x);
-    io::write_all(STDOUT_FILENO, end);
 }

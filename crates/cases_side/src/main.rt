@@ -6,95 +6,69 @@
 
 #![tactic(auto)]
 
-ghost use Rattle.std.specs.Prelude.{◌+◌, ◌≤◌, ◌<◌, length};
+ghost use Rattle.std.specs.Prelude.{◌+◌, ◌<◌, ◌≤◌, length, OnSome, IfSome};
 
-use answer::Outcome;
 use arith::bytes;
+use std::io::{Read, Result};
 
-// File descriptors of standard input and output.
-const STDIN_FILENO: i32 = 0;
+// No question asks for a longer side buffer.
+const LONGEST: usize = 90;
 
-const STDOUT_FILENO: i32 = 1;
-
-fn main() {
-    let mut input = io::large_buffer();
-    let n = io::read_full(STDIN_FILENO, &mut input);
-    if !ask_all(&input[..n]) {
-        io::write_all(STDOUT_FILENO, b"bad input\n");
-    }
+// The length of the side buffer, the stack sheet and the short sheet.
+#[derive(Drop)]
+struct Question<'a> {
+    room: usize,
+    sheet: &'a [u8],
+    pitch: &'a [u8],
 }
 
-// Asks one question after another; answers whether the input was questions to its end.
-fn ask_all(input: &[u8]) -> bool {
-    let mut at = 0;
-    while at < input.len() {
-        if input.len() - at < 6 {
-            return false;
-        }
-        let sheet = bytes::read2(input, at + 2) as usize;
-        let size = sheet + bytes::read2(input, at + 4) as usize;
-        if input.len() - at - 6 < size {
-            return false;
-        }
-        if !ask(input, at, sheet, size) {
-            return false;
-        }
-        at += 6 + size;
+fn main(rt: HostRuntime) -> Result<()> {
+    let mut input = Vec::new(rt.alloc());
+    rt.stdin().take(65536).read_to_end(&mut input)?;
+    let mut rest = input.as_slice();
+    while !rest.is_empty() {
+        let Some(question) = next(&mut rest) else {
+            return println!(rt; "bad input");
+        };
+        ask(&rt, &question)?;
     }
-    true
+    Ok(())
 }
 
-// Asks the question at `at`, whose sheets are `size` bytes and the stack sheet the first of these, unless its buffer is longer than any
-// here.
-fn ask(input: &[u8], at: usize, sheet: usize, size: usize) -> bool
-    requires { (at + 6 + size ≤ length input.now) × (sheet ≤ size) }
+// Takes a question from the front of the input, if all of it is there and its buffer not too long.
+fn next<'a>(input: &mut &'a [u8]) -> Option<Question<'a>>
+    ensures room { IfSome result (λ q. q.room ≤ 90) }
+    ensures shorter { OnSome result (length input.new.now < length input.old.now) }
 {
-    let room = bytes::read2(input, at) as usize;
-    if 90 < room {
-        return false;
+    let head = input.split_off(..6)?;
+    let room = bytes::read2(head, 0) as usize;
+    let sheet = input.split_off(..bytes::read2(head, 2) as usize)?;
+    let pitch = input.split_off(..bytes::read2(head, 4) as usize)?;
+    if room > LONGEST {
+        return None;
     }
-    let mut space = [0u8; 90];
-    let buffer: &mut [u8] = &mut space;
-    let answer = &mut buffer[..room];
-    let start = at + 6;
-    let next = start + sheet;
-    let outcome = side::side(&input[start..next], &input[next..start + size], answer);
-    match outcome {
-        Outcome::Taken(n) => tell_taken(answer, n),
-        Outcome::Refused(number, second) => tell_refused(number, second),
-    }
-    true
+    Some(Question { room, sheet, pitch })
 }
 
-// The numbers of a side answer of n bytes.
-fn tell_taken(answer: &[u8], n: usize) {
-    io::write_all(STDOUT_FILENO, b"taken ");
-    tell_number(n as u64, b"");
-    if n < 2 {
-        return;
+// Asks a question and tells what came out.
+fn ask(rt: &impl Print, question: &Question<'_>) -> Result<()>
+    requires { question.now.room ≤ 90 }
+{
+    let mut buffer = [0u8; LONGEST];
+    let answer = &mut buffer[..question.room];
+    match side::side(question.sheet, question.pitch, answer) {
+        Ok(n) => tell_taken(rt, &answer[..n]),
+        Err(refusal) => println!(rt; "refused {} {}", refusal.number, refusal.second),
     }
-    if answer.len() < n {
-        return;
-    }
-    io::write_all(STDOUT_FILENO, b" ");
-    tell_number(bytes::read1(answer, 0), b"");
-    let mut at = 2;
-    while at + 8 <= n {
-        io::write_all(STDOUT_FILENO, b" ");
-        tell_number(bytes::read4(answer, at), b" ");
-        tell_number(bytes::read4(answer, at + 4), b"");
-        at += 8;
-    }
-    io::write_all(STDOUT_FILENO, b"\n");
 }
 
-fn tell_refused(number: u64, second: usize) {
-    io::write_all(STDOUT_FILENO, b"refused ");
-    tell_number(number, b" ");
-    tell_number(second as u64, b"\n");
-}
-
-fn tell_number(x: u64, end: &[u8]) {
-    io::print_decimal(STDOUT_FILENO, x);
-    io::write_all(STDOUT_FILENO, end);
+// Tells the numbers of a side answer: its length, its verdict, and racking and shift of each tier.
+fn tell_taken(rt: &impl Print, answer: &[u8]) -> Result<()>
+    requires { 2 ≤ length answer.now }
+{
+    print!(rt; "taken {} {}", answer.len(), answer[0])?;
+    for tier in answer[2..].chunks_exact(8) {
+        print!(rt; " {} {}", bytes::read4(tier, 0), bytes::read4(tier, 4))?;
+    }
+    println!(rt;)
 }

@@ -7,84 +7,93 @@
 
 #![tactic(auto)]
 
-ghost use Rattle.std.specs.Prelude.{true, ◌≡◌, ◌+◌, ◌*◌, ◌≤◌, ◌<◌, length};
+ghost use Rattle.std.specs.Prelude.{true, ◌≡◌, ◌+◌, ◌*◌, ◌≤◌, ◌<◌, length, IfSome, OnSome};
 ghost use Rattle.cases_springs.specs.Inner.Within.{Within};
 
 use arith::bytes;
+use springs::SpringChain;
 use springs_eliminate::eliminate;
 use springs_solve::solve;
+use std::io::{Read, Result};
 
-// File descriptors of standard input and output.
-const STDIN_FILENO: i32 = 0;
-
-const STDOUT_FILENO: i32 = 1;
-
-fn main() {
-    let mut input = io::large_buffer();
-    let n = io::read_full(STDIN_FILENO, &mut input);
-    if !run_all(&input[..n]) {
-        io::write_all(STDOUT_FILENO, b"bad input\n");
-    }
+// Its count of tiers n, and five times n numbers.
+#[derive(Drop)]
+struct Chain<'a> {
+    n: usize,
+    numbers: &'a [u8],
 }
 
-// One chain after another; answers whether the input was chains to its end.
-fn run_all(input: &[u8]) -> bool {
-    let mut at = 0;
-    while at < input.len() {
-        let n = bytes::read1(input, at) as usize;
-        if 10 < n {
-            return false;
-        }
-        if input.len() - at < 1 + 40 * n {
-            return false;
-        }
-        run(input, at + 1, n);
-        at += 1 + 40 * n;
+fn main(rt: HostRuntime) -> Result<()> {
+    let mut input = Vec::new(rt.alloc());
+    rt.stdin().take(65536).read_to_end(&mut input)?;
+    let mut rest = input.as_slice();
+    while !rest.is_empty() {
+        let Some(chain) = next(&mut rest) else {
+            return println!(rt; "bad input");
+        };
+        run(&rt, &chain)?;
     }
-    true
+    Ok(())
 }
 
-fn run(input: &[u8], at: usize, n: usize)
-    requires { (n ≤ 10) × (at + 40 * n ≤ length input.now) }
+// Takes a chain from the front of the input, if all of it is there and it has at most ten tiers.
+fn next<'a>(input: &mut &'a [u8]) -> Option<Chain<'a>>
+    ensures chain { IfSome result (λ c. (c.n ≤ 10) × (length c.numbers.now ≡ 40 * c.n)) }
+    ensures shorter { OnSome result (length input.new.now < length input.old.now) }
 {
+    let head = input.split_off(..1)?;
+    let n = bytes::read1(head, 0) as usize;
+    if n > 10 {
+        return None;
+    }
+    let numbers = input.split_off(..40 * n)?;
+    Some(Chain { n, numbers })
+}
+
+// Finds the shifts of a chain, if its springs, its lashes and its loads are within the solver's limits, and tells what came out.
+fn run(rt: &impl Print, chain: &Chain<'_>) -> Result<()>
+    requires { (chain.now.n ≤ 10) × (length chain.now.numbers.now ≡ 40 * chain.now.n) }
+{
+    let n = chain.n;
+    let numbers = chain.numbers;
     let mut k = [0u64; 10];
     let mut kappa = [0u64; 10];
     let mut omega = [0u64; 10];
-    let springs = fill(input, at, n, 3730, 15690, &mut k);
-    let held = fill(input, at + 8 * n, n, 0, 2600468480000, &mut kappa);
-    let loaded = fill(input, at + 16 * n, n, 0, 70368744177664, &mut omega);
-    if springs {
-        if held {
-            if loaded {
-                both_ways(input, at + 24 * n, n, &k, &kappa, &omega);
-                return;
-            }
-        }
+    let springs = fill(numbers, 0, n, 3730, 15690, &mut k);
+    let held = fill(numbers, 8 * n, n, 0, 2600468480000, &mut kappa);
+    let loaded = fill(numbers, 16 * n, n, 0, 70368744177664, &mut omega);
+    if springs && held && loaded {
+        both_ways(rt, numbers, 24 * n, n, &k, &kappa, &omega)
+    } else {
+        println!(rt; "not solvable")
     }
-    io::write_all(STDOUT_FILENO, b"not solvable\n");
 }
 
-fn both_ways(input: &[u8], at: usize, n: usize, k: &[u64], kappa: &[u64], omega: &[u64])
+// Tells whether the shifts are within the bounds at `at`, by elimination alone and by the solver.
+fn both_ways(
+    rt: &impl Print,
+    input: &[u8],
+    at: usize,
+    n: usize,
+    k: &[u64],
+    kappa: &[u64],
+    omega: &[u64],
+) -> Result<()>
     requires n_bound { (n ≤ 10) × (at + 16 * n ≤ length input.now) }
     requires k_len { (length k.now ≡ 10) × (length kappa.now ≡ 10) × (length omega.now ≡ 10) }
     requires within { Within n 3730 15690 k.now × Within n 0 2600468480000 kappa.now × Within n 0 70368744177664 omega.now }
 {
+    let chain = SpringChain { n, k, kappa, omega };
     let mut d = [0u64; 11];
-    eliminate(n, k, kappa, omega, &mut d);
-    io::write_all(STDOUT_FILENO, b"eliminated ");
-    tell(inside(input, at, n, &d));
-    let e = solve(n, k, kappa, omega);
-    io::write_all(STDOUT_FILENO, b", solved ");
-    tell(inside(input, at, n, &e));
-    io::write_all(STDOUT_FILENO, b"\n");
+    eliminate(chain, &mut d);
+    let eliminated = place(inside(input, at, n, &d));
+    let e = solve(chain);
+    let solved = place(inside(input, at, n, &e));
+    println!(rt; "eliminated {eliminated}, solved {solved}")
 }
 
-fn tell(within: bool) {
-    if within {
-        io::write_all(STDOUT_FILENO, b"inside");
-        return;
-    }
-    io::write_all(STDOUT_FILENO, b"outside");
+fn place(within: bool) -> &'static str {
+    if within { "inside" } else { "outside" }
 }
 
 fn number(input: &[u8], at: usize) -> u64
@@ -98,17 +107,12 @@ fn fill(input: &[u8], at: usize, n: usize, least: u64, most: u64, into: &mut [u6
     requires { (n ≤ 10) × (at + 8 * n ≤ length input.now) × (length into.old ≡ 10) }
     ensures { result ≡ true → Within n least most into.new }
 {
-    let mut i = 0;
-    while i < n {
+    for i in 0..n {
         let x = number(input, at + 8 * i);
-        if x < least {
-            return false;
-        }
-        if most < x {
+        if x < least || most < x {
             return false;
         }
         into[i] = x;
-        i += 1;
     }
     true
 }
@@ -117,16 +121,11 @@ fn fill(input: &[u8], at: usize, n: usize, least: u64, most: u64, into: &mut [u6
 fn inside(input: &[u8], at: usize, n: usize, d: &[u64]) -> bool
     requires { (n ≤ 10) × (at + 16 * n ≤ length input.now) × (n < length d.now) }
 {
-    let mut i = 0;
-    while i < n {
+    for i in 0..n {
         let shift = d[i + 1];
-        if shift < number(input, at + 8 * i) {
+        if shift < number(input, at + 8 * i) || number(input, at + 8 * (n + i)) < shift {
             return false;
         }
-        if number(input, at + 8 * (n + i)) < shift {
-            return false;
-        }
-        i += 1;
     }
     true
 }

@@ -6,60 +6,50 @@
 
 #![tactic(auto)]
 
-ghost use Rattle.std.specs.Prelude.{◌≡◌, ◌+◌, ◌≤◌, length};
+ghost use Rattle.std.specs.Prelude.{◌+◌, ◌≤◌, length, IfSome};
 
 use arith::bytes;
-use twenties::{Judgement, Verdict};
+use std::array;
+use std::io::{Read, Result};
 
-// File descriptors of standard input and output.
-const STDIN_FILENO: i32 = 0;
-
-const STDOUT_FILENO: i32 = 1;
-
-fn main() {
-    let mut input = io::large_buffer();
-    let n = io::read_full(STDIN_FILENO, &mut input);
-    if !judge_all(&input[..n]) {
-        io::write_all(STDOUT_FILENO, b"bad input\n");
-    }
+// A table, an acceleration and masses, of which the first `count` count.
+#[derive(Drop)]
+struct Question {
+    table: u32,
+    acceleration: u32,
+    count: usize,
+    masses: [u32; 13],
 }
 
-// Judges one question after another; answers whether the input was questions to its end.
-fn judge_all(input: &[u8]) -> bool {
-    let mut at = 0;
-    while at < input.len() {
-        if input.len() - at < 64 {
-            return false;
-        }
-        if !judge(input, at) {
-            return false;
-        }
-        at += 64;
+fn main(rt: HostRuntime) -> Result<()> {
+    let mut input = Vec::new(rt.alloc());
+    rt.stdin().take(65536).read_to_end(&mut input)?;
+    for bytes in input.chunks(64) {
+        let Some(question) = question_in(bytes) else {
+            return println!(rt; "bad input");
+        };
+        judge(&rt, &question)?;
     }
-    true
+    Ok(())
 }
 
-// Judges the question at `at`, unless it counts more masses than it has.
-fn judge(input: &[u8], at: usize) -> bool
-    requires { at + 64 ≤ length input.now }
+// The question in 64 bytes, unless they are fewer or it counts more masses than it has.
+fn question_in(bytes: &[u8]) -> Option<Question>
+    ensures { IfSome result (λ q. q.count ≤ 13) }
 {
-    let table = number(input, at);
-    let acceleration = number(input, at + 4);
-    let count = number(input, at + 8) as usize;
-    if 13 < count {
-        return false;
+    if bytes.len() < 64 {
+        return None;
     }
-    let held = masses_at(input, at + 12);
-    let masses: &[u32] = &held;
-    let judgement = twenties::judge(table, acceleration, &masses[..count]);
-    tell_number(table as u64, b" ");
-    tell_number(acceleration as u64, b" ");
-    tell_number(count as u64, b" ");
-    match judgement {
-        Judgement::Given(verdict) => tell_verdict(verdict),
-        Judgement::Refused(number, second) => tell_refused(number, second),
+    let count = number(bytes, 8) as usize;
+    if count > 13 {
+        return None;
     }
-    true
+    Some(Question {
+        table: number(bytes, 0),
+        acceleration: number(bytes, 4),
+        count,
+        masses: array::from_fn(|i| number(bytes, 12 + 4 * i)),
+    })
 }
 
 fn number(input: &[u8], at: usize) -> u32
@@ -68,36 +58,21 @@ fn number(input: &[u8], at: usize) -> u32
     bytes::read4(input, at) as u32
 }
 
-fn masses_at(input: &[u8], at: usize) -> [u32; 13]
-    requires { at + 52 ≤ length input.now }
-    ensures { length result ≡ 13 }
+// Judges a question and tells what came out.
+fn judge(rt: &impl Print, question: &Question) -> Result<()>
+    requires { question.now.count ≤ 13 }
 {
-    let mut masses = [0u32; 13];
-    let mut i = 0;
-    while i < 13 {
-        masses[i] = number(input, at + 4 * i);
-        i += 1;
+    let count = question.count;
+    print!(rt; "{} {} {count} ", question.table, question.acceleration)?;
+    match twenties::judge(
+        question.table,
+        question.acceleration,
+        &question.masses[..count],
+    ) {
+        Ok(verdict) => {
+            let word = if verdict.yes { "yes" } else { "no" };
+            println!(rt; "{word} {} {}", verdict.total, verdict.permitted)
+        }
+        Err(refusal) => println!(rt; "refused {} {}", refusal.number, refusal.second),
     }
-    masses
-}
-
-fn tell_verdict(v: Verdict) {
-    if v.yes {
-        io::write_all(STDOUT_FILENO, b"yes ");
-    } else {
-        io::write_all(STDOUT_FILENO, b"no ");
-    }
-    tell_number(v.total, b" ");
-    tell_number(v.permitted, b"\n");
-}
-
-fn tell_refused(number: u64, second: usize) {
-    io::write_all(STDOUT_FILENO, b"refused ");
-    tell_number(number, b" ");
-    tell_number(second as u64, b"\n");
-}
-
-fn tell_number(x: u64, end: &[u8]) {
-    io::print_decimal(STDOUT_FILENO, x);
-    io::write_all(STDOUT_FILENO, end);
 }

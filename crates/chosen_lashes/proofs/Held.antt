@@ -1,5 +1,5 @@
 -- Lashes held in arrays with their lengths, stiffnesses and sums: what the figures of an end take.
-use Prim.Native.Nat.{ℕ, zero, suc, ◌+◌, ◌-◌, ◌<◌, ◌≤◌}
+use Prim.Native.Nat.{ℕ, suc, ◌+◌, ◌-◌, ◌<◌, ◌≤◌}
 use mathlib.Core.List.{List, [], ◌∷◌, ◌++◌, map}
 use mathlib.Core.Path.{◌≡◌, refl, sym, subst, ◌∙◌}
 use native.Mathlib.Decide.{dec_lt}
@@ -7,6 +7,7 @@ use native.Mathlib.Omega.{arith}
 use borrow.Author.Tests.{ne_eqb}
 use lib.ListN.{length, get_or, take, replicate, length-append, length-replicate, get_or-append, get_or-eq_default}
 use lib.Seq.{get_or-append-add}
+use Rattle.std.proofs.lemmas.List.{length-map, get_or-map}
 use Rattle.arith.specs.Lists.{padded}
 use Rattle.sheet.specs.declared.Lash.{Lash}
 use Rattle.sheet.specs.Layout.{blank_lash}
@@ -18,15 +19,10 @@ use Rattle.statics.specs.Inner.Computed.{stiffnesses_of}
 use Rattle.statics.proofs.Arrays.{blank_entry}
 use Rattle.figures_lashes.specs.Inner.Lashes.{LashesMeasured, LevelStiffnesses}
 use Rattle.chosen_lashes.specs.Inner.Gathered.{Held}
-use Rattle.chosen_lashes.proofs.Picked.{length_map, levels_long, level_entry}
+use Rattle.chosen_lashes.proofs.Picked.{levels_long, level_entry}
 
 abbrev pub lashes_held : Held → List Lash
 lashes_held h = take h.count h.lashes
-
-entry_of : (f : Lash → ℕ) (ls : List Lash) (j : ℕ) → j < length ls → get_or (map f ls) j 0 ≡ f (get_or ls j blank_lash)
-entry_of f [] j h = absurd (omega arith)
-entry_of f (l ∷ ls) zero h = refl
-entry_of f (l ∷ ls) (suc j) h = entry_of f ls j (omega arith)
 
 module _ (f : Lash → ℕ) (ls : List Lash) (few : length ls ≤ 8) where
   abbrev blanks : List ℕ
@@ -35,14 +31,14 @@ module _ (f : Lash → ℕ) (ls : List Lash) (few : length ls ≤ 8) where
   behind : (j : ℕ) → length ls ≤ j → get_or (padded 8 0 (map f ls)) j 0 ≡ 0
   behind j h =
       subst (λ (z : ℕ). get_or (map f ls ++ blanks) z 0 ≡ 0) {x = length (map f ls) + (j - length ls)} {y = j}
-      (rw (length_map f ls) (omega arith))
+      (rw (length-map ls f) (omega arith))
       (get_or-append-add (map f ls) blanks (j - length ls) 0 ∙ blank_entry 0 (8 - length (map f ls)) (j - length ls))
 
   pub padded_filled : Filled 8 0 (length ls) (λ j. f (get_or ls j blank_lash)) (padded 8 0 (map f ls))
   padded_filled =
       record {
-        long = simp (length-append, length-replicate, length_map f ls) (omega arith);
-        each = λ j h. get_or-append (map f ls) blanks 0 j (omega (arith, h, length_map f ls)) ∙ entry_of f ls j h;
+        long = simp (length-append, length-replicate, length-map ls f) (omega arith);
+        each = λ j h. get_or-append (map f ls) blanks 0 j (omega (arith, h, length-map ls f)) ∙ get_or-map f ls j blank_lash 0 h;
         rest = behind;
       }
 

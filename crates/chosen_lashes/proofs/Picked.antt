@@ -11,6 +11,7 @@ use borrow.Author.Tests.{eq-eqb, ne_eqb}
 use lib.Dec.{eqb}
 use lib.ListN.{length, get_or, set, take, replicate, length-append, length-set}
 use lib.Seq.{ext_get_or, get_or-set_same, get_or-set_other, take-suc, length-take-le, get_or-take, take_all}
+use Rattle.std.proofs.lemmas.List.{length-map, map_push}
 use Rattle.arith.specs.Lists.{from, padded}
 use Rattle.arith.proofs.Arrays.{length_entries}
 use Rattle.sheet.specs.declared.Lash.{Lash}
@@ -40,22 +41,14 @@ module _ {A : Type 0} (blank : A) where
       let e : size - length xs ≡ suc (size - (length xs + 1)) = omega arith in
       rw (e, length-append xs (v ∷ [])) (set_behind xs (size - (length xs + 1)) v ∙ sym (append_assoc xs (v ∷ []) _))
 
-map_append : {A B : Type 0} (f : A → B) (xs ys : List A) → map f (xs ++ ys) ≡ map f xs ++ map f ys
-map_append f [] ys = refl
-map_append {B = B} f (x ∷ xs) ys = ap (λ (l : List B). f x ∷ l) (map_append f xs ys)
-
-pub length_map : {A B : Type 0} (f : A → B) (xs : List A) → length (map f xs) ≡ length xs
-length_map f [] = refl
-length_map f (x ∷ xs) = ap suc (length_map f xs)
-
 pub map_more :
     {A : Type 0} (f : A → ℕ) (xs : List A) (x : A) →
     length xs < 8 →
     set (padded 8 0 (map f xs)) (length xs) (f x) ≡ padded 8 0 (map f (xs ++ x ∷ []))
 map_more f xs x h =
-    ap (λ (n : ℕ). set (padded 8 0 (map f xs)) n (f x)) (sym (length_map f xs))
-    ∙ one_more 0 8 (map f xs) (f x) (omega (arith, length_map f xs))
-    ∙ ap (λ (l : List ℕ). padded 8 0 l) (sym (map_append f xs (x ∷ [])))
+    ap (λ (n : ℕ). set (padded 8 0 (map f xs)) n (f x)) (sym (length-map xs f))
+    ∙ one_more 0 8 (map f xs) (f x) (omega (arith, length-map xs f))
+    ∙ ap (λ (l : List ℕ). padded 8 0 l) (sym (map_push f xs x))
 
 -- what a choice uses of the first lashes
 module _ {A : Type 0} where
@@ -127,18 +120,19 @@ module _ (ls : List Lash) (l : Lash) (at : ℕ) (e : suc at ≡ level_of l) (low
       ext_get_or 0 (set (stiffnesses_of ls) at sum) (stiffnesses_of (ls ++ l ∷ [])) (set_long ∙ sym (levels_long (ls ++ l ∷ [])))
       (λ i h. set_entry i (omega (arith, h, set_long)))
 
--- what is in the arrays before lash j
-pub record GatheredTo (c : ℕ) (ls : List Lash) (j rest count : ℕ) (held : List Lash) (long stiff levels : List ℕ) : Type 0 where
-  pub within : j ≤ length ls
+-- what is in the arrays before lash j of m
+pub record GatheredTo (c m : ℕ) (ls : List Lash) (j rest count : ℕ) (held : List Lash) (long stiff levels : List ℕ) : Type 0 where
+  pub counted : length ls ≡ m
   pub short : count ≤ j
   pub bits : (k : ℕ) → uses rest k ≡ uses c (j + k)
   pub holds : record { lashes = held; lengths = long; stiffnesses = stiff; levels = levels; count = count } ≡ held_of (chosen c (take j ls))
 
 pub gathered_none :
-    (c : ℕ) (ls : List Lash) →
-    GatheredTo c ls 0 c 0 (replicate 8 blank_lash) (replicate 8 0) (replicate 8 0) (replicate 10 0)
+    (c m : ℕ) (ls : List Lash) →
+    length ls ≡ m →
+    GatheredTo c m ls 0 c 0 (replicate 8 blank_lash) (replicate 8 0) (replicate 8 0) (replicate 10 0)
 unfolding chosen stiffnesses_of level_stiffness from
-gathered_none c ls = record { within = omega arith; short = omega arith; bits = λ k. ap (uses c) (sym (zero-add k)); holds = refl }
+gathered_none c m ls e = record { counted = e; short = omega arith; bits = λ k. ap (uses c) (sym (zero-add k)); holds = refl }
 
 -- sums of what a choice uses
 level_cond : (b : Bool) (l : Lash) (ls : List Lash) (i : ℕ) → level_stiffness (cond b (l ∷ ls) ls) i ≤ stiffness_of l + level_stiffness ls i
@@ -166,9 +160,9 @@ level_le B c (l ∷ ls) h i =
     )
 
 -- one turn
-module _ {c : ℕ} {ls : List Lash} (few : length ls ≤ 8) (each : (k : ℕ) → k < length ls → LashLimits 10 (get_or ls k blank_lash))
-    {j rest count : ℕ} {held : List Lash} {long stiff levels : List ℕ} (s : GatheredTo c ls j rest count held long stiff levels)
-    (h : j < length ls) where
+module _ {c m : ℕ} {ls : List Lash} (few : m ≤ 8) (each : (k : ℕ) → k < m → LashLimits 10 (get_or ls k blank_lash))
+    {j rest count : ℕ} {held : List Lash} {long stiff levels : List ℕ} (s : GatheredTo c m ls j rest count held long stiff levels)
+    (h : j < m) where
   abbrev picked : List Lash
   picked = chosen c (take j ls)
 
@@ -181,12 +175,12 @@ module _ {c : ℕ} {ls : List Lash} (few : length ls ≤ 8) (each : (k : ℕ) �
   own_bit : uses rest 0 ≡ uses c j
   own_bit = s.bits 0 ∙ ap (uses c) (add-zero j)
 
-  pub gathered_skip : eqb (rest % 2) 1 ≡ false → GatheredTo c ls (suc j) (rest / 2) count held long stiff levels
+  pub gathered_skip : eqb (rest % 2) 1 ≡ false → GatheredTo c m ls (suc j) (rest / 2) count held long stiff levels
   unfolding uses
   gathered_skip e =
       let same : chosen c (take (suc j) ls) ≡ picked =
-      chosen_next c ls j blank_lash h ∙ ap (λ b. picked ++ cond b (get_or ls j blank_lash ∷ []) []) (sym own_bit ∙ e) ∙ append-nil picked in
-      record { within = h; short = omega (arith, s.short); bits = bits_more; holds = rw same s.holds }
+      chosen_next c ls j blank_lash (omega arith) ∙ ap (λ b. picked ++ cond b (get_or ls j blank_lash ∷ []) []) (sym own_bit ∙ e) ∙ append-nil picked in
+      record { counted = s.counted; short = omega (arith, s.short); bits = bits_more; holds = rw same s.holds }
 
   picked_few : length picked < 8
   picked_few = omega (arith, few_chosen c (take j ls), length-take-le j ls (omega arith))
@@ -213,7 +207,7 @@ module _ {c : ℕ} {ls : List Lash} (few : length ls ≤ 8) (each : (k : ℕ) �
     picked_more : chosen c (take (suc j) ls) ≡ picked ++ l ∷ []
     unfolding uses
     picked_more =
-        chosen_next c ls j blank_lash h
+        chosen_next c ls j blank_lash (omega arith)
         ∙ ap₂ (λ b k. picked ++ cond b (k ∷ []) []) (sym own_bit ∙ e) own
 
     pub gathered_use :
@@ -222,7 +216,7 @@ module _ {c : ℕ} {ls : List Lash} (few : length ls ≤ 8) (each : (k : ℕ) �
         y ≡ stiffness_of l →
         suc at ≡ level_of l →
         at < 10 →
-        GatheredTo c ls (suc j) (rest / 2) (suc count) (set held count l) (set long count x) (set stiff count y)
+        GatheredTo c m ls (suc j) (rest / 2) (suc count) (set held count l) (set long count x) (set stiff count y)
         (set levels at (get_or levels at 0 + y))
     gathered_use {x} {y} {at} ex ey ea low =
         let n = ap (λ (g : Held). g.count) s.holds in
@@ -231,7 +225,7 @@ module _ {c : ℕ} {ls : List Lash} (few : length ls ≤ 8) (each : (k : ℕ) �
         let stiffnesses = ap (λ (g : Held). g.stiffnesses) s.holds in
         let sums = ap (λ (g : Held). g.levels) s.holds in
         record {
-          within = h;
+          counted = s.counted;
           short = omega (arith, s.short);
           bits = bits_more;
           holds = rw (picked_more, lashes, lengths, stiffnesses, sums, n, ex, ey) (λ i. record {
@@ -244,8 +238,8 @@ module _ {c : ℕ} {ls : List Lash} (few : length ls ≤ 8) (each : (k : ℕ) �
         }
 
 pub gathered_all :
-    {c : ℕ} {ls : List Lash} {j rest count : ℕ} {held : List Lash} {long stiff levels : List ℕ} →
-    length ls ≤ j →
-    GatheredTo c ls j rest count held long stiff levels →
+    {c m : ℕ} {ls : List Lash} {j rest count : ℕ} {held : List Lash} {long stiff levels : List ℕ} →
+    m ≤ j →
+    GatheredTo c m ls j rest count held long stiff levels →
     record { lashes = held; lengths = long; stiffnesses = stiff; levels = levels; count = count } ≡ held_of (chosen c ls)
-gathered_all {c} {ls} {j} h s = s.holds ∙ ap (λ (l : List Lash). held_of (chosen c l)) (take_all j ls h)
+gathered_all {c} {ls = ls} {j} h s = s.holds ∙ ap (λ (l : List Lash). held_of (chosen c l)) (take_all j ls (omega arith))

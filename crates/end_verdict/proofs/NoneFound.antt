@@ -1,5 +1,5 @@
 -- No size exceeds its limit where there is no byte of a finding.
-use Prim.Native.Nat.{ℕ, zero, suc, ◌+◌, ◌-◌, ◌≤◌}
+use Prim.Native.Nat.{ℕ, zero, suc, ◌+◌, ◌-◌}
 use mathlib.Core.Bool.{Bool, true, false, cond, not, ◌&&◌}
 use mathlib.Core.List.{List, [], ◌∷◌, ◌++◌, flat_map}
 use mathlib.Core.Path.{◌≡◌, refl, sym, ap, ap₂, ◌∙◌}
@@ -66,16 +66,11 @@ module _ (n : ℕ) (pull : PullLimit) (ls : List Lash) (m : ℕ) (f : EndFigures
       ((((racking && compression) && tension) && tensions) && vertical) && athwart ≡ none_found n pull ls m f
   kinds_kept p q r s t u = cc
 
--- one more, and all
+-- one more
 module _ (size limit : ℕ → ℕ) (first k : ℕ) {kept : Bool} (e : kept ≡ none_over size limit first k) where
   pub kept_more : {over : Bool} → over ≡ ltb (limit (first + k)) (size (first + k)) → kept && not over ≡ none_over size limit first (k + 1)
   unfolding none_over
   kept_more o = rw (add-one k) (ap₂ (λ x y. x && not y) e o)
-
-  pub kept_all : (n : ℕ) → k ≤ n → n ≤ k → kept ≡ none_over size limit first n
-  kept_all n h g =
-      let same : k ≡ n = omega arith in
-      e ∙ ap (none_over size limit first) same
 
 pub kept_none : (size limit : ℕ → ℕ) (first : ℕ) → true ≡ none_over size limit first 0
 unfolding none_over
@@ -87,9 +82,10 @@ zero_first k size limit = ap (λ (i : ℕ). ltb (limit i) (size i)) (sym (zero-a
 
 -- a section that goes on to the end of its array
 pub rest_kept :
-    (from : ℕ) (l : List ℕ) (limit : ℕ → ℕ) (first n : ℕ) {kept : Bool} →
-    kept ≡ none_over (λ i. get_or (take (length l - from) (drop from l)) i 0) limit first n →
+    (from rest : ℕ) (l : List ℕ) (limit : ℕ → ℕ) (first n : ℕ) {kept : Bool} →
+    length l ≡ from + rest →
+    kept ≡ none_over (λ i. get_or (take rest (drop from l)) i 0) limit first n →
     kept ≡ none_over (λ i. get_or (drop from l) i 0) limit first n
-rest_kept from l limit first n e =
-    let whole = take_all (length l - from) (drop from l) (omega (arith, length-drop from l)) in
+rest_kept from rest l limit first n long e =
+    let whole = take_all rest (drop from l) (omega (arith, length-drop from l, long)) in
     e ∙ ap (λ (xs : List ℕ). none_over (λ i. get_or xs i 0) limit first n) whole

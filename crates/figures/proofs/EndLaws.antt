@@ -15,19 +15,20 @@ use Rattle.sheet.specs.declared.Tier.{Tier}
 use Rattle.sheet.specs.declared.Lash.{Lash}
 use Rattle.sheet.specs.declared.Sheet.{Sheet}
 use Rattle.statics.specs.declared.EndFigures.{EndFigures}
+use Rattle.statics.specs.declared.Figures.{Figures}
 use Rattle.sheet.specs.Inner.Limits.{LashLimits, SheetLimits}
 use Rattle.statics.specs.declared.LoadRule.{LoadRule}
 use Rattle.statics.specs.Ends.{spring_of}
 use Rattle.statics.specs.Forces as F
 use Rattle.statics.specs.Loads.{Rule, StandsFor}
 use Rattle.statics.specs.Reported.{Fitting}
-use Rattle.sheet.specs.Ends.{End, tiers_of, lashes_of}
+use Rattle.sheet.specs.Ends.{End, door, closed, tiers_of, lashes_of}
 use Rattle.statics.specs.Inner.WholeNumbers.{Filled, level_stiffness, lee_part, windward_part, racking_part, racking_figure}
 use Rattle.statics.specs.Inner.WholeNumbers.{moment_part, compression_figure, tension_figure, pull_figure, athwart_figure, vertical_figure}
-use Rattle.statics.specs.Inner.Computed.{springs_of, stiffnesses_of, loads_of, figures_at}
+use Rattle.statics.specs.Inner.Computed.{springs_of, stiffnesses_of, loads_of, figures_at, end_figures_by, figures_by}
 use Rattle.figures_tiers.specs.Inner.Loads.{Loaded, TiersMeasured}
 use Rattle.figures.specs.Inner.Ends.{Workable, end_figures}
-use Rattle.figures_levels.specs.Inner.Levels.{moment_by, LevelInputs, LevelsFigured}
+use Rattle.figures_levels.specs.Inner.Levels.{moment_by, LevelsFigured}
 use Rattle.figures_lashes.specs.Inner.Lashes.{LevelStiffnesses, LashesFigured, VerticalsOn}
 use Rattle.arith.specs.Lists.{below}
 use Rattle.arith.proofs.Arrays.{length_entries}
@@ -96,26 +97,6 @@ module _ {n : ℕ} {k heights : List ℕ} {m : ℕ} {ls : List Lash} {ω weights
         springs = h.springs;
         held = λ i q. rw (s i) (omega (arith, level_most n ls (record { at = h.each }) (suc i), h.each_level (suc i)));
         loaded = h.loaded;
-      }
-
-  pub end_measured :
-      {d lee windward : List ℕ} →
-      ((i : ℕ) → get_or d i 0 ≤ 2 ^ 40) →
-      VerticalsOn lee_part ls d lee →
-      VerticalsOn windward_part ls d windward →
-      LevelInputs n k heights d weights lee windward
-  end_measured far u v =
-      record {
-        few = h.few;
-        springs = λ i q. (h.springs i q).1;
-        heights = h.heights;
-        shifts = far;
-        vmax_light = h.vmax_light;
-        vmin_light = h.vmin_light;
-        lee_small = u.small;
-        windward_small = v.small;
-        lee_long = u.long;
-        windward_long = v.long;
       }
 
   -- the figures put together are those of the definition
@@ -234,5 +215,8 @@ module _ {t : Sheet} (f : SheetLimits t) (e : End) where
       spring_at_lem : (i : ℕ) → i < t.ntiers → get_or (springs_of e (tiers_of t)) i 0 ≡ spring_of e (tier i)
       spring_at_lem i h = entry_at (λ i. spring_of e (tier i)) 0 10 i (omega (arith, f.few))
 
-pub springs_long : (e : End) (ts : List Tier) → length (springs_of e ts) ≡ 10
-springs_long e ts = length_entries (λ i. spring_of e (get_or ts i blank_tier)) 0 10
+-- the figures of a sheet, end by end, are its figures
+module _ (c : LoadRule) (t : Sheet) {d e : EndFigures} (p : d ≡ end_figures_by c door t) (q : e ≡ end_figures_by c closed t) where
+  pub both_ends : ◌≡◌ {A = Figures} (record { door = d; closed = e }) (figures_by c t)
+  unfolding figures_by
+  both_ends = λ i. record { door = p i; closed = q i }

@@ -6,7 +6,7 @@ use mathlib.Core.Path.{◌≡◌, refl, sym, ◌∙◌}
 use native.Mathlib.Omega.{arith}
 use borrow.Author.Tests.{eq-eqb, ne_eqb}
 use lib.Dec.{eqb}
-use lib.ListN.{length, get_or, set, take, drop, replicate, length-set}
+use lib.ListN.{length, get_or, set, take, drop, length-set}
 use lib.Seq.{drop-cons, length-take-le, take-set-le, take-set-lt, drop-set-lt, drop-set-add}
 use Rattle.arith.specs.Inner.Rounding.{rounded_up}
 use Rattle.sheet.specs.Layout.{◌is◌, blank_lash}
@@ -19,12 +19,12 @@ use Rattle.statics.specs.Lashes.{lash_length}
 use Rattle.statics.specs.Inner.WholeNumbers.{figure_along, lash_pad, stiffness_of, part, upward}
 use Rattle.statics.specs.Inner.WholeNumbers.{pull_figure, athwart_figure, vertical_figure, lee_part, windward_part}
 use Rattle.lash_forces.specs.Inner.OneLash.{carried_lash, vertical_from, corner_of}
-use Rattle.figures_lashes.specs.Inner.Lashes.{LashesMeasured, LevelStiffnesses, LashesFigured, VerticalsOn}
-use Rattle.statics.proofs.Arrays.{Between, between_none, fill_above, filled}
+use Rattle.figures_lashes.specs.Inner.Lashes.{LevelStiffnesses, VerticalsOn}
+use Rattle.statics.proofs.Arrays.{Between, fill_above}
 use Rattle.statics.proofs.LashStiffness.{stiffness_most}
 use Rattle.lash_forces.proofs.LashLaws.{upward_le}
 use Rattle.figures_lashes.proofs.Tallies.{tally, tally_stiffness, tally_upwards, tally_le}
-use Rattle.figures_lashes.proofs.Tallies.{Tallied, Only, tallied_none, tallied_all, tallied_le, tallied_more}
+use Rattle.figures_lashes.proofs.Tallies.{Tallied, Only, tallied_all, tallied_le, tallied_more}
 
 -- the lashes of an end
 pub record Listed (m : ℕ) (ls : List Lash) : Type 0 where
@@ -58,20 +58,10 @@ only_at {l} {at} e =
     record { here = eq-eqb at (corner_of l) e; others = λ i ne. ne_eqb i (corner_of l) (λ q. ne (omega arith)) }
 
 -- the first loop
-pub record MeasuredTo (m : ℕ) (ls : List Lash) (lengths stiffnesses levels : List ℕ) (j : ℕ) : Type 0 where
-  pub within : j ≤ m
+pub record MeasuredTo (ls : List Lash) (lengths stiffnesses levels : List ℕ) (j : ℕ) : Type 0 where
   pub long : Between 0 (λ k x. x ≡ lash_length (get_or ls k blank_lash)) 8 0 j lengths
   pub stiff : Between 0 (λ k x. x ≡ stiffness_of (get_or ls k blank_lash)) 8 0 j stiffnesses
   pub levels_are : Tallied over stiffness_of ls 10 j levels
-
-pub measured_none : {m : ℕ} {ls : List Lash} → MeasuredTo m ls (replicate 8 0) (replicate 8 0) (replicate 10 0) 0
-measured_none =
-    record {
-      within = omega arith;
-      long = between_none 0 _ 8 0;
-      stiff = between_none 0 _ 8 0;
-      levels_are = tallied_none 10;
-    }
 
 module _ {m : ℕ} {ls : List Lash} (g : Listed m ls) where
   first : {j : ℕ} {l : Lash} → j < m → get_or ls j blank_lash ≡ l → drop j ls ≡ l ∷ drop (suc j) ls
@@ -80,7 +70,7 @@ module _ {m : ℕ} {ls : List Lash} (g : Listed m ls) where
   each_stiff : (k : ℕ) → k < length ls → stiffness_of (get_or ls k blank_lash) ≤ 155000 * 2 ^ 22
   each_stiff k q = stiffness_most (get_or ls k blank_lash) (g.each k (omega (arith, g.counted)))
 
-  module _ {lengths stiffnesses levels : List ℕ} {j : ℕ} (s : MeasuredTo m ls lengths stiffnesses levels j) (h : j < m)
+  module _ {lengths stiffnesses levels : List ℕ} {j : ℕ} (s : MeasuredTo ls lengths stiffnesses levels j) (h : j < m)
       {l : Lash} (own : get_or ls j blank_lash ≡ l) {stiff at : ℕ} (es : stiff ≡ stiffness_of l) (ea : suc at ≡ level_of l) where
     pub level_fits : get_or levels at 0 + stiff < 2 ^ 64
     level_fits =
@@ -96,32 +86,24 @@ module _ {m : ℕ} {ls : List Lash} (g : Listed m ls) where
         {long : ℕ} →
         long ≡ lash_length l →
         at < 10 →
-        MeasuredTo m ls (set lengths j long) (set stiffnesses j stiff) (set levels at (get_or levels at 0 + stiff)) (suc j)
+        MeasuredTo ls (set lengths j long) (set stiffnesses j stiff) (set levels at (get_or levels at 0 + stiff)) (suc j)
     measured_more {long} el low =
         record {
-          within = h;
           long = fill_above 0 _ 8 0 j lengths long (omega (arith, g.few)) (rw own el) s.long;
           stiff = fill_above 0 _ 8 0 j stiffnesses stiff (omega (arith, g.few)) (rw own es) s.stiff;
           levels_are = rw es (tallied_more s.levels_are (first h own) (only_over ea) low);
         }
 
-  pub measured_all :
-      {lengths stiffnesses levels : List ℕ} {j : ℕ} →
-      m ≤ j →
-      MeasuredTo m ls lengths stiffnesses levels j →
-      LashesMeasured m ls lengths stiffnesses × LevelStiffnesses ls levels
-  measured_all {j = j} h s =
-      let e : j ≡ m = omega (arith, s.within) in (
-        record { long = filled (rw e at s.long); stiff = filled (rw e at s.stiff) },
-        λ i. tallied_all s.levels_are (omega (arith, g.counted)) i ∙ sym (tally_stiffness (suc i) ls),
-      )
+  pub levels_all :
+      {levels : List ℕ} {j : ℕ} → j ≡ m → Tallied over stiffness_of ls 10 j levels → LevelStiffnesses ls levels
+  levels_all e t i = tallied_all t (omega (arith, g.counted)) i ∙ sym (tally_stiffness (suc i) ls)
 
 -- a post takes no more than the whole vertical part
-lee_kept : (g : Lashing) (x : ℕ) → lee_part g x ≤ x
+pub lee_kept : (g : Lashing) (x : ℕ) → lee_part g x ≤ x
 lee_kept (Cross l) x = omega arith
 lee_kept (Side l) x = omega arith
 
-windward_kept : (g : Lashing) (x : ℕ) → windward_part g x ≤ x
+pub windward_kept : (g : Lashing) (x : ℕ) → windward_part g x ≤ x
 windward_kept (Cross l) x = omega arith
 windward_kept (Side l) x = omega arith
 
@@ -170,28 +152,13 @@ module _ (forces : List ℕ) {j : ℕ} (h : j < 8) (p a v : ℕ) where
       ) refl
 
 -- the second loop
-pub record FiguredTo (m : ℕ) (ls : List Lash) (d lee windward forces : List ℕ) (j : ℕ) : Type 0 where
-  pub within : j ≤ m
+pub record FiguredTo (ls : List Lash) (d lee windward forces : List ℕ) (j : ℕ) : Type 0 where
   pub tensions : Between 0 (λ k x. x ≡ pull_figure d (get_or ls k blank_lash)) 8 0 j (take 8 forces)
   pub athwart_parts : Between 0 (λ k x. x ≡ athwart_figure d (get_or ls k blank_lash)) 8 0 j (take 8 (drop 8 forces))
   pub vertical_parts : Between 0 (λ k x. x ≡ vertical_figure d (get_or ls k blank_lash)) 8 0 j (drop 16 forces)
   pub forces_long : length forces ≡ 24
   pub lees : Tallied at_corner (on lee_part d) ls 22 j lee
   pub windwards : Tallied at_corner (on windward_part d) ls 22 j windward
-
-pub figured_none :
-    {m : ℕ} {ls : List Lash} {d : List ℕ} →
-    FiguredTo m ls d (replicate 22 0) (replicate 22 0) (replicate 24 0) 0
-figured_none =
-    record {
-      within = omega arith;
-      tensions = between_none 0 _ 8 0;
-      athwart_parts = between_none 0 _ 8 0;
-      vertical_parts = between_none 0 _ 8 0;
-      forces_long = refl;
-      lees = tallied_none 22;
-      windwards = tallied_none 22;
-    }
 
 upward_small : (d : List ℕ) (l : Lash) → LashLimits 10 l → upward d l ≤ 2 ^ 54
 unfolding upward
@@ -201,7 +168,7 @@ carried_by : (cross : Bool) (l : Lash) → carried_lash (cond cross (Cross l) (S
 carried_by true l = refl
 carried_by false l = refl
 
-pub carried : (l : Lash) → carried_lash (lashing_of l) ≡ l
+carried : (l : Lash) → carried_lash (lashing_of l) ≡ l
 carried l = carried_by (l.kind is 0) l
 
 -- the vertical part that the code puts on a post
@@ -231,7 +198,7 @@ post_le {ls = ls} d g post kept i =
 
 module _ {m : ℕ} {ls : List Lash} {d : List ℕ} (g : Listed m ls) where
   module _ {lee windward forces : List ℕ} {j : ℕ}
-      (s : FiguredTo m ls d lee windward forces j) (h : j < m) {l : Lash} (own : get_or ls j blank_lash ≡ l)
+      (s : FiguredTo ls d lee windward forces j) (h : j < m) {l : Lash} (own : get_or ls j blank_lash ≡ l)
       {at corner x : ℕ}
       (ea : at ≡ level_of l)
       (ec : corner ≡ corner_of l)
@@ -271,7 +238,6 @@ module _ {m : ℕ} {ls : List Lash} {d : List ℕ} (g : Listed m ls) where
         a ≡ rounded_up (x + lash_pad) (2 ^ 18) →
         v ≡ figure_along (x + lash_pad) l.lz l.ly →
         FiguredTo
-        m
         ls
         d
         (set lee corner (get_or lee corner 0 + lee_part (lashing_of l) up))
@@ -281,7 +247,6 @@ module _ {m : ℕ} {ls : List Lash} {d : List ℕ} (g : Listed m ls) where
     unfolding pull_figure athwart_figure vertical_figure part
     figured_more {p} {a} {v} low ep eq ev =
         record {
-          within = h;
           tensions =
               rw (pulls_set forces room p a v) (fill_above 0 _ 8 0 j (pulls forces) p room (rw (own, ← ea, ← ex) ep) s.tensions);
           athwart_parts =
@@ -298,35 +263,17 @@ module _ {m : ℕ} {ls : List Lash} {d : List ℕ} (g : Listed m ls) where
         room : j < 8
         room = omega (arith, g.few)
 
-  verticals_on :
-      (post : Lashing → ℕ → ℕ) →
+  pub verticals_on :
+      {post : Lashing → ℕ → ℕ} →
       ((g : Lashing) (x : ℕ) → post g x ≤ x) →
       {r : List ℕ} {j : ℕ} →
-      m ≤ j →
+      j ≡ m →
       Tallied at_corner (on post d) ls 22 j r →
       VerticalsOn post ls d r
-  verticals_on post kept h t =
+  verticals_on {post} kept e t =
       let x = tallied_all t (omega (arith, g.counted)) in
       record {
         each = λ i. x i ∙ sym (tally_upwards post (at_corner i) d ls);
         small = λ i. omega (arith, x i, post_le d g post kept i);
         long = t.long;
       }
-
-  pub figured_all :
-      {lee windward forces : List ℕ} {j : ℕ} →
-      m ≤ j →
-      FiguredTo m ls d lee windward forces j →
-      LashesFigured m ls d (take 8 forces) (take 8 (drop 8 forces)) (drop 16 forces)
-      × VerticalsOn lee_part ls d lee
-      × VerticalsOn windward_part ls d windward
-  figured_all {j = j} h s =
-      let e : j ≡ m = omega (arith, s.within) in (
-        record {
-          lash_tension_is = filled (rw e at s.tensions);
-          athwart_is = filled (rw e at s.athwart_parts);
-          vertical_is = filled (rw e at s.vertical_parts);
-        },
-        verticals_on lee_part lee_kept h s.lees,
-        verticals_on windward_part windward_kept h s.windwards,
-      )

@@ -6,14 +6,13 @@ use mathlib.Core.Path.{◌≡◌, refl, ap, ◌∙◌}
 use native.Mathlib.Decide.{ℕ_discrete}
 use native.Mathlib.Omega.{arith}
 use lib.Dec.{eqb}
-use lib.ListN.{length, get_or, set, drop, replicate, length-set, length-replicate, drop_of_length-le}
+use lib.ListN.{length, get_or, set, drop, length-set, drop_of_length-le}
 use lib.Seq.{get_or-set_same, get_or-set_other}
 use Rattle.sheet.specs.Layout.{blank_lash}
 use Rattle.sheet.specs.declared.Lash.{Lash}
 use Rattle.sheet.specs.Lashings.{lashing_of, level_of}
 use Rattle.sheet.specs.declared.Lashing.{Lashing}
 use Rattle.statics.specs.Inner.WholeNumbers.{stiffness_of, level_stiffness, upward, upwards}
-use Rattle.statics.proofs.Arrays.{blank_entry}
 
 unfoldable pub tally : (Lash → Bool) → (Lash → ℕ) → List Lash → ℕ
 tally test v [] = 0
@@ -54,10 +53,6 @@ pub record Tallied (test : ℕ → Lash → Bool) (v : Lash → ℕ) (ls : List 
 pub record Only (test : ℕ → Lash → Bool) (at : ℕ) (l : Lash) : Type 0 where
   pub here : test at l ≡ true
   pub others : (i : ℕ) → (i ≡ at → ⊥) → test i l ≡ false
-
-pub tallied_none : {test : ℕ → Lash → Bool} {v : Lash → ℕ} {ls : List Lash} (size : ℕ) → Tallied test v ls size 0 (replicate size 0)
-tallied_none size =
-    record { long = length-replicate size 0; sums = λ i. omega (arith, blank_entry {A = ℕ} 0 size i) }
 
 module _ {test : ℕ → Lash → Bool} {v : Lash → ℕ} {ls : List Lash} {size j : ℕ} {r : List ℕ} (t : Tallied test v ls size j r) where
   pub tallied_all : length ls ≤ j → (i : ℕ) → get_or r i 0 ≡ tally (test i) v ls

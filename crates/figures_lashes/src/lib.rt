@@ -11,30 +11,24 @@ ghost use Rattle.figures_lashes.specs.Inner.Lashes.{LashesMeasured, LevelStiffne
 use lash_forces::{athwart_part, forces_of, hook_corner, hook_level, on_posts, stiffness_of};
 use lash_length::search;
 use sheet::{Lash, lashing_of};
+use statics::LashMeasures;
 
 // Lengths and stiffnesses of an end's lashes, and the sums of the stiffnesses by level.
-pub fn lash_stiffnesses(
-    lashes: [Lash; 8],
-    m: usize,
-    lengths: &mut [u64],
-    stiffnesses: &mut [u64],
-    levels: &mut [u64],
-)
+pub fn lash_stiffnesses(lashes: [Lash; 8], m: usize, measures: &mut LashMeasures)
     requires m_bound { (m ≤ 8) × ((j : ℕ) → j < m → LashLimits 10 (get_or (take m lashes) j blank_lash)) }
-    requires lengths_value { (lengths.old ≡ replicate 8 0) × (stiffnesses.old ≡ replicate 8 0) × (levels.old ≡ replicate 10 0) }
-    ensures lashes_measured { LashesMeasured m (take m lashes) lengths.new stiffnesses.new }
-    ensures level_stiffnesses { LevelStiffnesses (take m lashes) levels.new }
+    requires zeros { (measures.old.lengths ≡ replicate 8 0) × (measures.old.stiffnesses ≡ replicate 8 0)
+        × (measures.old.levels ≡ replicate 10 0) }
+    ensures lashes_measured { LashesMeasured m (take m lashes) measures.new.lengths measures.new.stiffnesses }
+    ensures level_stiffnesses { LevelStiffnesses (take m lashes) measures.new.levels }
 {
-    let mut j = 0;
-    while j < m {
+    for j in 0..m {
         let l = lashes[j];
         let long = search(l).length;
         let stiff = stiffness_of(l, long);
         let at = hook_level(l) - 1;
-        lengths[j] = long;
-        stiffnesses[j] = stiff;
-        levels[at] = levels[at] + stiff;
-        j += 1;
+        measures.lengths[j] = long;
+        measures.stiffnesses[j] = stiff;
+        measures.levels[at] += stiff;
     }
 }
 
@@ -59,8 +53,7 @@ pub fn lash_figures(
     ensures verticals_on { VerticalsOn lee_part (take m lashes) d.now lee.new }
     ensures verticals_on_2 { VerticalsOn windward_part (take m lashes) d.now windward.new }
 {
-    let mut j = 0;
-    while j < m {
+    for j in 0..m {
         let l = lashes[j];
         let at = hook_level(l);
         let corner = hook_corner(l);
@@ -72,6 +65,5 @@ pub fn lash_figures(
         forces[16 + j] = f.vertical;
         lee[corner] = lee[corner] + u.lee;
         windward[corner] = windward[corner] + u.windward;
-        j += 1;
     }
 }

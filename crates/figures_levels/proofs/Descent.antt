@@ -1,21 +1,20 @@
 -- The loop from the top level down: what it has found when it stands at level i, and one turn of it.
 use Prim.Native.Nat.{ℕ, suc, ◌+◌, ◌*◌, ◌-◌, ◌^◌, ◌<◌, ◌≤◌}
-use mathlib.Core.Path.{◌≡◌, refl, sym, ap, ◌∙◌, subst}
+use mathlib.Core.Path.{◌≡◌, refl, sym, ◌∙◌}
 use mathlib.Core.List.{List}
 use native.Mathlib.Omega.{arith}
-use lib.IntN.{ℤ, pos, ◌+ℤ◌, ◌-ℤ◌, ◌*ℤ◌}
+use lib.IntN.{ℤ, pos, ◌+ℤ◌, ◌*ℤ◌}
 use lib.ListN.{length, get_or, set, take, drop, replicate, length-set}
 use lib.Seq.{take-set-lt, drop-set-lt}
-use lib.Signed.{shr_z}
 use Rattle.arith.specs.Inner.Sizes.{Small}
 use Rattle.arith.proofs.Sizes.{small_weaken, small_add, small_pos}
 use Rattle.springs.specs.Equations.{closed_spring}
 use Rattle.statics.specs.Inner.WholeNumbers.{racking_part, racking_figure, compression_from, tension_from}
 use Rattle.statics.specs.Inner.InArrays.{most_in, least_in}
 use Rattle.figures_posts.specs.Inner.Posts.{word}
-use Rattle.figures_levels.specs.Inner.Levels.{total, moment_by, LevelInputs, compression_at, tension_at, LevelsFigured}
+use Rattle.figures_levels.specs.Inner.Levels.{total, moment_by, LevelInputs, compression_at, tension_at}
 use Rattle.statics.proofs.Sections.{first_set, second_set}
-use Rattle.statics.proofs.Arrays.{Between, between_none, fill_below, fill_above, filled, peel, peeled_off}
+use Rattle.statics.proofs.Arrays.{Between, between_none, fill_below, fill_above, peel, peeled_off}
 use Rattle.figures_posts.proofs.LevelLaws.{tier_moment_small, racking_small}
 
 -- sums over the corners from i on, of m
@@ -63,7 +62,6 @@ from_corner n v c = total (drop c (take (suc (2 * n)) v))
 pub record FiguredFrom
     (n : ℕ) (k hs d weights lee windward : List ℕ)
     (racking : List ℤ) (levels : List ℕ) (moment : ℤ) (lees windwards i : ℕ) : Type 0 where
-  pub within : i ≤ n
   pub racked : Between (pos 0) (λ j x. x ≡ racking_figure (racking_part (get_or k j 0) d j)) 10 i n racking
   pub pressed : Between 0 (λ j x. x ≡ compression_at n k hs d weights lee windward j) 11 i (suc n) (take 11 levels)
   pub tensed : Between 0 (λ j x. x ≡ tension_at n k hs d weights lee windward j) 10 i n (drop 11 levels)
@@ -100,7 +98,6 @@ module _ {n : ℕ} {k hs d weights lee windward : List ℕ}
       let top_lee = total_top lee (2 * n) (omega (arith, m.few, m.lee_long)) in
       let top_windward = total_top windward (2 * n) (omega (arith, m.few, m.windward_long)) in
       record {
-        within = omega arith;
         racked = between_none _ _ 10 n;
         pressed =
             rw (take-set-lt 11 (replicate 21 0) n v low)
@@ -140,9 +137,11 @@ module _ {n : ℕ} {k hs d weights lee windward : List ℕ}
   module _ {racking : List ℤ} {levels : List ℕ} {moment : ℤ} {lees windwards : ℕ} where
     -- to the level under tier j, with the values that the code has there: bl and bw are the parts of the bottom hooks at the level, on the
     -- lee post and on the windward one, tl and tw those of the top hooks
-    to_under :
-        {j : ℕ} {p : ℤ} {h : ℕ} {r : ℤ} {bl bw tl tw compression tension : ℕ} {moment' : ℤ} {lees' windwards' : ℕ} →
-        FiguredFrom n k hs d weights lee windward racking levels moment lees windwards (suc j) →
+    pub to_under :
+        {i j : ℕ} {p : ℤ} {h : ℕ} {r : ℤ} {bl bw tl tw compression tension : ℕ} {moment' : ℤ} {lees' windwards' : ℕ} →
+        i ≡ suc j →
+        j < n →
+        FiguredFrom n k hs d weights lee windward racking levels moment lees windwards i →
         p ≡ racking_part (get_or k j 0) d j →
         h ≡ get_or hs j 0 →
         r ≡ racking_figure p →
@@ -169,90 +168,43 @@ module _ {n : ℕ} {k hs d weights lee windward : List ℕ}
         lees'
         windwards'
         j
-    to_under {j} {p} {h} {r} {bl} {bw} {tl} {tw} {compression} {tension} s ep eh er ebl ebw etl etw em el ew ec et =
+    to_under {i} {j} {p} {h} {r} {bl} {bw} {tl} {tw} {compression} {tension} ei w stood ep eh er ebl ebw etl etw em el ew ec et =
         record {
-          within = omega (arith, s.within);
-          racked = fill_below _ _ 10 j n racking r s.within (omega (arith, m.few, s.within)) (rw ep at er) s.racked;
+          racked = fill_below _ _ 10 j n racking r w (omega (arith, m.few, w)) (rw ep at er) s.racked;
           pressed =
               rw (first_set 11 levels low compression tension)
-              (fill_below _ _ 11 j (suc n) (take 11 levels) compression (omega (arith, s.within)) low
+              (fill_below _ _ 11 j (suc n) (take 11 levels) compression (omega (arith, w)) low
               (rw (← moment_under, ← lee_under.1, ← windward_under.1) ec) s.pressed);
           tensed =
               rw (second_set 11 levels low compression tension)
-              (fill_below _ _ 10 j n (drop 11 levels) tension s.within (omega (arith, m.few, s.within))
+              (fill_below _ _ 10 j n (drop 11 levels) tension w (omega (arith, m.few, w))
               (rw (← moment_under, ← lee_under.0, ← windward_under.0) et) s.tensed);
           levels_long = simp length-set s.levels_long;
           moment_is = em ∙ moment_under;
           lees_are = el ∙ lee_under.1;
           windwards_are = ew ∙ windward_under.1;
           moment_small = rw em small;
-          lees_small = omega (arith, s.within, s.lees_small, m.lee_small (2 * j + 1), m.lee_small (2 * j));
-          windwards_small = omega (arith, s.within, s.windwards_small, m.windward_small (2 * j + 1), m.windward_small (2 * j));
+          lees_small = omega (arith, w, s.lees_small, m.lee_small (2 * j + 1), m.lee_small (2 * j));
+          windwards_small = omega (arith, w, s.windwards_small, m.windward_small (2 * j + 1), m.windward_small (2 * j));
         }
       where
+        s : FiguredFrom n k hs d weights lee windward racking levels moment lees windwards (suc j)
+        s = rw ei at stood
+
         low : j < 11
-        low = omega (arith, m.few, s.within)
+        low = omega (arith, m.few, w)
 
         moment_under : pos h *ℤ p +ℤ moment ≡ moment_by k d (drop j (take n hs)) j
         moment_under =
-            rw (ep, eh, s.moment_is) (sym (moment_peel k d hs n j s.within stacked))
+            rw (ep, eh, s.moment_is) (sym (moment_peel k d hs n j w stacked))
 
         lee_under : Both lee lees bl tl j
-        lee_under = both lee s.within (omega (arith, m.few, m.lee_long)) s.lees_are ebl etl
+        lee_under = both lee w (omega (arith, m.few, m.lee_long)) s.lees_are ebl etl
 
         windward_under : Both windward windwards bw tw j
-        windward_under = both windward s.within (omega (arith, m.few, m.windward_long)) s.windwards_are ebw etw
+        windward_under = both windward w (omega (arith, m.few, m.windward_long)) s.windwards_are ebw etw
 
         small : Small ((n - j) * most_turn) (pos h *ℤ p +ℤ moment)
         small =
-            let own = tier_moment_small (m.heights j s.within) (part_small k d j (m.springs j s.within) m.shifts) in
-            rw (ep, eh) (small_weaken (small_add own s.moment_small) (omega (arith, s.within)))
-
-    -- the same at the code's own index
-    pub turned_once :
-        {i : ℕ} {p : ℤ} {h : ℕ} {r : ℤ} {bl bw tl tw compression tension : ℕ} {moment' : ℤ} {lees' windwards' : ℕ} →
-        0 < i →
-        FiguredFrom n k hs d weights lee windward racking levels moment lees windwards i →
-        p ≡ shr_z (pos (get_or k (i - 1) 0 * get_or d i 0) -ℤ pos (get_or k (i - 1) 0 * get_or d (i - 1) 0)) 1024 →
-        h ≡ get_or hs (i - 1) 0 →
-        r ≡ racking_figure p →
-        bl ≡ get_or lee (2 * (i - 1) + 1) 0 →
-        bw ≡ get_or windward (2 * (i - 1) + 1) 0 →
-        tl ≡ get_or lee (2 * (i - 1)) 0 →
-        tw ≡ get_or windward (2 * (i - 1)) 0 →
-        moment' ≡ pos h *ℤ p +ℤ moment →
-        lees' ≡ lees + bl + tl →
-        windwards' ≡ windwards + bw + tw →
-        compression
-        ≡ word (compression_from (get_or (most_in weights) (i - 1) 0) (pos h *ℤ p +ℤ moment) (lees + bl + tl) (windwards + bw + tw)) →
-        tension ≡ word (tension_from (get_or (least_in weights) (i - 1) 0) (pos h *ℤ p +ℤ moment) (lees + bl) (windwards + bw)) →
-        FiguredFrom
-        n
-        k
-        hs
-        d
-        weights
-        lee
-        windward
-        (set racking (i - 1) r)
-        (set (set levels (i - 1) compression) (11 + (i - 1)) tension)
-        moment'
-        lees'
-        windwards'
-        (i - 1)
-    unfolding racking_part
-    turned_once {i} up s ep =
-        let e : i ≡ suc (i - 1) = omega arith in
-        to_under
-        (subst (λ (z : ℕ). FiguredFrom n k hs d weights lee windward racking levels moment lees windwards z) e s)
-        (ep ∙ ap (λ (z : ℕ). shr_z (pos (get_or k (i - 1) 0 * get_or d z 0) -ℤ pos (get_or k (i - 1) 0 * get_or d (i - 1) 0)) 1024) e)
-
-    pub at_foot :
-        {i : ℕ} →
-        i ≤ 0 →
-        FiguredFrom n k hs d weights lee windward racking levels moment lees windwards i →
-        LevelsFigured n k hs d weights lee windward racking (take 11 levels) (drop 11 levels)
-    at_foot {i} h s =
-        let e : i ≡ 0 = omega arith in
-        let f = subst (λ (z : ℕ). FiguredFrom n k hs d weights lee windward racking levels moment lees windwards z) e s in
-        record { racking_is = filled f.racked; compression_is = filled f.pressed; tension_is = filled f.tensed }
+            let own = tier_moment_small (m.heights j w) (part_small k d j (m.springs j w) m.shifts) in
+            rw (ep, eh) (small_weaken (small_add own s.moment_small) (omega (arith, w)))

@@ -46,11 +46,8 @@ pub fn level_figures(
         moment: 0,
         parts: highest,
     };
-    let mut i = n;
-    while 0 < i {
-        let upper = d[i];
-        i -= 1;
-        let part = racking_part(k[i], upper, d[i]);
+    for i in (0..n).rev() {
+        let part = racking_part(k[i], d[i + 1], d[i]);
         let bottom = parts_at(lee, windward, 2 * i + 1);
         let top = parts_at(lee, windward, 2 * i);
         let l = level_under(

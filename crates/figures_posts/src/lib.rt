@@ -66,28 +66,19 @@ pub fn racking_figure(part: i64) -> i32
 fn not_below(sum: i64) -> u64
     ensures { result ≡ not_below sum }
 {
-    if sum < 0 {
-        return 0;
-    }
-    sum as u64
+    sum.max(0) as u64
 }
 
 fn greater(x: i64, y: i64) -> i64
     ensures { result ≡ greater_of x y }
 {
-    if x < y {
-        return y;
-    }
-    x
+    x.max(y)
 }
 
 fn lesser(x: i64, y: i64) -> i64
     ensures { result ≡ lesser_of x y }
 {
-    if y < x {
-        return y;
-    }
-    x
+    x.min(y)
 }
 
 // The compression of the post that is pressed more, padded, in N upwards: x and y are the sums of the two posts but for the weight, and

@@ -2,7 +2,6 @@
 use Prim.Native.Nat.{ℕ, suc, ◌+◌, ◌*◌, ◌-◌, ◌/◌, ◌^◌, ◌<◌, ◌≤◌}
 use mathlib.Core.Path.{◌≡◌, refl, sym, ap, subst, ◌∙◌}
 use mathlib.Core.List.{List, ◌∷◌, map}
-use native.Mathlib.Nat.{mul-le-mul, mul-le-mul_left}
 use native.Mathlib.Decide.{dec_lt}
 use native.Mathlib.Omega.{arith}
 use lib.ListN.{length, length-set, get_or, set, take, drop, replicate, get_or-eq_default, drop_of_length-le}
@@ -13,17 +12,6 @@ use Rattle.statics.specs.Inner.WholeNumbers.{transverse_units, wind_units, level
 use Rattle.statics.specs.declared.LoadRule.{LoadRule}
 use Rattle.statics.specs.Inner.Computed.{loads_of}
 use Rattle.statics.proofs.Arrays.{filled_padded, Between, between_none, fill_below, peel, peeled_off}
-
--- a share of one tier's transverse_units and the rest of the other's
-module _ {share factor p q : ℕ} (hs : share ≤ 20) (hf : factor ≤ 1000) (hp : p ≤ 30480 * 1500) (hq : q ≤ 30480 * 1500) where
-  pub shares_le : (share * p ≤ share * (30480 * 1500)) × ((20 - share) * q ≤ (20 - share) * (30480 * 1500))
-  shares_le = (mul-le-mul_left share hp, mul-le-mul_left (20 - share) hq)
-
-  pub transverse_le : 981 * factor * (share * p + (20 - share) * q) ≤ 981 * 1000 * (20 * (30480 * 1500))
-  transverse_le =
-      let f : 981 * factor ≤ 981 * 1000 = omega arith in
-      let s : share * p + (20 - share) * q ≤ 20 * (30480 * 1500) = omega (arith, shares_le) in
-      mul-le-mul f s
 
 abbrev Load : LoadRule → List Tier → ℕ → ℕ → Type 0
 Load rule ts j x = (x ≡ level_load rule.share rule.factor (get_or ts j blank_tier) (get_or ts (suc j) blank_tier)) × (x ≤ 2 ^ 46)

@@ -3,7 +3,7 @@
 
 #![tactic(auto)]
 
-ghost use Rattle.std.specs.Prelude.{◌≡◌, ℕ, ◌+◌, ◌*◌, ◌-◌, ◌/◌, ◌<◌, ◌≤◌, ◌^◌, length, take, get_or, replicate};
+ghost use Rattle.std.specs.Prelude.{◌≡◌, ℕ, ◌+◌, ◌*◌, ◌-◌, ◌/◌, ◌<◌, ◌≤◌, ◌^◌, take, get_or, replicate};
 ghost use Rattle.sheet.specs.Layout.{blank_tier};
 ghost use Rattle.sheet.specs.Inner.Limits.{TierLimits};
 ghost use Rattle.statics.specs.Inner.WholeNumbers.{transverse_units, wind_units};
@@ -12,7 +12,7 @@ ghost use Rattle.figures_tiers.specs.Inner.Loads.{Loaded, TiersMeasured};
 
 use arith::rounding::scaled;
 use sheet::Tier;
-use statics::{LoadRule, NEWTON};
+use statics::{LoadRule, NEWTON, TierMeasures};
 
 // Length of a box of 20 feet and of 40 feet, mm (CR Table 2-1).
 const LENGTH_20: u64 = 6058;
@@ -93,19 +93,12 @@ fn half_weight(units: u64) -> u64
 }
 
 // The loads on levels 1 to n; half of V above levels 0 to n with A_Vmax, and behind these eleven with A_Vmin; and the heights of the tiers.
-pub fn loads_of(
-    n: usize,
-    tiers: [Tier; 10],
-    rule: LoadRule,
-    loads: &mut [u64],
-    weights: &mut [u64],
-    heights: &mut [u16],
-)
+pub fn loads_of(n: usize, tiers: [Tier; 10], rule: LoadRule, measures: &mut TierMeasures)
     requires n_bound { (n ≤ 10) × (rule.share ≤ 20) × (rule.factor ≤ 1000) }
     requires by_index { (i : ℕ) → i < n → TierLimits (get_or (take n tiers) i blank_tier) }
-    requires loads_value { (loads.old ≡ replicate 10 0) × (weights.old ≡ replicate 22 0) × (length heights.old ≡ 10) }
-    ensures { Loaded rule n (take n tiers) loads.new
-        × TiersMeasured n (take n tiers) heights.new weights.new }
+    requires zeros { (measures.old.loads ≡ replicate 10 0) × (measures.old.weights ≡ replicate 22 0) }
+    ensures { Loaded rule n (take n tiers) measures.new.loads
+        × TiersMeasured n (take n tiers) measures.new.heights measures.new.weights }
 {
     let mut over = TierLoad {
         transverse: 0,
@@ -113,17 +106,15 @@ pub fn loads_of(
     };
     let mut vmax_units = 0;
     let mut vmin_units = 0;
-    let mut i = n;
-    while 0 < i {
-        i -= 1;
+    for i in (0..n).rev() {
         let t = tiers[i];
         let tier = tier_load(t);
-        loads[i] = level_load(rule.share, rule.factor, tier, over);
+        measures.loads[i] = level_load(rule.share, rule.factor, tier, over);
         over = tier;
         vmax_units += mass_by(t.mass, t.aVmax);
         vmin_units += mass_by(t.mass, t.aVmin);
-        weights[i] = half_weight(vmax_units);
-        weights[11 + i] = half_weight(vmin_units);
-        heights[i] = t.height;
+        measures.weights[i] = half_weight(vmax_units);
+        measures.weights[11 + i] = half_weight(vmin_units);
+        measures.heights[i] = t.height;
     }
 }

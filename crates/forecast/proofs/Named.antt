@@ -1,4 +1,5 @@
 -- What the call answers by name is what it must say.
+use Rattle.std.specs.Prelude.{Ok, Err}
 use mathlib.Core.Path.{◌≡◌, refl, ap, sym, ◌∙◌}
 use mathlib.Core.List.{List}
 use Prim.Native.Nat.{ℕ}
@@ -6,13 +7,12 @@ use native.Mathlib.Omega.{arith}
 use lib.IntN.{pos}
 use lib.ListN.{length}
 use Rattle.arith.specs.Fractions.{recip}
-use Rattle.sheet.specs.declared.Reading.{Reading}
-use Rattle.sheet.specs.declared.Reading.TheVariants.{Taken, Refused}
+use Rattle.sheet.specs.Refusals.{Reading}
 use Rattle.sheet.specs.declared.Sheet.{Sheet}
 use Rattle.sheet.specs.Layout.{head_of, sheet_of}
 use Rattle.sheet.specs.Refusals.{longest_answer}
 use Rattle.sheet.specs.Fits.{Fits}
-use Rattle.sheet.proofs.Refusal.{decoded_reading, sheet_taken_of}
+use Rattle.sheet.proofs.CallRefusals.{sheet_taken_of}
 use Rattle.sheet.proofs.SheetLimits.{sheet_limits}
 use Rattle.sheet.proofs.TakenSheets.{taken_fits}
 use Rattle.statics.specs.Loads.{StandsFor}
@@ -41,10 +41,10 @@ module _ (s : List ℕ) (h b hours : ℕ) (before : List ℕ) where
   turned_back = forecast_refusal s b hours (length before)
 
   -- a sheet that is not turned back is within the limits
-  pub within : turned_back ≡ Taken → Fits (sheet_of s)
+  pub within : turned_back ≡ Ok tt → Fits (sheet_of s)
   within e =
       taken_fits s
-      (sym (decoded_reading s) ∙ sheet_taken_of s (forecast_rows (head_of s).route b hours) longest_answer (length before) e)
+      (sheet_taken_of s (forecast_rows (head_of s).route b hours) longest_answer (length before) e)
 
   pub forecast_named : Forecast kept s h b hours before (forecast_written s h b hours before) (forecast_returned s h b hours (length before))
   unfolding forecast_written forecast_returned
@@ -55,7 +55,7 @@ module _ (s : List ℕ) (h b hours : ℕ) (before : List ℕ) where
           turned_back ≡ q →
           AnsweredAs q kept (forecast_rule h b (sheet_of s)) (sheet_of s) before (written_as q (forecast_bytes h b (sheet_of s)) before)
           (returned_as q (forecast_bytes h b (sheet_of s)))
-      go (Refused n p) e = record { refused = refl; untouched = refl }
-      go Taken e =
+      go (Err why) e = record { refused = refl; untouched = refl }
+      go (Ok _) e =
           let fits = within e in
           record { bytes = forecast_bytes h b (sheet_of s); answer = answer_named (stands fits h b) fits; taken = refl; written = refl }

@@ -7,7 +7,7 @@ use lib.ListN.{length}
 use Rattle.sheet.specs.Layout.{head_of}
 use Rattle.sheet.specs.Refusals.{first, longest_answer}
 use Rattle.sheet.proofs.Numbers.{call_numbers}
-use Rattle.answer.specs.declared.Outcome.{Outcome}
+use Rattle.answer.specs.Outcomes.{Outcome}
 use Rattle.answer.proofs.Numbers.{Numbers, Small, first_small, answered_numbers}
 use Rattle.forecast.specs.Forecasts.{forecast_rows, forecast_refusal, Forecast}
 use Rattle.forecast.proofs.Named.{within}
@@ -22,5 +22,5 @@ pub forecast_numbers :
     Numbers 21 r
 forecast_numbers {margin} {s} {h} {b} {hours} {before} {after} c =
     answered_numbers 21 (forecast_refusal s b hours (length before)) margin _ _ before after
-    (λ n p e. call_numbers 21 834 (lit≤ tt) (lit≤ tt) s (forecast_rows (head_of s).route b hours) longest_answer (length before) (lit≤ tt)
-    (λ number second q. subst (Small 21) q (own_small (head_of s).route b hours)) e) (within s h b hours before) c.holds
+    (λ _ e. call_numbers 21 834 (lit≤ tt) (lit≤ tt) s (forecast_rows (head_of s).route b hours) longest_answer (length before) (lit≤ tt)
+    (λ _ q. subst (Small 21) q (own_small (head_of s).route b hours)) e) (within s h b hours before) c.holds

@@ -1,4 +1,5 @@
 -- What turns a taken sheet back, in its order, and what its answer is then.
+use Rattle.std.specs.Prelude.{Ok, Err}
 use mathlib.Core.Bool.{true, false, not, ◌||◌}
 use mathlib.Core.Path.{◌≡◌, refl, ap, ap₂, sym, subst, ◌∙◌}
 use mathlib.Core.List.{List, [], ◌∷◌}
@@ -7,24 +8,24 @@ use borrow.Author.Tests.{eq-eqb, ne_eqb, eqb-false}
 use native.Mathlib.Omega.{arith}
 use lib.Dec.{leb, eqb}
 use lib.ListN.{length}
-use Rattle.sheet.specs.declared.Reading.{Reading}
-use Rattle.sheet.specs.declared.Reading.TheVariants.{Taken, Refused}
+use Rattle.sheet.specs.Refusals.{Reading}
 use Rattle.sheet.specs.declared.Sheet.{Sheet}
 use Rattle.sheet.specs.declared.Tier.{Tier}
 use Rattle.sheet.specs.Layout.{head_of, sheet_of}
 use Rattle.sheet.specs.Refusals.{row13, first, sheet_rows, longest_answer}
 use Rattle.sheet.specs.Inner.Changed.{with_tiers}
 use Rattle.sheet.proofs.Bools.{or_false}
-use Rattle.sheet.proofs.Refusal.{decoded_reading, refusal_of_lem, refused_by_sheet}
+use Rattle.sheet.proofs.CallRefusals.{refusal_of_lem, refused_by_sheet}
 use Rattle.sheet.proofs.Rows.{row_holds, row_passed, or_else}
 use Rattle.statics.specs.declared.LoadRule.{LoadRule}
-use Rattle.answer.specs.declared.Outcome.{Outcome}
-use Rattle.answer.specs.declared.Outcome.TheVariants as O
+use Rattle.answer.specs.Outcomes.{Outcome}
 use Rattle.answer.specs.Checked.{room_for, kept}
 use Rattle.answer.specs.Inner.Named.{answer_by, returned_as, written_as}
 use Rattle.forecast.specs.Forecasts.{row21, forecast_rows, forecast_refusal, Forecast}
 use Rattle.forecast.specs.Inner.Named.{forecast_load_rule, forecast_bytes, own_reading, OwnAnswer, forecast_returned, forecast_written}
 use Rattle.forecast.proofs.Named.{forecast_named}
+use Rattle.sheet.specs.declared.Refusal.{Refusal}
+use Rattle.sheet.specs.Refusals.{numbers}
 
 -- what is returned and written, by cases on a refusal
 abbrev pub By : Reading → List ℕ → List ℕ → List ℕ → Outcome → Type 0
@@ -42,14 +43,14 @@ module _ (t : Sheet) (h b hours : ℕ) (before : List ℕ) where
   abbrev Own : List ℕ → Outcome → Type 0
   Own after r = OwnAnswer t h b hours before after r
 
-  pub other_route : (t.head.route ≡ 0 → ⊥) → Own before (O.Refused 20 0)
+  pub other_route : (t.head.route ≡ 0 → ⊥) → Own before (Err (numbers 20 0))
   other_route n = by_same (forecast_bytes h b t) before (row_holds _ _ (ap not (ne_eqb _ _ n))) (refl, refl)
 
   module _ (route : t.head.route ≡ 0) where
     past_route : own_reading t b hours (length before) ≡ first (row21 b hours ∷ row13 longest_answer (length before) ∷ [])
     past_route = row_passed _ _ (ap not (eq-eqb _ _ route))
 
-    pub long_voyage : leb 72 hours || eqb b 0 ≡ true → Own before (O.Refused 21 0)
+    pub long_voyage : leb 72 hours || eqb b 0 ≡ true → Own before (Err (numbers 21 0))
     long_voyage e = by_same (forecast_bytes h b t) before (past_route ∙ row_holds _ _ e) (refl, refl)
 
     module _ (e : leb 72 hours || eqb b 0 ≡ false) where
@@ -81,18 +82,18 @@ module _ (s : List ℕ) (h b hours : ℕ) (before : List ℕ) where
   unfolding forecast_returned forecast_written
   by_refusal (e, g) = (rw (e, g) (forecast_named s h b hours before), (e, g))
 
-  pub refused : {n p : ℕ} → first (sheet_rows s) ≡ Refused n p → Says before (O.Refused n p)
-  refused {n} {p} e =
+  pub refused : {why : Refusal} → first (sheet_rows s) ≡ Err why → Says before (Err why)
+  refused {why} e =
       by_refusal
       (by_same (forecast_bytes h b (sheet_of s)) before
-      (refused_by_sheet s (forecast_rows (head_of s).route b hours) longest_answer (length before) (decoded_reading s ∙ e)) (refl, refl))
+      (refused_by_sheet s (forecast_rows (head_of s).route b hours) longest_answer (length before) e) (refl, refl))
 
-  module _ (e : first (sheet_rows s) ≡ Taken) where
+  module _ (e : first (sheet_rows s) ≡ Ok tt) where
     past_sheet : forecast_refusal s b hours (length before) ≡ own_reading (sheet_of s) b hours (length before)
     unfolding sheet_of
     past_sheet =
         refusal_of_lem s (forecast_rows (head_of s).route b hours) longest_answer (length before)
-        ∙ ap (λ (q : Reading). or_else q (own_reading (sheet_of s) b hours (length before))) (decoded_reading s ∙ e)
+        ∙ ap (λ (q : Reading). or_else q (own_reading (sheet_of s) b hours (length before))) e
 
     pub taken : {after : List ℕ} {r : Outcome} → OwnAnswer (sheet_of s) h b hours before after r → Says after r
     taken own = by_refusal (by_same (forecast_bytes h b (sheet_of s)) before past_sheet own)

@@ -1,4 +1,5 @@
 -- The theorems of specs/Theorems hold.
+use Rattle.std.specs.Prelude.{Ok, Err}
 use mathlib.Core.Bool.{not, ◌||◌}
 use mathlib.Core.Path.{◌≡◌, ap, ap₂, sym, subst, ◌∙◌}
 use mathlib.Core.List.{List, [], ◌∷◌}
@@ -7,16 +8,15 @@ use native.Mathlib.Omega.{arith}
 use borrow.Author.Tests.{eq-eqb, ne_eqb, lt-leb}
 use lib.Dec.{lit≤}
 use lib.ListN.{length, drop}
-use Rattle.sheet.specs.declared.Reading.{Reading}
-use Rattle.sheet.specs.declared.Reading.TheVariants.{Taken}
+use Rattle.sheet.specs.Refusals.{Reading}
 use Rattle.sheet.specs.Layout.{head_of, sheet_of}
-use Rattle.sheet.specs.Refusals.{row13, first, decoded, longest_answer, refusal}
+use Rattle.sheet.specs.Refusals.{row13, first, sheet_rows, longest_answer, refusal}
 use Rattle.sheet.specs.Routes.{route_percent}
-use Rattle.sheet.proofs.Refusal.{refusal_of_lem}
+use Rattle.sheet.proofs.CallRefusals.{refusal_of_lem}
 use Rattle.sheet.proofs.Rows.{row_passed, or_else}
 use Rattle.statics.specs.declared.LoadRule.{LoadRule}
 use Rattle.statics.specs.Inner.Computed.{load_rule_of}
-use Rattle.answer.specs.declared.Outcome.{Outcome}
+use Rattle.answer.specs.Outcomes.{Outcome}
 use Rattle.answer.specs.Checked.{Answered, AnsweredAs, kept, demanded}
 use Rattle.answer.specs.Consequences.{AnswerSays}
 use Rattle.answer.specs.Inner.Named.{answer_by, check_bytes, returned_as, written_as, returned, written}
@@ -30,7 +30,7 @@ use Rattle.forecast.proofs.Named.{forecast_named}
 
 demand_three :
     (s : List ℕ) (h b hours : ℕ) (before after : List ℕ) (r : Outcome) →
-    forecast_refusal s b hours (length before) ≡ Taken →
+    forecast_refusal s b hours (length before) ≡ Ok tt →
     Forecast kept s h b hours before after r →
     DemandThreeBy (forecast_rule h b (sheet_of s)) (sheet_of s) after
 demand_three s h b hours before after r e c =
@@ -57,7 +57,7 @@ module _ (s : List ℕ) (h b hours : ℕ) (route : (head_of s).route ≡ 0) (sho
   unfolding refusal
   same_refusal room =
       refusal_of_lem s (forecast_rows (head_of s).route b hours) longest_answer room
-      ∙ ap (λ (q : Reading). or_else (decoded s).reading q) (past_route ∙ past_voyage)
+      ∙ ap (λ (q : Reading). or_else (first (sheet_rows s)) q) (past_route ∙ past_voyage)
       ∙ sym (refusal_of_lem s [] longest_answer room)
     where
       past_route :

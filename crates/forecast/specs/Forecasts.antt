@@ -1,12 +1,12 @@
 -- Document 02, P9: what a call says that is given a sheet, the forecast wave height H and the breadth B in cm, and the voyage in hours.
 use Rattle.std.specs.Prelude.{ℕ, not, ◌||◌, List, [], ◌∷◌, leb, length}
 use Rattle.arith.specs.Fractions.{nat, ◌/q◌}
-use Rattle.sheet.specs.declared.Reading.{Reading}
+use Rattle.sheet.specs.Refusals.{Reading}
 use Rattle.sheet.specs.declared.Sheet.{Sheet}
 use Rattle.sheet.specs.Layout.{head_of, sheet_of, ◌is◌}
 use Rattle.sheet.specs.Refusals.{Row, row, refusal_of, longest_answer}
 use Rattle.statics.specs.Loads.{Rule, rule_of}
-use Rattle.answer.specs.declared.Outcome.{Outcome}
+use Rattle.answer.specs.Outcomes.{Outcome}
 use Rattle.answer.specs.Checked.{AnsweredAs}
 use Rattle.forecast_factor.specs.Factor.{factor}
 

@@ -1,12 +1,11 @@
 -- What is proved of the call with a forecast; proofs/Theorems shows that it holds.
-use Rattle.std.specs.Prelude.{◌≡◌, List, ℕ, ◌≤◌, ◌<◌, length}
-use Rattle.sheet.specs.declared.Reading.TheVariants.{Taken}
+use Rattle.std.specs.Prelude.{Ok, Err, ◌≡◌, List, ℕ, ◌≤◌, ◌<◌, length}
 use Rattle.sheet.specs.declared.Sheet.{Sheet}
 use Rattle.sheet.specs.Layout.{head_of, sheet_of}
 use Rattle.sheet.specs.Ends.{End}
 use Rattle.statics.specs.Loads.{Rule}
 use Rattle.statics.specs.Ends.{OneSolution}
-use Rattle.answer.specs.declared.Outcome.{Outcome}
+use Rattle.answer.specs.Outcomes.{Outcome}
 use Rattle.answer.specs.Checked.{kept, demanded}
 use Rattle.answer.specs.Consequences.{AnswerSays}
 use Rattle.answer.specs.Inner.Named.{returned, written}
@@ -28,7 +27,7 @@ pub record Theorems : Type 0 where
   -- and that is demand 3, with the forecast's factor, for every sheet that is taken
   pub demand_three :
       (s : List ℕ) (h b hours : ℕ) (before after : List ℕ) (r : Outcome) →
-      forecast_refusal s b hours (length before) ≡ Taken →
+      forecast_refusal s b hours (length before) ≡ Ok tt →
       Forecast kept s h b hours before after r →
       DemandThreeBy (forecast_rule h b (sheet_of s)) (sheet_of s) after
   -- with a factor of 1,000 thousandths, on a sheet of route 0, taken or refused, it returns and writes what the check does

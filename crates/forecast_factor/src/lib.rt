@@ -58,6 +58,7 @@ pub fn factor_of(wave: u16, breadth: u16) -> Found
         most: 1000,
         compared: 0,
     };
+    // no count: the halvings that it takes are found here
     while at.least < at.most {
         at = halve(h, b, at);
     }

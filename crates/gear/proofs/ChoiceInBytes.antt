@@ -1,5 +1,6 @@
 -- The sheet's own bytes with those of a choice at both ends are taken, and hold the sheet with the choice. They are the bytes written of
 -- that sheet but for the tiers, which are read alike.
+use Rattle.std.specs.Prelude.{Ok}
 use Prim.Native.Nat.{ℕ, zero, suc, ◌+◌, ◌*◌, ◌-◌, ◌<◌, ◌≤◌}
 use mathlib.Core.Bool.{Bool, true, false}
 use mathlib.Core.List.{List, [], ◌∷◌, ◌++◌, map, flat_map, append_assoc}
@@ -20,8 +21,6 @@ use Rattle.choices.proofs.Chosen.{few_chosen, each_chosen, chosen_map}
 use Rattle.sheet.specs.declared.Tier.{Tier}
 use Rattle.sheet.specs.declared.Lash.{Lash}
 use Rattle.sheet.specs.declared.Sheet.{Sheet}
-use Rattle.sheet.specs.declared.Decoded.{Decoded}
-use Rattle.sheet.specs.declared.Reading.TheVariants.{Taken}
 use Rattle.sheet.specs.Layout.{head_of, tier_count, tier_place, tier_in, lash_place, lash_in, door_place, tier_fits, blank_tier, blank_lash}
 use Rattle.sheet.specs.Layout.{tiers_in, sheet_of}
 use Rattle.sheet.specs.Fits.{tier_at, lash_at, Fits}
@@ -30,7 +29,7 @@ use Rattle.sheet.specs.Written.{head_bytes, tier_bytes, lash_bytes, written}
 use Rattle.sheet.specs.Inner.Changed.{with_tiers}
 use Rattle.sheet.proofs.Clear.{parts, tiers_there}
 use Rattle.sheet.proofs.OtherTiers.{OnlyTiersDiffer, other_sheet, tiers_taken}
-use Rattle.sheet.proofs.Refusal.{decoded_reading, decoded_sheet}
+use Rattle.sheet.proofs.CallRefusals.{decoded_taken, decoded_by}
 use Rattle.sheet.proofs.SameBytes.{tier_same}
 use Rattle.sheet.proofs.TakenSheets.{taken_fits, sheet_padded}
 use Rattle.gear.specs.Gear.{gear_count, gear_lashes, gear_rows, with_lashes}
@@ -87,7 +86,7 @@ flat_length f size one i (suc n) =
     length-append (f i) (flat_map f (from (suc i) n)) ∙ omega (arith, one i, flat_length f size one (suc i) n)
 
 -- an end that holds the chosen lashes, written, is the bytes of the section
-module _ (n : ℕ) (g : List ℕ) (c : ℕ) (b : InBytes g) (e : first (gear_rows n g) ≡ Taken) where
+module _ (n : ℕ) (g : List ℕ) (c : ℕ) (b : InBytes g) (e : first (gear_rows n g) ≡ Ok tt) where
   abbrev places : List ℕ
   places = chosen c (below (gear_count g))
 
@@ -118,17 +117,14 @@ module _ (n : ℕ) (g : List ℕ) (c : ℕ) (b : InBytes g) (e : first (gear_row
       (ap length lashes_are ∙ length-map places (lash_in g 0))
       (ap (flat_map lash_bytes) lashes_are ∙ slices places listed)
 
-module _ (s g : List ℕ) (c : ℕ) (bs : InBytes s) (bg : InBytes g) (read : (decoded s).reading ≡ Taken) where
-  taken : first (sheet_rows s) ≡ Taken
-  taken = sym (decoded_reading s) ∙ read
-
+module _ (s g : List ℕ) (c : ℕ) (bs : InBytes s) (bg : InBytes g) (taken : first (sheet_rows s) ≡ Ok tt) where
   fits : Fits (sheet_of s)
   fits = taken_fits s taken
 
   abbrev n : ℕ
   n = tier_count s
 
-  module _ (e : first (gear_rows n g) ≡ Taken) where
+  module _ (e : first (gear_rows n g) ≡ Ok tt) where
     abbrev held : Sheet
     held = with_lashes (chosen c (gear_lashes g)) (sheet_of s)
 
@@ -154,12 +150,12 @@ module _ (s g : List ℕ) (c : ℕ) (bs : InBytes s) (bg : InBytes g) (read : (d
         sym (append_assoc head tiers _)
         ∙ ap₂ (λ (x y : List ℕ). front ++ (x ++ y)) (end_is n g c bg e) (end_is n g c bg e)
 
-    whole : decoded (front ++ ends) ≡ record { reading = Taken; sheet = held }
+    whole : decoded (front ++ ends) ≡ Ok held
     unfolding sheet_of
     whole = ap decoded (sym written_is) ∙ each_choice_written (sheet_of s) g c fits (sheet_padded s) e
 
-    written_taken : first (sheet_rows (front ++ ends)) ≡ Taken
-    written_taken = sym (decoded_reading (front ++ ends)) ∙ ap (λ (d : Decoded). d.reading) whole
+    written_taken : first (sheet_rows (front ++ ends)) ≡ Ok tt
+    written_taken = (decoded_taken (front ++ ends) whole).0
 
     front_length : length front ≡ tier_place n
     front_length =
@@ -224,19 +220,18 @@ module _ (s g : List ℕ) (c : ℕ) (bs : InBytes s) (bg : InBytes g) (read : (d
         (entries_are (tier_in (own ++ ends)) blank_tier (map (tier_in s) (below n)) n (length_entries (tier_in s) blank_tier n)
         (λ k h. tier_is k h ∙ sym (entry (tier_in s) blank_tier 0 n k h ∙ ap (tier_in s) (zero-add k))))
 
-    own_taken : first (sheet_rows (own ++ ends)) ≡ Taken
+    own_taken : first (sheet_rows (own ++ ends)) ≡ Ok tt
     own_taken = tiers_taken only_tiers written_taken tier_sizes tier_fits_lem
 
     own_sheet : sheet_of (own ++ ends) ≡ held
     unfolding sheet_of
     own_sheet =
         other_sheet only_tiers
-        ∙ ap₂ with_tiers tiers_are
-        (sym (decoded_sheet (front ++ ends) (ap (λ (d : Decoded). d.reading) whole)) ∙ ap (λ (d : Decoded). d.sheet) whole)
+        ∙ ap₂ with_tiers tiers_are (decoded_taken (front ++ ends) whole).1
 
-    pub taken_with : decoded (bytes_with s g c) ≡ record { reading = Taken; sheet = held }
-    unfolding decoded bytes_with
-    taken_with = rw (own_taken, own_sheet)
+    pub taken_with : decoded (bytes_with s g c) ≡ Ok held
+    unfolding bytes_with
+    taken_with = decoded_by (own ++ ends) own_taken ∙ ap Ok own_sheet
 
 pub choice_in_bytes : ChoiceInBytes
-choice_in_bytes s g c bs bg read e = taken_with s g c bs bg read e
+choice_in_bytes s g c bs bg taken e = taken_with s g c bs bg taken e

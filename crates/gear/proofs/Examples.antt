@@ -1,12 +1,11 @@
 -- Gear sections for a stack of three tiers, and what they are turned back for.
+use Rattle.std.specs.Prelude.{Ok, Err}
 use Prim.Native.Nat.{ℕ}
 use mathlib.Core.List.{List, [], ◌∷◌, ◌++◌, map, flat_map}
 use mathlib.Core.Path.{◌≡◌, refl}
 use Rattle.arith.specs.Lists.{from}
-use Rattle.sheet.specs.declared.Reading.{Reading}
-use Rattle.sheet.specs.declared.Reading.TheVariants.{Taken, Refused}
 use Rattle.sheet.specs.Layout.{lash_of, breaking_fits, lash_fits}
-use Rattle.sheet.specs.Refusals.{off_tiers, later, not_later, first}
+use Rattle.sheet.specs.Refusals.{Reading, numbers, off_tiers, later, not_later, first}
 use Rattle.sheet.specs.Written.{lash_bytes}
 use Rattle.gear.specs.Gear.{gear_rows}
 
@@ -44,23 +43,23 @@ g gives r = record { section = g; answer = r }
 abbrev cases : List Case
 cases =
     -- empty; no lashes; one byte more; a count whose lashes are missing, or the second of them
-    ([] gives Refused 1 0)
-    ∷ (0 ∷ [] gives Taken)
-    ∷ (0 ∷ 7 ∷ [] gives Refused 2 1)
-    ∷ (1 ∷ [] gives Refused 1 1)
-    ∷ (2 ∷ S 1 0 0 gives Refused 1 21)
+    ([] gives Err (numbers 1 0))
+    ∷ (0 ∷ [] gives Ok tt)
+    ∷ (0 ∷ 7 ∷ [] gives Err (numbers 2 1))
+    ∷ (1 ∷ [] gives Err (numbers 1 1))
+    ∷ (2 ∷ S 1 0 0 gives Err (numbers 1 21))
     -- eight lashes, and nine; bytes behind the eighth
-    ∷ (8 ∷ eight gives Taken)
-    ∷ (8 ∷ eight ++ (7 ∷ []) gives Refused 2 161)
-    ∷ (9 ∷ [] gives Refused 9 0)
+    ∷ (8 ∷ eight gives Ok tt)
+    ∷ (8 ∷ eight ++ (7 ∷ []) gives Err (numbers 2 161))
+    ∷ (9 ∷ [] gives Err (numbers 9 0))
     -- a measure outside its limits, a tier above the stack's three, the bottom corner of tier 1, the same lash twice
-    ∷ (2 ∷ S 1 0 0 ++ rod 2 0 0 49 gives Refused 10 21)
-    ∷ (2 ∷ S 3 0 0 ++ S 4 0 0 gives Refused 11 21)
-    ∷ (1 ∷ S 1 1 0 gives Refused 11 1)
-    ∷ (2 ∷ S 1 0 1 ++ S 1 0 1 gives Refused 12 21)
+    ∷ (2 ∷ S 1 0 0 ++ rod 2 0 0 49 gives Err (numbers 10 21))
+    ∷ (2 ∷ S 3 0 0 ++ S 4 0 0 gives Err (numbers 11 21))
+    ∷ (1 ∷ S 1 1 0 gives Err (numbers 11 1))
+    ∷ (2 ∷ S 1 0 1 ++ S 1 0 1 gives Err (numbers 12 21))
     -- what is behind is not looked at: a lash turned back before the next is missed, and before bytes that are too many
-    ∷ (2 ∷ S 4 0 0 gives Refused 11 1)
-    ∷ (1 ∷ S 4 0 0 ++ (7 ∷ []) gives Refused 11 1)
+    ∷ (2 ∷ S 4 0 0 gives Err (numbers 11 1))
+    ∷ (1 ∷ S 4 0 0 ++ (7 ∷ []) gives Err (numbers 11 1))
     ∷ []
 
 pub answered : map (λ c. first (gear_rows 3 c.section)) cases ≡ map (λ c. c.answer) cases

@@ -1,13 +1,12 @@
 -- Document 02, P13: the gear section, a count and its lashes; a sheet with lashes used alike at both ends.
-use Rattle.std.specs.Prelude.{ℕ, ◌||◌, List, [], ◌∷◌, map, length, replicate}
+use Rattle.std.specs.Prelude.{Result, ℕ, ◌||◌, List, [], ◌∷◌, map, length}
 use Rattle.arith.specs.Bytes.{byte_at}
 use Rattle.arith.specs.Lists.{below, padded}
 use Rattle.sheet.specs.declared.Lash.{Lash}
 use Rattle.sheet.specs.declared.Sheet.{Sheet}
-use Rattle.sheet.specs.declared.Reading.{Reading}
-use Rattle.sheet.specs.declared.Reading.TheVariants.{Taken, Refused}
+use Rattle.sheet.specs.declared.Refusal.{Refusal}
 use Rattle.sheet.specs.Layout.{lash_place, lash_in, blank_lash, ◌above◌}
-use Rattle.sheet.specs.Refusals.{Row, row, row2, end_rows, first, ◌then◌}
+use Rattle.sheet.specs.Refusals.{Row, row, row2, end_rows, first, ◌then◌, unless_refused}
 use Rattle.gear.specs.declared.Gear.{Gear}
 
 -- the section is laid out as an end of a sheet whose count stands at 0
@@ -25,14 +24,12 @@ row24 t = row 24 0 (t.ndoor above 0 || t.nclosed above 0)
 abbrev pub gear_rows : ℕ → List ℕ → List Row
 gear_rows n g = end_rows n g 0 then row2 g (lash_place 0 (gear_count g)) ∷ []
 
--- a section decoded: its lashes where it is taken, none where it is turned back
-abbrev pub gear_unless_refused : Reading → List Lash → Gear
-gear_unless_refused Taken ls = record { reading = Taken; lashes = padded 8 blank_lash ls; count = length ls }
-gear_unless_refused (Refused number second) ls =
-    record { reading = Refused number second; lashes = replicate 8 blank_lash; count = 0 }
+-- a section decoded, where it is taken: its lashes
+abbrev pub gear_of : List Lash → Gear
+gear_of ls = record { lashes = padded 8 blank_lash ls; count = length ls }
 
-unfoldable pub gear_decoded : ℕ → List ℕ → Gear
-gear_decoded n g = gear_unless_refused (first (gear_rows n g)) (gear_lashes g)
+unfoldable pub gear_decoded : ℕ → List ℕ → Result Gear Refusal
+gear_decoded n g = unless_refused (first (gear_rows n g)) (gear_of (gear_lashes g))
 
 -- the sheet with these lashes at both ends
 abbrev pub with_lashes : List Lash → Sheet → Sheet

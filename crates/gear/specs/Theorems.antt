@@ -1,13 +1,12 @@
 -- What is proved of a taken gear section.
-use Rattle.std.specs.Prelude.{ℕ, List, ◌≡◌}
+use Rattle.std.specs.Prelude.{Ok, ℕ, List, ◌≡◌}
 use Rattle.choices.specs.Choices.{chosen}
 use Rattle.sheet.specs.declared.Lash.{Lash}
 use Rattle.sheet.specs.declared.Sheet.{Sheet}
-use Rattle.sheet.specs.declared.Reading.TheVariants.{Taken}
 use Rattle.sheet.specs.Ends.{End, lashes_of}
 use Rattle.sheet.specs.Fits.{Fits, Padded}
 use Rattle.sheet.specs.Layout.{tier_count, sheet_of}
-use Rattle.sheet.specs.Refusals.{first, decoded}
+use Rattle.sheet.specs.Refusals.{first, sheet_rows, decoded}
 use Rattle.sheet.specs.Written.{written}
 use Rattle.gear.specs.Gear.{gear_lashes, gear_rows, with_lashes}
 use Rattle.gear.specs.Bytes.{InBytes, bytes_with}
@@ -22,7 +21,7 @@ abbrev pub NoChoiceRefused : Type 0
 NoChoiceRefused =
     (t : Sheet) (g : List ℕ) (c : ℕ) →
     Fits t →
-    first (gear_rows t.ntiers g) ≡ Taken →
+    first (gear_rows t.ntiers g) ≡ Ok tt →
     Fits (with_lashes (chosen c (gear_lashes g)) t)
 
 -- and there is a sheet of bytes that holds it, which is taken (proofs/Subsets)
@@ -31,9 +30,9 @@ EachChoiceWritten =
     (t : Sheet) (g : List ℕ) (c : ℕ) →
     Fits t →
     Padded t →
-    first (gear_rows t.ntiers g) ≡ Taken →
+    first (gear_rows t.ntiers g) ≡ Ok tt →
     decoded (written (with_lashes (chosen c (gear_lashes g)) t))
-    ≡ record { reading = Taken; sheet = with_lashes (chosen c (gear_lashes g)) t }
+    ≡ Ok (with_lashes (chosen c (gear_lashes g)) t)
 
 -- so do the sheet's own bytes with those of the choice at both ends (proofs/ChoiceInBytes)
 abbrev pub ChoiceInBytes : Type 0
@@ -41,11 +40,11 @@ ChoiceInBytes =
     (s g : List ℕ) (c : ℕ) →
     InBytes s →
     InBytes g →
-    (decoded s).reading ≡ Taken →
-    first (gear_rows (tier_count s) g) ≡ Taken →
-    decoded (bytes_with s g c) ≡ record { reading = Taken; sheet = with_lashes (chosen c (gear_lashes g)) (sheet_of s) }
+    first (sheet_rows s) ≡ Ok tt →
+    first (gear_rows (tier_count s) g) ≡ Ok tt →
+    decoded (bytes_with s g c) ≡ Ok (with_lashes (chosen c (gear_lashes g)) (sheet_of s))
 
 -- which are bytes (proofs/ChoiceInBytes)
 abbrev pub WithInBytes : Type 0
 WithInBytes =
-    (s g : List ℕ) (c n : ℕ) → InBytes s → InBytes g → first (gear_rows n g) ≡ Taken → InBytes (bytes_with s g c)
+    (s g : List ℕ) (c n : ℕ) → InBytes s → InBytes g → first (gear_rows n g) ≡ Ok tt → InBytes (bytes_with s g c)

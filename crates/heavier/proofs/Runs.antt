@@ -1,4 +1,5 @@
 -- Bytes to bytes: two runs of the check, two by a forecast, and a check with a preview.
+use Rattle.std.specs.Prelude.{Ok, Err}
 use Prim.Native.Nat.{ℕ, ◌+◌, ◌-◌, ◌<◌, ◌≤◌}
 use mathlib.Core.Bool.{Bool, true, false}
 use mathlib.Core.List.{List, []}
@@ -10,15 +11,14 @@ use lib.Dec.{lit≤}
 use lib.ListN.{length, drop}
 use Rattle.arith.specs.Bytes.{byte_at, le2}
 use Rattle.arith.specs.Fractions.{Frac}
-use Rattle.sheet.specs.declared.Reading.{Reading}
-use Rattle.sheet.specs.declared.Reading.TheVariants.{Taken}
+use Rattle.sheet.specs.Refusals.{Reading}
 use Rattle.sheet.specs.declared.Sheet.{Sheet}
 use Rattle.sheet.specs.Layout.{tier_count, sheet_of}
 use Rattle.sheet.specs.Fits.{Fits}
 use Rattle.sheet.specs.Ends.{End}
 use Rattle.sheet.specs.Refusals.{first, sheet_rows, decoded, longest_answer, refusal}
-use Rattle.sheet.proofs.Clear.{not_taken}
-use Rattle.sheet.proofs.Refusal.{decoded_reading, sheet_taken_of}
+use Rattle.sheet.proofs.Results.{err_not_ok}
+use Rattle.sheet.proofs.CallRefusals.{sheet_taken_of}
 use Rattle.sheet.proofs.SheetLimits.{sheet_limits}
 use Rattle.sheet.proofs.TakenSheets.{taken_fits}
 use Rattle.statics.specs.Loads.{Rule, rule_of}
@@ -26,7 +26,7 @@ use Rattle.statics.specs.Ends.{EndSolved}
 use Rattle.statics.specs.Theorems.{Proper}
 use Rattle.statics.proofs.LoadsGrow.{stands_proper}
 use Rattle.statics.proofs.RuleNumbers.{by_number}
-use Rattle.answer.specs.declared.Outcome.{Outcome}
+use Rattle.answer.specs.Outcomes.{Outcome}
 use Rattle.answer.specs.Checked.{AnswerTo, Answered, AnsweredAs, Checked, kept}
 use Rattle.answer.proofs.Consequences.{answered}
 use Rattle.preview_moves.specs.Previews.{mass_place, with_mass, move_refusal, UnlessTurnedBack, Previewed}
@@ -74,12 +74,12 @@ pub by_rule_number : ByRuleNumber
 by_rule_number t u f g h = exactly rule_of h (same_rule h) (by_number (sheet_limits f)).proper f g
 
 -- a sheet that the check takes is within the limits
-sheet_taken : (s : List ℕ) (room : ℕ) → refusal s room ≡ Taken → (decoded s).reading ≡ Taken
+sheet_taken : (s : List ℕ) (room : ℕ) → refusal s room ≡ Ok tt → first (sheet_rows s) ≡ Ok tt
 unfolding refusal
 sheet_taken s room e = sheet_taken_of s [] longest_answer room e
 
-checked_fits : (s : List ℕ) (room : ℕ) → refusal s room ≡ Taken → Fits (sheet_of s)
-checked_fits s room e = taken_fits s (sym (decoded_reading s) ∙ sheet_taken s room e)
+checked_fits : (s : List ℕ) (room : ℕ) → refusal s room ≡ Ok tt → Fits (sheet_of s)
+checked_fits s room e = taken_fits s (sheet_taken s room e)
 
 pub of_checks : OfChecks
 of_checks s c h before₁ after₁ before₂ after₂ r₁ r₂ q₁ q₂ k₁ k₂ =
@@ -91,7 +91,7 @@ of_checks s c h before₁ after₁ before₂ after₂ r₁ r₂ q₁ q₂ k₁ k
 -- by a forecast
 taken_answer :
     {q : Reading} {rule : Rule} {t : Sheet} {before after : List ℕ} {r : Outcome} →
-    q ≡ Taken →
+    q ≡ Ok tt →
     AnsweredAs q kept rule t before after r →
     Answered kept rule t before after r
 taken_answer {q} {rule} {t} {before} {after} {r} e = subst (λ (z : Reading). AnsweredAs z kept rule t before after r) e
@@ -138,16 +138,16 @@ module _ (s : List ℕ) (tier mass : ℕ) (copied : CopyOf s tier mass) (more : 
       elsewhere i off (no n) = copied.behind i (omega (arith, n, off.0, off.1))
 
 -- a preview that is not turned back names a tier that the stack has
-tier_there : (s : List ℕ) (tier : ℕ) → first (sheet_rows s) ≡ Taken → move_refusal s tier ≡ Taken → (1 ≤ tier) × (tier ≤ tier_count s)
+tier_there : (s : List ℕ) (tier : ℕ) → first (sheet_rows s) ≡ Ok tt → move_refusal s tier ≡ Ok tt → (1 ≤ tier) × (tier ≤ tier_count s)
 tier_there s tier taken e = go (lacking s tier) refl
   where
     go : (b : Bool) → lacking s tier ≡ b → (1 ≤ tier) × (tier ≤ tier_count s)
-    go true q = not_taken 17 tier (sym (lacks_tier s tier taken q) ∙ e)
+    go true q = err_not_ok (sym (lacks_tier s tier taken q) ∙ e)
     go false q = stack_has (tier_count s) tier q
 
 previewed :
     {margin : ℕ} {s : List ℕ} {tier mass : ℕ} {before after : List ℕ} {r : Outcome} →
-    move_refusal s tier ≡ Taken →
+    move_refusal s tier ≡ Ok tt →
     Previewed margin s tier mass before after r →
     Checked margin (with_mass tier mass s) before after r
 previewed {margin} {s} {tier} {mass} {before} {after} {r} e k =
@@ -156,7 +156,7 @@ previewed {margin} {s} {tier} {mass} {before} {after} {r} e k =
 pub of_preview : OfPreview
 of_preview s tier mass small more before₁ after₁ before₂ after₂ r₁ r₂ q₁ move q₂ k₁ k₂ =
     let taken = sheet_taken s (length before₁) q₁ in
-    let there = tier_there s tier (sym (decoded_reading s) ∙ taken) move in
+    let there = tier_there s tier taken move in
     of_checks s (with_mass tier mass s)
     (copy_heavier s tier mass (copies s tier mass taken there.0 there.1 small) more there.0 there.1) before₁ after₁ before₂
     after₂ r₁ r₂ q₁ q₂ k₁ (previewed move k₂)

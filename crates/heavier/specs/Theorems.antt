@@ -1,8 +1,7 @@
 -- Document 02, P14: what is proved of a heavier box in the same stack; proofs/Theorems shows that it holds.
-use Rattle.std.specs.Prelude.{ℕ, ◌<◌, ◌≤◌, List, ◌++◌, ◌≡◌, length}
+use Rattle.std.specs.Prelude.{Ok, Err, ℕ, ◌<◌, ◌≤◌, List, ◌++◌, ◌≡◌, length}
 use Rattle.arith.specs.Bytes.{le2}
 use Rattle.arith.specs.Fractions.{Frac}
-use Rattle.sheet.specs.declared.Reading.TheVariants.{Taken}
 use Rattle.sheet.specs.declared.Sheet.{Sheet}
 use Rattle.sheet.specs.Layout.{sheet_of}
 use Rattle.sheet.specs.Fits.{Fits}
@@ -11,7 +10,7 @@ use Rattle.sheet.specs.Ends.{End}
 use Rattle.statics.specs.Loads.{Rule, rule_of}
 use Rattle.statics.specs.Ends.{EndSolved}
 use Rattle.statics.specs.Theorems.{Proper}
-use Rattle.answer.specs.declared.Outcome.{Outcome}
+use Rattle.answer.specs.Outcomes.{Outcome}
 use Rattle.answer.specs.Checked.{AnswerTo, Checked, kept}
 use Rattle.preview_moves.specs.Previews.{mass_place, with_mass, move_refusal, Previewed}
 use Rattle.forecast.specs.Forecasts.{forecast_rule, forecast_refusal, Forecast}
@@ -68,8 +67,8 @@ OfChecks =
     (s c : List ℕ) →
     HeavierBytes s c →
     (before₁ after₁ before₂ after₂ : List ℕ) (r₁ r₂ : Outcome) →
-    refusal s (length before₁) ≡ Taken →
-    refusal c (length before₂) ≡ Taken →
+    refusal s (length before₁) ≡ Ok tt →
+    refusal c (length before₂) ≡ Ok tt →
     Checked kept s before₁ after₁ r₁ →
     Checked kept c before₂ after₂ r₂ →
     NotLower rule_of (sheet_of s) (sheet_of c) after₁ after₂
@@ -80,8 +79,8 @@ OfForecasts =
     (s c : List ℕ) →
     HeavierBytes s c →
     (h b hours₁ hours₂ : ℕ) (before₁ after₁ before₂ after₂ : List ℕ) (r₁ r₂ : Outcome) →
-    forecast_refusal s b hours₁ (length before₁) ≡ Taken →
-    forecast_refusal c b hours₂ (length before₂) ≡ Taken →
+    forecast_refusal s b hours₁ (length before₁) ≡ Ok tt →
+    forecast_refusal c b hours₂ (length before₂) ≡ Ok tt →
     Forecast kept s h b hours₁ before₁ after₁ r₁ →
     Forecast kept c h b hours₂ before₂ after₂ r₂ →
     NotLower (forecast_rule h b) (sheet_of s) (sheet_of c) after₁ after₂
@@ -93,9 +92,9 @@ OfPreview =
     mass < 65536 →
     le2 s (mass_place tier) ≤ mass →
     (before₁ after₁ before₂ after₂ : List ℕ) (r₁ r₂ : Outcome) →
-    refusal s (length before₁) ≡ Taken →
-    move_refusal s tier ≡ Taken →
-    refusal (with_mass tier mass s) (length before₂) ≡ Taken →
+    refusal s (length before₁) ≡ Ok tt →
+    move_refusal s tier ≡ Ok tt →
+    refusal (with_mass tier mass s) (length before₂) ≡ Ok tt →
     Checked kept s before₁ after₁ r₁ →
     Previewed kept s tier mass before₂ after₂ r₂ →
     NotLower rule_of (sheet_of s) (sheet_of (with_mass tier mass s)) after₁ after₂

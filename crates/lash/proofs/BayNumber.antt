@@ -2,8 +2,7 @@
 use Prim.Native.Nat.{ℕ, ◌+◌, ◌*◌, ◌/◌, ◌%◌, ◌≤◌}
 use mathlib.Core.Path.{◌≡◌, sym, subst}
 use native.Mathlib.Omega.{arith}
-use Rattle.bay.specs.declared.BayOutcome.{BayOutcome}
-use Rattle.bay.specs.Reports.{number, second, row}
+use Rattle.bay.specs.Reports.{BayOutcome, number, second, row}
 use Rattle.lash.specs.BayCalled.{BayCalled}
 
 abbrev pub Small : BayOutcome → Type 0

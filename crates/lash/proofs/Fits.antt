@@ -2,9 +2,9 @@
 use Prim.Native.Nat.{ℕ}
 use mathlib.Core.List.{List}
 use native.Mathlib.Omega.{arith}
-use Rattle.answer.specs.declared.Outcome.{Outcome}
+use Rattle.answer.specs.Outcomes.{Outcome}
 use Rattle.answer.specs.Checked.{Checked}
-use Rattle.answer.proofs.Numbers.{numbers}
+use Rattle.answer.proofs.Numbers.{two_numbers}
 use Rattle.forecast.specs.Forecasts.{Forecast}
 use Rattle.forecast.proofs.Numbers.{forecast_numbers}
 use Rattle.side.specs.Sides.{Sided}
@@ -14,7 +14,7 @@ use Rattle.arrangements.proofs.Numbers.{list_numbers}
 use Rattle.packing.proofs.OneNumber.{Fitting}
 
 pub checked_fits : {margin : ℕ} {s before after : List ℕ} {o : Outcome} → Checked margin s before after o → Fitting o
-checked_fits c = (omega (arith, (numbers c).first), omega (arith, (numbers c).next))
+checked_fits c = (omega (arith, (two_numbers c).first), omega (arith, (two_numbers c).next))
 
 pub forecast_fits :
     {margin : ℕ} {s : List ℕ} {h b hours : ℕ} {before after : List ℕ} {o : Outcome} →

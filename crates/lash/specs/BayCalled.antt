@@ -1,7 +1,6 @@
 -- What the call lash_bay says: what is said of the outcome, with its three numbers in one.
 use Rattle.std.specs.Prelude.{ℕ, ◌/◌, ◌%◌, ◌<◌, ◌^◌, ◌≡◌}
-use Rattle.bay.specs.declared.BayOutcome.{BayOutcome}
-use Rattle.bay.specs.Reports.{number, second, row}
+use Rattle.bay.specs.Reports.{BayOutcome, number, second, row}
 
 -- the number is in the low 8 bits of r, the second number or the report's length in bits 8 to 31, the row in bits 32 to 39; the bits above
 -- are 0

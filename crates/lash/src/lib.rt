@@ -21,10 +21,9 @@ ghost use Rattle.lash.specs.BayCalled.{BayCalled};
 ghost use Rattle.lash.specs.RolledIn.{RolledIn};
 ghost use Rattle.lash.specs.Told.{Told};
 
-use bay::BayOutcome;
+use bay_rows::BayRefusal;
 use packing::{joined, packed_accelerations, packed_outcome, packed_verdict};
-use roll::{Condition, Rolled};
-use twenties::Judgement;
+use roll::Condition;
 
 // Checks a sheet as stack_check::check does. The number is in the low 8 bits of what is returned, the second number above them.
 #[unsafe(no_mangle)]
@@ -79,14 +78,13 @@ pub extern "C" fn lash_bay(bay: &[u8], report: &mut [u8]) -> u64
 }
 
 // The three numbers of a bay's outcome in one.
-fn packed_bay(o: BayOutcome) -> u64
+fn packed_bay(o: Result<usize, BayRefusal>) -> u64
     requires { (B.number o ≤ 16) × (B.second o ≤ 20073) × (B.row o ≤ 24) }
     ensures { result ≡ B.number o + 256 * B.second o + 4294967296 * B.row o }
 {
     match o {
-        BayOutcome::Taken(n) => joined(0, n),
-        BayOutcome::Refused(number, second, row) => joined(number, second)
-            + 4294967296 * row as u64,
+        Ok(n) => joined(0, n),
+        Err(refusal) => joined(refusal.number, refusal.second) + 4294967296 * refusal.row as u64,
     }
 }
 
@@ -120,8 +118,8 @@ pub extern "C" fn lash_twenties(table: u32, acceleration: u32, masses: &[u32]) -
 {
     let judgement = twenties::judge(table, acceleration, masses);
     match judgement {
-        Judgement::Given(verdict) => packed_verdict(verdict),
-        Judgement::Refused(number, second) => joined(number, second),
+        Ok(verdict) => packed_verdict(verdict),
+        Err(refusal) => joined(refusal.number, refusal.second),
     }
 }
 
@@ -166,7 +164,7 @@ pub extern "C" fn lash_roll(
         z,
     });
     match rolled {
-        Rolled::Given(accelerations) => packed_accelerations(accelerations),
-        Rolled::Refused(number, second) => joined(number, second),
+        Ok(accelerations) => packed_accelerations(accelerations),
+        Err(why) => joined(why.number, why.second),
     }
 }

@@ -27,10 +27,7 @@ pub struct Progress {
 fn longer(x: u32, y: u32) -> u32
     ensures { result ≡ max x y }
 {
-    if x <= y {
-        return y;
-    }
-    x
+    x.max(y)
 }
 
 // A side's square, which is no trial, with the bound that the sum wants.

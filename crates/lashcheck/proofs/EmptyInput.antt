@@ -1,4 +1,5 @@
 -- Document 01's example of what the program writes: for an empty input, 1 0.
+use Rattle.std.specs.Prelude.{Ok, Err}
 use Prim.Native.Nat.{ℕ, ◌-◌, ◌^◌, ◌<◌, ◌≤◌}
 use mathlib.Core.Bool.{Bool, true, false}
 use mathlib.Core.List.{List, [], ◌∷◌}
@@ -8,12 +9,12 @@ use native.Mathlib.Omega.{arith}
 use borrow.Author.Tests.{ltb-true, ltb-false}
 use lib.Dec.{ltb}
 use Rattle.io.specs.Digits.{last_digits, IsDigitCount}
-use Rattle.sheet.specs.declared.Reading.{Reading}
-use Rattle.sheet.specs.declared.Reading.TheVariants as R
+use Rattle.sheet.specs.Refusals.{Reading}
 use Rattle.sheet.specs.Refusals.{first, refusal_of, refusal}
 use Rattle.sheet.specs.Layout.{sheet_of}
 use Rattle.lashcheck.specs.Lines.{Decimal, Line}
 use Rattle.lashcheck.specs.Replies.{ReplyAs, Reply}
+use Rattle.sheet.specs.Refusals.{numbers}
 
 -- a number below 10 is one digit
 one_digit : (n k : ℕ) → n < 10 → IsDigitCount 10 1 n k → k ≡ 1
@@ -33,7 +34,7 @@ decimal n h d = d.spelled ∙ ap (λ k. last_digits 10 k n) (one_digit n d.count
 line : {text : List ℕ} → Line 1 0 text → text ≡ 49 ∷ 32 ∷ 48 ∷ 10 ∷ []
 line l = l.whole ∙ rw (decimal 1 (omega arith) l.left_in, decimal 0 (omega arith) l.right_in)
 
-short : refusal [] 834 ≡ R.Refused 1 0
+short : refusal [] 834 ≡ Err (numbers 1 0)
 unfolding refusal refusal_of first
 short = refl
 

@@ -1,7 +1,6 @@
 -- What the program writes for a sheet.
-use Rattle.std.specs.Prelude.{ℕ, List}
-use Rattle.sheet.specs.declared.Reading.{Reading}
-use Rattle.sheet.specs.declared.Reading.TheVariants.{Taken, Refused}
+use Rattle.std.specs.Prelude.{Ok, Err, ℕ, List}
+use Rattle.sheet.specs.Refusals.{Reading}
 use Rattle.sheet.specs.declared.Sheet.{Sheet}
 use Rattle.sheet.specs.Layout.{sheet_of}
 use Rattle.sheet.specs.Refusals.{longest_answer, refusal}
@@ -11,8 +10,8 @@ use Rattle.lashcheck.specs.Lines.{Line}
 
 -- the line of a refusal, or the bytes that answer the sheet
 abbrev pub ReplyAs : Reading → ℕ → Sheet → List ℕ → Type 0
-ReplyAs (Refused number second) margin t bytes = Line number second bytes
-ReplyAs Taken margin t bytes = AnswerTo margin (rule_of t) t bytes
+ReplyAs (Err why) margin t bytes = Line why.number why.second bytes
+ReplyAs (Ok _) margin t bytes = AnswerTo margin (rule_of t) t bytes
 
 -- for the sheet s; the program's answer buffer has room for the longest answer
 pub record Reply (margin : ℕ) (s bytes : List ℕ) : Type 0 where

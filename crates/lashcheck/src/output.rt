@@ -6,8 +6,6 @@ ghost use Rattle.lashcheck.specs.Lines.{Line};
 ghost use Rattle.lashcheck.specs.Replies.{Reply};
 ghost use Rattle.lashcheck.specs.Inner.Texts.{Put};
 
-use answer::Outcome;
-
 // Puts what is written for the sheet at the start of `out`, and answers its length.
 pub fn reply(sheet: &[u8], out: &mut [u8; 834]) -> usize
     ensures prefix_len { IsPrefixLen result out.new }
@@ -15,8 +13,8 @@ pub fn reply(sheet: &[u8], out: &mut [u8; 834]) -> usize
 {
     let outcome = stack_check::check(sheet, out);
     match outcome {
-        Outcome::Taken(n) => n,
-        Outcome::Refused(number, second) => put_line(number, second as u64, out),
+        Ok(n) => n,
+        Err(refusal) => put_line(refusal.number, refusal.second as u64, out),
     }
 }
 

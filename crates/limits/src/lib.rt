@@ -39,7 +39,8 @@ pub fn safe_load(material: u8, breaking: u32) -> u32
     ((breaking as u64) * other_factor(material == 1) / 334000 * 1000) as u32
 }
 
-// The limit that a level's tension is checked against, and the kind that names it.
+// The limit that a level's tension is checked against, and the kind that names it: a number, since it is a finding's byte in the answer
+// (`lower_of` of specs/Inner).
 #[derive(Clone, Copy)]
 pub struct PullLimit {
     pub kind: u8,

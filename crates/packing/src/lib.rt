@@ -7,18 +7,18 @@ ghost use Rattle.answer.specs.Checked.{number, second};
 ghost use Rattle.packing.specs.AccelerationsIn.{AccelerationsIn};
 ghost use Rattle.packing.specs.VerdictIn.{VerdictIn};
 
-use answer::Outcome;
 use roll::Accelerations;
+use sheet::Refusal;
 use twenties::Verdict;
 
 // The two numbers of an outcome in one.
-pub fn packed_outcome(o: Outcome) -> u64
+pub fn packed_outcome(o: Result<usize, Refusal>) -> u64
     requires { (number o < 256) × (second o < 2 ^ 56) }
     ensures { result ≡ number o + 256 * second o }
 {
     match o {
-        Outcome::Taken(n) => joined(0, n),
-        Outcome::Refused(number, second) => joined(number, second),
+        Ok(n) => joined(0, n),
+        Err(refusal) => joined(refusal.number, refusal.second),
     }
 }
 
@@ -41,10 +41,7 @@ pub fn packed_verdict(v: Verdict) -> u64
 fn bit(set: bool) -> u64
     ensures { (result ≡ cond set 1 0) × (result < 2) }
 {
-    if set {
-        return 1;
-    }
-    0
+    u64::from(set)
 }
 
 // Accelerations that fit 16 bits each.

@@ -1,18 +1,17 @@
 -- What `preview` gives is what Previewed and AsChecked say: the sheet's refusals, 17, then the check of the copy.
+use Rattle.std.specs.Prelude.{Ok, Err}
 use Prim.Native.Nat.{ℕ, ◌<◌, ◌≤◌}
 use mathlib.Core.Bool.{Bool, true, false}
 use mathlib.Core.List.{List}
 use mathlib.Core.Path.{◌≡◌, refl, sym, ap, subst, ◌∙◌}
 use lib.ListN.{length}
-use Rattle.sheet.specs.declared.Reading.{Reading}
-use Rattle.sheet.specs.declared.Reading.TheVariants.{Taken, Refused}
+use Rattle.sheet.specs.Refusals.{Reading}
 use Rattle.sheet.specs.declared.Sheet.{Sheet}
 use Rattle.sheet.specs.Layout.{tier_count, sheet_of}
 use Rattle.sheet.specs.Refusals.{first, sheet_rows, refusal}
 use Rattle.sheet.proofs.Rows.{row_holds, row_passed}
 use Rattle.statics.specs.Inner.Computed.{load_rule_of}
-use Rattle.answer.specs.declared.Outcome.{Outcome}
-use Rattle.answer.specs.declared.Outcome.TheVariants as O
+use Rattle.answer.specs.Outcomes.{Outcome}
 use Rattle.answer.specs.Checked.{Checked, kept}
 use Rattle.answer.specs.Inner.Named.{answer_by, check_bytes, returned_as, written_as, returned, written}
 use Rattle.answer.proofs.Named.{check_named}
@@ -20,6 +19,7 @@ use Rattle.preview_moves.specs.Previews.{with_mass, move_refusal, UnlessTurnedBa
 use Rattle.preview_moves.specs.Inner.Moved.{AsChecked, moved_refusal, moved_bytes, Answers}
 use Rattle.preview_moves.proofs.Copies.{copy_holds}
 use Rattle.preview_moves.proofs.Order.{stack_has, lacking, sheet_first, lacks_tier, has_tier, copy_refusal}
+use Rattle.sheet.specs.declared.Refusal.{Refusal}
 
 -- a sheet's bytes s
 module _ (s : List ℕ) (tier mass : ℕ) (before : List ℕ) where
@@ -37,8 +37,8 @@ module _ (s : List ℕ) (tier mass : ℕ) (before : List ℕ) where
           (q : Reading) →
           UnlessTurnedBack q before after r ((r ≡ returned copy (length before)) × (after ≡ written copy before)) →
           UnlessTurnedBack q before after r (Checked kept copy before after r)
-      go (Refused n p) h = h
-      go Taken (e, g) = rw (e, g) (check_named copy before)
+      go (Err why) h = h
+      go (Ok _) (e, g) = rw (e, g) (check_named copy before)
 
   by_refusal :
       {q : Reading} {after : List ℕ} {r : Outcome} →
@@ -49,10 +49,10 @@ module _ (s : List ℕ) (tier mass : ℕ) (before : List ℕ) where
       by_name
       (subst (λ q. UnlessTurnedBack q before after r ((r ≡ returned copy (length before)) × (after ≡ written copy before))) (sym e) h)
 
-  pub refused : {n p : ℕ} → first (sheet_rows s) ≡ Refused n p → Previews before (O.Refused n p)
+  pub refused : {why : Refusal} → first (sheet_rows s) ≡ Err why → Previews before (Err why)
   refused e = by_refusal (sheet_first s tier e) (record { refused = refl; untouched = refl })
 
-  module _ (taken : first (sheet_rows s) ≡ Taken) where
+  module _ (taken : first (sheet_rows s) ≡ Ok tt) where
     -- the check of the copy, where the stack has the tier
     module _ (small : mass < 65536) (some : 1 ≤ tier) (has : tier ≤ tier_count s) where
       returned_as_lem :

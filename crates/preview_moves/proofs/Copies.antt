@@ -1,4 +1,5 @@
 -- The copy with the new mass: its bytes, what it holds, and whether it is taken.
+use Rattle.std.specs.Prelude.{Ok, Err}
 use Prim.Native.Nat.{ℕ, suc, ◌+◌, ◌-◌, ◌/◌, ◌%◌, ◌<◌, ◌≤◌}
 use mathlib.Core.Bool.{Bool, true, false, ◌&&◌, ◌||◌}
 use mathlib.Core.List.{List, append_assoc}
@@ -13,7 +14,6 @@ use lib.Seq.{sets, sets-eq, length-sets, get_or-set_other}
 use Rattle.arith.specs.Bytes.{byte_at, le2, bytes2}
 use Rattle.arith.proofs.Arrays.{entry_at, one_other}
 use Rattle.arith.proofs.ByteLaws.{le2_stored}
-use Rattle.sheet.specs.declared.Reading.TheVariants.{Taken, Refused}
 use Rattle.sheet.specs.declared.Tier.{Tier}
 use Rattle.sheet.specs.Layout.{tier_of, tier_count, tier_place, tier_in, blank_tier, tiers_in, tier_fits, within, up_to, sheet_of}
 use Rattle.sheet.specs.Fits.{tier_at}
@@ -23,11 +23,11 @@ use Rattle.sheet.proofs.Bools.{and_true, not_false}
 use Rattle.sheet.proofs.Clear.{Parts, parts, tier_clear, tiers_there}
 use Rattle.sheet.proofs.Items.{tier_size}
 use Rattle.sheet.proofs.OtherTiers.{OnlyTiersDiffer, other_sheet, tiers_taken, tier_refused}
-use Rattle.sheet.proofs.Refusal.{decoded_reading}
 use Rattle.sheet.proofs.SameBytes.{tier_same}
 use Rattle.preview_moves.specs.Previews.{mass_place, with_mass}
 use Rattle.preview_moves.specs.Theorems.{Copies}
 use Rattle.preview_moves.specs.Inner.Moved.{weighing, moved}
+use Rattle.sheet.specs.Refusals.{numbers}
 
 -- of a tier within its limits that is given another mass, the mass alone decides
 only_one : (w : Bool) → w && true && true && true && true ≡ w
@@ -52,7 +52,7 @@ mass_decides mass t e =
     (up_to 3 t.wind) (within 1 30480 t.mass) (up_to 1500 t.aT) (up_to 3000 t.aVmax) (up_to 1000 t.aVmin)
     (up_to t.aVmax t.aVmin) (within 1 30480 mass) e
 
-module _ (s : List ℕ) (taken : first (sheet_rows s) ≡ Taken) (tier mass : ℕ) (some : 1 ≤ tier) (has : tier ≤ tier_count s) where
+module _ (s : List ℕ) (taken : first (sheet_rows s) ≡ Ok tt) (tier mass : ℕ) (some : 1 ≤ tier) (has : tier ≤ tier_count s) where
   abbrev copy : List ℕ
   copy = with_mass tier mass s
 
@@ -158,7 +158,7 @@ module _ (s : List ℕ) (taken : first (sheet_rows s) ≡ Taken) (tier mass : �
     pub this_fits : tier_fits (tier_in copy k) ≡ within 1 30480 mass
     this_fits = ap tier_fits (this_tier h) ∙ mass_decides mass (tier_in s k) (tier_fitted k k_below)
 
-    pub copy_taken : within 1 30480 mass ≡ true → first (sheet_rows copy) ≡ Taken
+    pub copy_taken : within 1 30480 mass ≡ true → first (sheet_rows copy) ≡ Ok tt
     copy_taken e = tiers_taken differ taken one_size each
       where
         each : (j : ℕ) → j < n → tier_fits (tier_in copy j) ≡ true
@@ -168,21 +168,20 @@ module _ (s : List ℕ) (taken : first (sheet_rows s) ≡ Taken) (tier mass : �
             go true is = rw (eqb-true j k is) (this_fits ∙ e)
             go false is = others_fit j q (eqb-false j k is)
 
-    pub copy_refused : within 1 30480 mass ≡ false → first (sheet_rows copy) ≡ Refused 7 (tier_place k)
+    pub copy_refused : within 1 30480 mass ≡ false → first (sheet_rows copy) ≡ Err (numbers 7 (tier_place k))
     copy_refused e =
         tier_refused differ taken one_size k k_below
         (λ j q. others_fit j (omega (arith, q)) (λ is. omega (arith, q, is)))
         (this_fits ∙ e)
 
 pub copies : Copies
-copies s tier mass e some has h =
-    let taken : first (sheet_rows s) ≡ Taken = sym (decoded_reading s) ∙ e in
+copies s tier mass taken some has h =
     record {
       size = copy_length s taken tier mass some has;
       put = mass_there s taken tier mass some has h;
       before = before_mass s taken tier mass some has;
       behind = behind_mass s taken tier mass some has;
       holds = copy_holds s taken tier mass some has h;
-      taken = λ q. decoded_reading (with_mass tier mass s) ∙ copy_taken s taken tier mass some has h q;
-      refused = λ q. decoded_reading (with_mass tier mass s) ∙ copy_refused s taken tier mass some has h q;
+      taken = λ q. copy_taken s taken tier mass some has h q;
+      refused = λ q. copy_refused s taken tier mass some has h q;
     }

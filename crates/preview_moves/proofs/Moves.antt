@@ -1,4 +1,5 @@
 -- The answer to a decoded sheet with a new mass: 17, then 7 for the mass, then the sheet with the mass put in, which is within its limits.
+use Rattle.std.specs.Prelude.{Ok, Err}
 use Prim.Native.Nat.{ℕ, ◌+◌, ◌*◌, ◌-◌, ◌<◌, ◌≤◌}
 use mathlib.Core.Bool.{Bool, true, false, not, ◌||◌, true≢false}
 use mathlib.Core.List.{List}
@@ -9,7 +10,7 @@ use borrow.Author.Tests.{eqb-true, eqb-false}
 use lib.Dec.{eqb, ltb}
 use lib.ListN.{length, get_or-eq_default}
 use lib.Seq.{get_or-set_same, get_or-set_other}
-use Rattle.sheet.specs.declared.Reading.{Reading}
+use Rattle.sheet.specs.Refusals.{Reading}
 use Rattle.sheet.specs.declared.Sheet.{Sheet}
 use Rattle.sheet.specs.declared.Tier.{Tier}
 use Rattle.sheet.specs.Layout.{tier_fits, within, blank_tier}
@@ -19,13 +20,13 @@ use Rattle.sheet.proofs.OtherTiers.{with_tiers_fit}
 use Rattle.sheet.proofs.Rows.{row_holds, row_passed}
 use Rattle.statics.specs.declared.LoadRule.{LoadRule}
 use Rattle.statics.specs.Inner.Computed.{load_rule_of}
-use Rattle.answer.specs.declared.Outcome.{Outcome}
-use Rattle.answer.specs.declared.Outcome.TheVariants as O
+use Rattle.answer.specs.Outcomes.{Outcome}
 use Rattle.answer.specs.Checked.{room_for}
 use Rattle.answer.specs.Inner.Named.{answer_by, returned_as, written_as}
 use Rattle.preview_moves.specs.Inner.Moved.{weighing, moved, moved_refusal, moved_bytes, Answers}
 use Rattle.preview_moves.proofs.Copies.{mass_decides}
 use Rattle.preview_moves.proofs.Order.{stack_has}
+use Rattle.sheet.specs.Refusals.{numbers}
 
 -- a tier within its limits is there
 tier_there : (tiers : List Tier) (k : ℕ) → tier_fits (tier_at tiers k) ≡ true → k < length tiers
@@ -81,7 +82,7 @@ module _ (t : Sheet) (tier mass : ℕ) (before : List ℕ) where
     h ∙ ap (λ (q : Reading). written_as q (moved_bytes t tier mass) before) (sym e),
   )
 
-  pub without_tier : no_tier ≡ true → Answers t tier mass before before (O.Refused 17 tier)
+  pub without_tier : no_tier ≡ true → Answers t tier mass before before (Err (numbers 17 tier))
   without_tier e = by_refusal (row_holds _ _ e) refl refl
 
   module _ (e : no_tier ≡ false) where
@@ -91,7 +92,7 @@ module _ (t : Sheet) (tier mass : ℕ) (before : List ℕ) where
     pub below : tier - 1 < t.ntiers
     below = omega (arith, some, (stack_has t.ntiers tier e).1)
 
-    pub without_mass : not fits ≡ true → Answers t tier mass before before (O.Refused 7 (9 + 12 * (tier - 1)))
+    pub without_mass : not fits ≡ true → Answers t tier mass before before (Err (numbers 7 (9 + 12 * (tier - 1))))
     without_mass g = by_refusal (row_passed _ _ e ∙ row_holds _ _ g) refl refl
 
     pub with_mass :

@@ -1,12 +1,11 @@
 -- Document 02, P7: preview of a move. Given a stack sheet free of faults, a tier number and a new 2-byte mass, the preview returns and
 -- writes what the check would on a copy of the sheet with that mass put in.
-use Rattle.std.specs.Prelude.{ℕ, ◌+◌, ◌-◌, ◌||◌, List, [], ◌∷◌, ◌++◌, take, drop}
+use Rattle.std.specs.Prelude.{Ok, Err, ℕ, ◌+◌, ◌-◌, ◌||◌, List, [], ◌∷◌, ◌++◌, take, drop}
 use Rattle.arith.specs.Bytes.{bytes2}
-use Rattle.sheet.specs.declared.Reading.{Reading}
-use Rattle.sheet.specs.declared.Reading.TheVariants.{Taken, Refused}
+use Rattle.sheet.specs.Refusals.{Reading}
 use Rattle.sheet.specs.Layout.{tier_count, tier_place, ◌is◌, ◌above◌}
 use Rattle.sheet.specs.Refusals.{Row, row, ◌then◌, sheet_rows, first}
-use Rattle.answer.specs.declared.Outcome.{Outcome}
+use Rattle.answer.specs.Outcomes.{Outcome}
 use Rattle.answer.specs.Checked.{TurnedBack, Checked}
 
 -- the copy: the two bytes of the tier's mass, the fifth and sixth of its entry, are the new mass; tiers are counted from 1 here
@@ -26,8 +25,8 @@ move_refusal s tier = first (sheet_rows s then row17 s tier ∷ [])
 
 -- turned back with the buffer as it was; or else what is said of the copy holds
 abbrev pub UnlessTurnedBack : Reading → List ℕ → List ℕ → Outcome → Type 0 → Type 0
-UnlessTurnedBack (Refused c p) before after r said = TurnedBack c p before after r
-UnlessTurnedBack Taken before after r said = said
+UnlessTurnedBack (Err why) before after r said = TurnedBack why before after r
+UnlessTurnedBack (Ok _) before after r said = said
 
 -- the preview of the sheet s with a buffer that held `before`: the check of the copy
 pub record Previewed (margin : ℕ) (s : List ℕ) (tier mass : ℕ) (before after : List ℕ) (r : Outcome) : Type 0 where

@@ -1,4 +1,5 @@
 -- What each row settles: its refusal where it holds; where 18's does not, the ranges; where none does, the accelerations.
+use Rattle.std.specs.Prelude.{Ok, Err}
 use Prim.Native.Nat.{ℕ, ◌+◌, ◌*◌, ◌≤◌, ◌<◌}
 use mathlib.Core.Bool.{Bool, true, false, not, true≢false}
 use mathlib.Core.Path.{◌≡◌, refl, ap, sym, subst, ◌∙◌}
@@ -12,15 +13,14 @@ use lib.Signed.{◌≤ℤ◌, le_z, lt_z}
 use Rattle.arith.specs.Fractions.{nat, ◌*q◌}
 use Rattle.arith.specs.Wholes.{floor}
 use Rattle.sheet.specs.Layout.{◌is◌, ◌above◌}
+use Rattle.sheet.specs.Refusals.{numbers, unless_refused}
 use Rattle.sheet.proofs.Bools.{and_true, or_false, not_false}
 use Rattle.sheet.proofs.Rows.{no_rows, row_holds, row_passed}
 use Rattle.roll_parts.proofs.Signs.{square_above}
 use Rattle.roll.specs.declared.Condition.{Condition}
 use Rattle.roll.specs.declared.Accelerations.{Accelerations}
-use Rattle.roll.specs.declared.Rolled.TheVariants.{Given, Refused}
 use Rattle.roll.specs.ConditionA.{metres}
-use Rattle.roll.specs.Rounded.{far, along, off_unit, cut, transverse, vertical_most, vertical_least, row18, unless_refused}
-use Rattle.roll.specs.Rounded.{condition_a}
+use Rattle.roll.specs.Rounded.{far, along, off_unit, cut, transverse, vertical_most, vertical_least, row18, condition_a}
 use Rattle.roll.specs.Inner.Sums.{Legal, difference}
 use Rattle.roll.proofs.Formulas.{least_is}
 
@@ -84,26 +84,26 @@ module _ (g : Condition) where
   abbrev found : Accelerations
   found = record { aT = nat_abs (transverse g); aVmax = nat_abs (vertical_most g); aVmin = nat_abs (vertical_least g) }
 
-  pub refused_18 : out ≡ true → condition_a g ≡ Refused 18 0
+  pub refused_18 : out ≡ true → condition_a g ≡ Err (numbers 18 0)
   unfolding condition_a
   refused_18 e = ap (λ r. unless_refused r found) (row_holds _ _ e)
 
   module _ (e : out ≡ false) where
-    pub refused_19_1 : not (along (transverse g) 1500) ≡ true → condition_a g ≡ Refused 19 1
+    pub refused_19_1 : not (along (transverse g) 1500) ≡ true → condition_a g ≡ Err (numbers 19 1)
     unfolding condition_a
     refused_19_1 f = ap (λ r. unless_refused r found) (row_passed _ _ e ∙ row_holds _ _ f)
 
     module _ (f : not (along (transverse g) 1500) ≡ false) where
-      pub refused_19_2 : not (along (vertical_most g) 3000) ≡ true → condition_a g ≡ Refused 19 2
+      pub refused_19_2 : not (along (vertical_most g) 3000) ≡ true → condition_a g ≡ Err (numbers 19 2)
       unfolding condition_a
       refused_19_2 h = ap (λ r. unless_refused r found) (row_passed _ _ e ∙ row_passed _ _ f ∙ row_holds _ _ h)
 
       module _ (h : not (along (vertical_most g) 3000) ≡ false) where
-        pub refused_19_3 : not (along (vertical_least g) 1000) ≡ true → condition_a g ≡ Refused 19 3
+        pub refused_19_3 : not (along (vertical_least g) 1000) ≡ true → condition_a g ≡ Err (numbers 19 3)
         unfolding condition_a
         refused_19_3 k = ap (λ r. unless_refused r found) (row_passed _ _ e ∙ row_passed _ _ f ∙ row_passed _ _ h ∙ row_holds _ _ k)
 
-        pub given : not (along (vertical_least g) 1000) ≡ false → condition_a g ≡ Given found
+        pub given : not (along (vertical_least g) 1000) ≡ false → condition_a g ≡ Ok found
         unfolding condition_a
         given k =
             ap (λ r. unless_refused r found)

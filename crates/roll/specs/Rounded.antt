@@ -1,16 +1,13 @@
 -- Document 02, P8: the accelerations in whole thousandths of g, and what is refused.
-use Rattle.std.specs.Prelude.{ℕ, ◌+◌, ◌*◌, Bool, not, cond, ◌&&◌, ◌||◌, [], ◌∷◌, ℤ, pos, nat_abs, ◌-ℤ◌}
+use Rattle.std.specs.Prelude.{Result, ℕ, ◌+◌, ◌*◌, Bool, not, cond, ◌&&◌, ◌||◌, [], ◌∷◌, ℤ, pos, nat_abs, ◌-ℤ◌}
 use Rattle.std.specs.Int.Signed.{le_z}
 use Rattle.arith.specs.Fractions.{nat, ◌*q◌}
 use Rattle.arith.specs.Wholes.{floor, ceiling}
-use Rattle.sheet.specs.declared.Reading.{Reading}
-use Rattle.sheet.specs.declared.Reading.TheVariants as reading
 use Rattle.sheet.specs.Layout.{◌is◌, ◌above◌}
-use Rattle.sheet.specs.Refusals.{Row, row, first}
+use Rattle.sheet.specs.Refusals.{Row, row, first, unless_refused}
 use Rattle.roll.specs.declared.Condition.{Condition}
 use Rattle.roll.specs.declared.Accelerations.{Accelerations}
-use Rattle.roll.specs.declared.Rolled.{Rolled}
-use Rattle.roll.specs.declared.Rolled.TheVariants.{Given, Refused}
+use Rattle.sheet.specs.declared.Refusal.{Refusal}
 use Rattle.roll.specs.ConditionA.{a_t, a_vmax, a_vmin}
 
 -- A_T and A_Vmax are rounded up to thousandths, A_Vmin down, and A_Vmin alone is then cut at 1,000
@@ -52,11 +49,11 @@ row18 g =
 abbrev pub row19 : ℕ → ℕ → ℤ → Row
 row19 which most z = row 19 which (not (along z most))
 
--- the first row that holds turns the question back; where none does, the accelerations are given
-abbrev pub unless_refused : Reading → Accelerations → Rolled
-unless_refused reading.Taken a = Given a
-unless_refused (reading.Refused number second) a = Refused number second
+-- what is answered: accelerations, or why none are given
+abbrev pub Rolled : Type 0
+Rolled = Result Accelerations Refusal
 
+-- the first row that holds turns the question back; where none does, the accelerations are given
 unfoldable pub condition_a : Condition → Rolled
 condition_a g =
     unless_refused

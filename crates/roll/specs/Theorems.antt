@@ -1,14 +1,12 @@
 -- What is proved of accelerations from roll.
-use Rattle.std.specs.Prelude.{◌≤◌, true, ◌≡◌}
+use Rattle.std.specs.Prelude.{Ok, Err, ◌≤◌, true, ◌≡◌}
 use Rattle.arith.specs.Fractions.{Frac, nat, ◌≈◌, ◌*q◌}
 use Rattle.sheet.specs.declared.Tier.{Tier}
 use Rattle.sheet.specs.Layout.{tier_fits}
 use Rattle.roll.specs.declared.Condition.{Condition}
 use Rattle.roll.specs.declared.Accelerations.{Accelerations}
-use Rattle.roll.specs.declared.Rolled.{Rolled}
-use Rattle.roll.specs.declared.Rolled.TheVariants.{Given, Refused}
 use Rattle.roll.specs.ConditionA.{tenths, aft, fore}
-use Rattle.roll.specs.Rounded.{condition_a}
+use Rattle.roll.specs.Rounded.{Rolled, condition_a}
 
 -- k_3 is continuous: at 0.2 L and at 0.7 L the formulas on both sides give 0, so it does not matter which one is taken there
 -- (proofs/Joints)
@@ -22,8 +20,8 @@ Continuous = (L x-C : Frac) → Joints L x-C
 -- accelerations that are given are within document 01's limits, A_Vmin not above A_Vmax; a refusal is 18 or 19, with 3 at most
 -- (proofs/Limits)
 abbrev pub Within : Rolled → Type 0
-Within (Given a) = (a.aT ≤ 1500) × (a.aVmax ≤ 3000) × (a.aVmin ≤ 1000) × (a.aVmin ≤ a.aVmax)
-Within (Refused number second) = (18 ≤ number) × (number ≤ 19) × (second ≤ 3)
+Within (Ok a) = (a.aT ≤ 1500) × (a.aVmax ≤ 3000) × (a.aVmin ≤ 1000) × (a.aVmin ≤ a.aVmax)
+Within (Err why) = (18 ≤ why.number) × (why.number ≤ 19) × (why.second ≤ 3)
 
 abbrev pub AllWithin : Type 0
 AllWithin = (g : Condition) → Within (condition_a g)
@@ -38,6 +36,6 @@ with_accelerations t a =
 abbrev pub TiersFit : Type 0
 TiersFit =
     (g : Condition) (a : Accelerations) (t : Tier) →
-    condition_a g ≡ Given a →
+    condition_a g ≡ Ok a →
     tier_fits (with_accelerations t (record { aT = 0; aVmax = 0; aVmin = 0 })) ≡ true →
     tier_fits (with_accelerations t a) ≡ true

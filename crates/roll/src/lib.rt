@@ -12,6 +12,7 @@ ghost use Rattle.roll.specs.Rounded.{transverse, vertical_most, vertical_least, 
 ghost use Rattle.roll.specs.Inner.Sums.{Legal, sum, difference};
 
 use roll_parts::RollPart;
+use sheet::Refusal;
 
 // The ship's roll and a box's place. Sine and cosine of the roll angle and the heave factor a0 in ten-thousandths, the angle in
 // hundredths of a degree, the period in hundredths of a second; in mm the ship's length, the height of the roll centre, and the box's
@@ -38,33 +39,38 @@ pub struct Accelerations {
     pub aVmin: u64,
 }
 
-// Accelerations, or the two numbers of a refusal.
-#[derive(Clone, Copy)]
-pub enum Rolled {
-    Given(Accelerations),
-    Refused(u64, usize),
-}
-
 // The accelerations that Condition A gives, or why none are given.
-pub fn condition_a(given: Condition) -> Rolled
+pub fn condition_a(given: Condition) -> Result<Accelerations, Refusal>
     ensures { result ≡ condition_a given }
 {
     if refused(given) {
-        return Rolled::Refused(18, 0);
+        return Err(Refusal {
+            number: 18,
+            second: 0,
+        });
     }
     let a_t = transverse(given);
     if 1500 < a_t {
-        return Rolled::Refused(19, 1);
+        return Err(Refusal {
+            number: 19,
+            second: 1,
+        });
     }
     let a_vmax = vertical_most(given);
     if 3000 < a_vmax {
-        return Rolled::Refused(19, 2);
+        return Err(Refusal {
+            number: 19,
+            second: 2,
+        });
     }
     let a_vmin = vertical_least(given);
     if a_vmin < 0 {
-        return Rolled::Refused(19, 3);
+        return Err(Refusal {
+            number: 19,
+            second: 3,
+        });
     }
-    Rolled::Given(Accelerations {
+    Ok(Accelerations {
         aT: a_t,
         aVmax: a_vmax,
         aVmin: a_vmin as u64,

@@ -65,10 +65,7 @@ pub fn distance(a: i32, b: i32) -> u64
     requires { (nat_abs a ≤ 500000) × (nat_abs b ≤ 500000) }
     ensures { (result ≡ nat_abs (a -ℤ b)) × (result ≤ 1000000) }
 {
-    if a < b {
-        return (b - a) as u64;
-    }
-    (a - b) as u64
+    u64::from(a.abs_diff(b))
 }
 
 // Beyond 500 m either way.

@@ -1,45 +1,39 @@
 -- Where a sheet is taken, no row of the table holds: so every entry is there and every count is within its limit.
+use Rattle.std.specs.Prelude.{Ok, Err}
 use Prim.Native.Nat.{ℕ, zero, suc, ◌+◌, ◌<◌, ◌≤◌}
 use mathlib.Core.Bool.{Bool, true, false, cond}
 use mathlib.Core.List.{List, [], ◌∷◌, ◌++◌, flat_map}
-use mathlib.Core.Path.{◌≡◌, refl, subst}
+use mathlib.Core.Path.{◌≡◌, refl}
 use native.Mathlib.Nat.{add-zero, suc-add, add-suc, zero-add}
 use native.Mathlib.Omega.{arith}
 use borrow.Author.Tests.{ltb-false}
 use lib.ListN.{length}
-use Rattle.sheet.specs.declared.Reading.{Reading}
-use Rattle.sheet.specs.declared.Reading.TheVariants.{Taken, Refused}
 use Rattle.sheet.specs.Layout.{tier_count, tier_place, lash_place, door_place, spare_place}
 use Rattle.arith.specs.Bytes.{byte_at}
 use Rattle.arith.specs.Lists.{from, below}
 use Rattle.sheet.specs.Refusals.{Row, row2, first, head_rows, tier_count_rows, tier_rows, tiers_rows, lash_count_rows, lash_rows, end_rows}
 use Rattle.sheet.specs.Refusals.{door_rows, closed_rows, ends_rows, sheet_rows}
 use Rattle.sheet.proofs.Items.{count_fits}
-
-abbrev IsRefused : Reading → Type 0
-IsRefused Taken = ⊥
-IsRefused (Refused number second) = Unit {0}
-
-pub not_taken {ℓ} : {A : Type ℓ} (n p : ℕ) → Refused n p ≡ Taken → A
-not_taken n p e = absurd (subst IsRefused e tt)
+use Rattle.sheet.proofs.Results.{err_not_ok}
+use Rattle.sheet.specs.Refusals.{numbers}
 
 -- no row of the list holds
 abbrev pub Clear : List Row → Type 0
 Clear [] = Unit {0}
 Clear (r ∷ rs) = (r.holds ≡ false) × Clear rs
 
-pub clear : (rs : List Row) → first rs ≡ Taken → Clear rs
+pub clear : (rs : List Row) → first rs ≡ Ok tt → Clear rs
 unfolding first
 clear [] e = tt
 clear (r ∷ rs) e = go (λ h. clear rs h) r.holds refl e
   where
     go :
-        (first rs ≡ Taken → Clear rs) →
+        (first rs ≡ Ok tt → Clear rs) →
         (b : Bool) →
         r.holds ≡ b →
-        cond b (Refused r.number r.second) (first rs) ≡ Taken →
+        cond b (Err (numbers r.number r.second)) (first rs) ≡ Ok tt →
         (r.holds ≡ false) × Clear rs
-    go k true q h = not_taken _ _ h
+    go k true q h = err_not_ok h
     go k false q h = (q, k h)
 
 pub clear_append : (a b : List Row) → Clear (a ++ b) → (Clear a × Clear b)
@@ -59,7 +53,7 @@ clear_each f n k h q = rw zero-add at (clear_from f 0 n k h q)
 
 -- and the other way round
 
-pub clear_taken : (rs : List Row) → Clear rs → first rs ≡ Taken
+pub clear_taken : (rs : List Row) → Clear rs → first rs ≡ Ok tt
 unfolding first
 clear_taken [] h = refl
 clear_taken (r ∷ rs) h = rw h.0 (clear_taken rs h.1)
@@ -128,7 +122,7 @@ pub record Parts (s : List ℕ) : Type 0 where
   pub closed : Clear (closed_rows s)
   pub spare : Clear (row2 s (spare_place s) ∷ [])
 
-pub parts : (s : List ℕ) → first (sheet_rows s) ≡ Taken → Parts s
+pub parts : (s : List ℕ) → first (sheet_rows s) ≡ Ok tt → Parts s
 parts s e =
     let c1 = clear_append (head_rows s) (tiers_rows s ++ ends_rows s) (clear (sheet_rows s) e) in
     let c2 = clear_append (tiers_rows s) (ends_rows s) c1.1 in

@@ -1,5 +1,6 @@
 -- Only the first 452 bytes of an input count: a taken sheet has 451 at most, and of a longer input 2 tells the first spare byte, which is
 -- one of the 452.
+use Rattle.std.specs.Prelude.{Ok, Err}
 use Prim.Native.Nat.{ℕ, zero, suc, ◌+◌, ◌<◌, ◌≤◌}
 use mathlib.Core.Bool.{Bool, true, false}
 use mathlib.Core.List.{List, [], ◌∷◌, ◌++◌, flat_map}
@@ -11,8 +12,8 @@ use lib.Dec.{ltb}
 use lib.ListN.{length, get_or, take, length-take}
 use lib.Seq.{take_all, get_or-take}
 use Rattle.arith.specs.Bytes.{byte_at}
-use Rattle.sheet.specs.declared.Reading.{Reading}
-use Rattle.sheet.specs.declared.Reading.TheVariants.{Taken, Refused}
+use Rattle.sheet.specs.Refusals.{Reading}
+use Rattle.sheet.specs.declared.Refusal.{Refusal}
 use Rattle.sheet.specs.declared.Sheet.{Sheet}
 use Rattle.sheet.specs.Layout.{tier_of, lash_of, tier_count, tier_place, lash_place, door_place, closed_place, spare_place, sheet_of}
 use Rattle.arith.specs.Lists.{from, below}
@@ -23,31 +24,31 @@ use Rattle.sheet.specs.Theorems.{FirstBytesDecide}
 use Rattle.sheet.proofs.Items.{count_fits}
 use Rattle.sheet.proofs.Rows.{row_holds, row_passed, or_else, first_append}
 use Rattle.sheet.proofs.Clear.{clear, few_tiers, few_lashes}
-use Rattle.sheet.proofs.Refusal.{refusal_of_lem}
+use Rattle.sheet.proofs.CallRefusals.{decoded_taken, decoded_refused, decoded_by, decoded_not, refusal_of_lem}
 use Rattle.sheet.proofs.SameBytes.{Agree, head_same, tier_same, lash_same}
+use Rattle.sheet.specs.Refusals.{numbers}
 
 -- two readings are one refusal
 record Alike (r q : Reading) : Type 0 where
-  number : ℕ
-  second : ℕ
-  left : r ≡ Refused number second
-  right : q ≡ Refused number second
+  why : Refusal
+  left : r ≡ Err why
+  right : q ≡ Err why
 
 -- what follows a part counts only where no row of the part holds
 module _ (a a' b b' : List Row) (e : first a ≡ first a') where
-  followed : (first a ≡ Taken → first b ≡ first b') → first (a ++ b) ≡ first (a' ++ b')
+  followed : (first a ≡ Ok tt → first b ≡ first b') → first (a ++ b) ≡ first (a' ++ b')
   followed h = rw (first_append a b, first_append a' b', ← e) (go (first a) h)
     where
-      go : (r : Reading) → (r ≡ Taken → first b ≡ first b') → or_else r (first b) ≡ or_else r (first b')
-      go Taken k = k refl
-      go (Refused n p) k = refl
+      go : (r : Reading) → (r ≡ Ok tt → first b ≡ first b') → or_else r (first b) ≡ or_else r (first b')
+      go (Ok _) k = k refl
+      go (Err why) k = refl
 
-  followed_alike : (first a ≡ Taken → Alike (first b) (first b')) → Alike (first (a ++ b)) (first (a' ++ b'))
+  followed_alike : (first a ≡ Ok tt → Alike (first b) (first b')) → Alike (first (a ++ b)) (first (a' ++ b'))
   followed_alike h = rw (first_append a b, first_append a' b', ← e) (go (first a) h)
     where
-      go : (r : Reading) → (r ≡ Taken → Alike (first b) (first b')) → Alike (or_else r (first b)) (or_else r (first b'))
-      go Taken k = k refl
-      go (Refused n p) k = record { number = n; second = p; left = refl; right = refl }
+      go : (r : Reading) → (r ≡ Ok tt → Alike (first b) (first b')) → Alike (or_else r (first b)) (or_else r (first b'))
+      go (Ok _) k = k refl
+      go (Err why) k = record { why = why; left = refl; right = refl }
 
 each :
     (f g : ℕ → List Row) (i left m : ℕ) →
@@ -64,7 +65,7 @@ each f g i (suc left) m b h =
 enough : (s : List ℕ) → 452 ≤ length s → (at size : ℕ) → at + size ≤ 452 → (rs : List Row) → first (row1 s at size ∷ rs) ≡ first rs
 enough s l at size h rs = row_passed _ rs (le-ltb (length s) (at + size) (omega arith))
 
-spare : (s : List ℕ) → spare_place s < length s → first (row2 s (spare_place s) ∷ []) ≡ Refused 2 (spare_place s)
+spare : (s : List ℕ) → spare_place s < length s → first (row2 s (spare_place s) ∷ []) ≡ Err (numbers 2 (spare_place s))
 spare s h = row_holds _ [] (lt-ltb (spare_place s) (length s) h)
 
 same_decoded : (r q : Reading) (t u : Sheet) → Alike r q → unless_refused r t ≡ unless_refused q u
@@ -99,7 +100,7 @@ module _ (s t : List ℕ) (ls : 452 ≤ length s) (lt : 452 ≤ length t) (same 
       ∙ rw (tier_alike (tier_place k) (omega arith), tier_alike 9 (omega arith))
       (sym (enough t lt (tier_place k) 12 (omega arith) (row7 t k ∷ row8 t k ∷ [])))
 
-  few : first (tier_count_rows s) ≡ Taken → tier_count s ≤ 10
+  few : first (tier_count_rows s) ≡ Ok tt → tier_count s ≤ 10
   few e = (count_fits (tier_count s) (clear (tier_count_rows s) e).1.0).1
 
   tiers_rows_lem : first (tiers_rows s) ≡ first (tiers_rows t)
@@ -129,7 +130,7 @@ module _ (s t : List ℕ) (ls : 452 ≤ length s) (lt : 452 ≤ length t) (same 
       enough s ls at 1 (omega arith) (row9 s at ∷ [])
       ∙ rw (same at (omega arith)) (sym (enough t lt at 1 (omega arith) (row9 t at ∷ [])))
 
-  few_at : (at : ℕ) → first (lash_count_rows s at) ≡ Taken → byte_at s at ≤ 8
+  few_at : (at : ℕ) → first (lash_count_rows s at) ≡ Ok tt → byte_at s at ≤ 8
   few_at at e = ltb-false 8 (byte_at s at) (clear (lash_count_rows s at) e).1.0
 
   end_rows_lem : (n at : ℕ) → at ≤ 290 → first (end_rows n s at) ≡ first (end_rows n t at)
@@ -153,9 +154,8 @@ module _ (s t : List ℕ) (ls : 452 ≤ length s) (lt : 452 ≤ length t) (same 
       Alike (first (row2 s (spare_place s) ∷ [])) (first (row2 t (spare_place t) ∷ []))
   spare_alike h b e =
       record {
-        number = 2;
-        second = spare_place t;
-        left = spare s (omega arith) ∙ ap (Refused 2) e;
+        why = numbers 2 (spare_place t);
+        left = spare s (omega arith) ∙ ap (λ p. Err (numbers 2 p)) e;
         right = spare t (omega (arith, e));
       }
 
@@ -191,10 +191,17 @@ first_452 s = go (ltb (length s) 452) refl
         let long : 452 ≤ length s = ltb-false (length s) 452 e in
         long_alike (take 452 s) s (rw length-take (omega arith)) long (λ i h. get_or-take 452 s i 0 h)
 
+pub reading_452 : (s : List ℕ) → first (sheet_rows (take 452 s)) ≡ first (sheet_rows s)
+reading_452 s = go (first (sheet_rows s)) refl
+  where
+    go : (r : Reading) → first (sheet_rows s) ≡ r → first (sheet_rows (take 452 s)) ≡ r
+    go (Ok _) e = (decoded_taken (take 452 s) (first_452 s ∙ decoded_by s e)).0
+    go (Err why) e = decoded_refused (take 452 s) (first_452 s ∙ decoded_not s e)
+
 pub refusal_of_452 : (s : List ℕ) (own : List Row) (needed room : ℕ) → refusal_of (take 452 s) own needed room ≡ refusal_of s own needed room
 refusal_of_452 s own needed room =
     refusal_of_lem (take 452 s) own needed room
-    ∙ ap (λ d. or_else d.reading (first (own ++ (row13 needed room ∷ [])))) (first_452 s)
+    ∙ ap (λ r. or_else r (first (own ++ (row13 needed room ∷ [])))) (reading_452 s)
     ∙ sym (refusal_of_lem s own needed room)
 
 pub refusal_452 : (s : List ℕ) (room : ℕ) → refusal (take 452 s) room ≡ refusal s room

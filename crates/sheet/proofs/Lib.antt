@@ -1,9 +1,10 @@
+pub mod Results
 -- Theorems for the reader and for the crates above.
 pub mod Limits
 pub mod TakenSheets
 pub mod FourALevel
 pub mod SheetLimits
-pub mod Refusal
+pub mod CallRefusals
 pub mod Routes
 pub mod FirstBytes
 pub mod OtherTiers

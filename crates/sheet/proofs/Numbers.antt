@@ -1,4 +1,5 @@
 -- The two numbers of a refusal: of a sheet, 1 to 12 and at most 451; of a check, 13 with 834 too; of any call, its own rows' besides.
+use Rattle.std.specs.Prelude.{Ok, Err}
 use Prim.Native.Nat.{ℕ, zero, suc, ◌+◌, ◌<◌, ◌≤◌}
 use mathlib.Core.Bool.{Bool, true, false, cond}
 use mathlib.Core.List.{List, [], ◌∷◌, ◌++◌, flat_map}
@@ -6,41 +7,43 @@ use mathlib.Core.Path.{◌≡◌, refl, sym, subst}
 use native.Mathlib.Omega.{arith}
 use borrow.Author.Tests.{ltb-true, ltb-false}
 use lib.ListN.{length}
-use Rattle.sheet.specs.declared.Reading.{Reading}
-use Rattle.sheet.specs.declared.Reading.TheVariants.{Taken, Refused}
+use Rattle.sheet.specs.Refusals.{Reading}
 use Rattle.sheet.specs.Layout.{tier_count, tier_place, lash_place, door_place, closed_place}
 use Rattle.arith.specs.Bytes.{byte_at}
 use Rattle.arith.specs.Lists.{from, below}
 use Rattle.sheet.specs.Refusals.{Row, row1, row13, first, head_rows, tier_count_rows, tier_rows, tiers_rows, lash_count_rows, lash_rows}
 use Rattle.sheet.specs.Refusals.{end_rows, door_rows, closed_rows, sheet_rows, refusal_of, longest_answer, refusal}
 use Rattle.sheet.proofs.Rows.{or_else, first_append}
-use Rattle.sheet.proofs.Clear.{clear, not_taken, few_tiers, few_lashes}
+use Rattle.sheet.proofs.Clear.{clear, few_tiers, few_lashes}
+use Rattle.sheet.proofs.Results.{err_not_ok}
 use Rattle.sheet.proofs.Items.{count_fits}
+use Rattle.sheet.specs.declared.Refusal.{Refusal}
+use Rattle.sheet.specs.Refusals.{numbers}
 
 -- a refusal with a number from 1 to c and a second number of at most p
 abbrev Within : ℕ → ℕ → Reading → Type 0
-Within c p Taken = Unit {0}
-Within c p (Refused number second) = (1 ≤ number) × (number ≤ c) × (second ≤ p)
+Within c p (Ok _) = Unit {0}
+Within c p (Err why) = (1 ≤ why.number) × (why.number ≤ c) × (why.second ≤ p)
 
 module _ (c p : ℕ) where
   row_within :
       (r : Row) (rs : List Row) →
-      (r.holds ≡ true → Within c p (Refused r.number r.second)) →
+      (r.holds ≡ true → Within c p (Err (numbers r.number r.second))) →
       Within c p (first rs) →
       Within c p (first (r ∷ rs))
   unfolding first
   row_within r rs h k = go r.holds refl
     where
-      go : (b : Bool) → r.holds ≡ b → Within c p (cond b (Refused r.number r.second) (first rs))
+      go : (b : Bool) → r.holds ≡ b → Within c p (cond b (Err (numbers r.number r.second)) (first rs))
       go true e = h e
       go false e = k
 
-  parts_within : (a b : List Row) → Within c p (first a) → (first a ≡ Taken → Within c p (first b)) → Within c p (first (a ++ b))
+  parts_within : (a b : List Row) → Within c p (first a) → (first a ≡ Ok tt → Within c p (first b)) → Within c p (first (a ++ b))
   parts_within a b h k = rw (first_append a b) (go (first a) refl h)
     where
       go : (q : Reading) → first a ≡ q → Within c p q → Within c p (or_else q (first b))
-      go Taken e w = k e
-      go (Refused n m) e w = w
+      go (Ok _) e w = k e
+      go (Err why) e w = w
 
   each_within :
       (f : ℕ → List Row) (i left n : ℕ) →
@@ -122,36 +125,36 @@ module _ (s : List ℕ) where
 
 -- of a sheet
 pub sheet_numbers :
-    (s : List ℕ) {number second : ℕ} →
-    first (sheet_rows s) ≡ Refused number second →
-    (1 ≤ number) × (number ≤ 12) × (second ≤ 451)
+    (s : List ℕ) {why : Refusal} →
+    first (sheet_rows s) ≡ Err why →
+    (1 ≤ why.number) × (why.number ≤ 12) × (why.second ≤ 451)
 sheet_numbers s e = subst (Within 12 451) e (sheet_bounded s)
 
 -- of an end whose count stands at 290 or before
 pub end_numbers :
     (n : ℕ) (s : List ℕ) (at : ℕ) →
     at ≤ 290 →
-    {number second : ℕ} →
-    first (end_rows n s at) ≡ Refused number second →
-    (1 ≤ number) × (number ≤ 12) × (second ≤ 451)
+    {why : Refusal} →
+    first (end_rows n s at) ≡ Err why →
+    (1 ≤ why.number) × (why.number ≤ 12) × (why.second ≤ 451)
 end_numbers n s at h e = subst (Within 12 451) e (end_bounded s n at h)
 
 wider : {c p : ℕ} → 12 ≤ c → 451 ≤ p → (q : Reading) → Within 12 451 q → Within c p q
-wider a b Taken w = tt
-wider a b (Refused number second) w = (w.0, omega (arith, w.1), omega (arith, w.2))
+wider a b (Ok _) w = tt
+wider a b (Err why) w = (w.0, omega (arith, w.1), omega (arith, w.2))
 
 within_by :
     (c p : ℕ) (q : Reading) →
-    ((number second : ℕ) → q ≡ Refused number second → (1 ≤ number) × (number ≤ c) × (second ≤ p)) →
+    ((why : Refusal) → q ≡ Err why → (1 ≤ why.number) × (why.number ≤ c) × (why.second ≤ p)) →
     Within c p q
-within_by c p Taken h = tt
-within_by c p (Refused number second) h = h number second refl
+within_by c p (Ok _) h = tt
+within_by c p (Err why) h = h why refl
 
 -- of a call with rows of its own, whose numbers are at most c and second numbers at most p, and which needs so many bytes of `room`
 module _ (c p : ℕ) (table : 13 ≤ c) (places : 451 ≤ p) (s : List ℕ) (own : List Row) (needed room : ℕ) (enough : needed ≤ p)
-    (owns : (number second : ℕ) → first own ≡ Refused number second → (1 ≤ number) × (number ≤ c) × (second ≤ p)) where
+    (owns : (why : Refusal) → first own ≡ Err why → (1 ≤ why.number) × (why.number ≤ c) × (why.second ≤ p)) where
   pub call_numbers :
-      {number second : ℕ} → refusal_of s own needed room ≡ Refused number second → (1 ≤ number) × (number ≤ c) × (second ≤ p)
+      {why : Refusal} → refusal_of s own needed room ≡ Err why → (1 ≤ why.number) × (why.number ≤ c) × (why.second ≤ p)
   unfolding refusal_of first
   call_numbers e =
       subst (Within c p) e
@@ -162,12 +165,12 @@ module _ (c p : ℕ) (table : 13 ≤ c) (places : 451 ≤ p) (s : List ℕ) (own
 
 -- of a check with an answer buffer of `room` bytes
 pub check_numbers :
-    (s : List ℕ) (room : ℕ) {number second : ℕ} →
-    refusal s room ≡ Refused number second →
-    (1 ≤ number) × (number ≤ 13) × (second ≤ longest_answer)
+    (s : List ℕ) (room : ℕ) {why : Refusal} →
+    refusal s room ≡ Err why →
+    (1 ≤ why.number) × (why.number ≤ 13) × (why.second ≤ longest_answer)
 unfolding refusal first
 check_numbers s room e =
     call_numbers 13 longest_answer (omega arith) (omega arith) s [] longest_answer room (omega arith) none e
   where
-    none : (number second : ℕ) → first [] ≡ Refused number second → (1 ≤ number) × (number ≤ 13) × (second ≤ longest_answer)
-    none number second q = not_taken number second (sym q)
+    none : (why : Refusal) → first [] ≡ Err why → (1 ≤ why.number) × (why.number ≤ 13) × (why.second ≤ longest_answer)
+    none why q = err_not_ok (sym q)

@@ -1,4 +1,5 @@
 -- A copy of a taken sheet in which nothing but tiers is other: what it holds, and that its tiers alone can turn it back.
+use Rattle.std.specs.Prelude.{Ok, Err}
 use Prim.Native.Nat.{ℕ, zero, suc, ◌+◌, ◌<◌, ◌≤◌}
 use mathlib.Core.Bool.{true, false}
 use mathlib.Core.List.{List, [], ◌∷◌, ◌++◌, flat_map}
@@ -10,8 +11,7 @@ use Rattle.arith.specs.Bytes.{byte_at}
 use Rattle.arith.specs.Lists.{below}
 use Rattle.sheet.specs.declared.Tier.{Tier}
 use Rattle.sheet.specs.declared.Sheet.{Sheet}
-use Rattle.sheet.specs.declared.Reading.{Reading}
-use Rattle.sheet.specs.declared.Reading.TheVariants.{Taken, Refused}
+use Rattle.sheet.specs.Refusals.{Reading}
 use Rattle.sheet.specs.Layout.{head_of, tier_count, tier_place, tier_in, lash_place, lash_in, door_place, closed_place, spare_place}
 use Rattle.sheet.specs.Layout.{tier_fits, lashes_in, tiers_in, sheet_of}
 use Rattle.sheet.specs.Fits.{tier_at, Fits}
@@ -21,6 +21,7 @@ use Rattle.sheet.specs.Inner.Changed.{with_tiers}
 use Rattle.sheet.proofs.Clear.{Clear, Parts, parts, clear_taken, clear_join, clear_all, tiers_parts, tiers_there}
 use Rattle.sheet.proofs.Rows.{row_holds, row_passed, or_else, first_append, behind_taken, first_refused}
 use Rattle.sheet.proofs.SameBytes.{head_same, lash_same}
+use Rattle.sheet.specs.Refusals.{numbers}
 
 -- c is a copy of s: as many bytes, the same up to the tier count and from the door end's count on
 pub record OnlyTiersDiffer (s c : List ℕ) : Type 0 where
@@ -115,18 +116,18 @@ module _ {s c : List ℕ} (o : OnlyTiersDiffer s c) where
       (rw (o.size, spare_place_lem)))
 
   -- where s is taken, only the tiers can turn the copy back
-  module _ (taken : first (sheet_rows s) ≡ Taken) where
+  module _ (taken : first (sheet_rows s) ≡ Ok tt) where
     p : Parts s
     p = parts s taken
 
     abbrev each_tier : List Row
     each_tier = flat_map (tier_rows c) (below (tier_count s))
 
-    no_more : (r q : Reading) → q ≡ Taken → or_else r q ≡ r
-    no_more Taken q e = e
-    no_more (Refused number second) q e = refl
+    no_more : (r q : Reading) → q ≡ Ok tt → or_else r q ≡ r
+    no_more (Ok _) q e = e
+    no_more (Err why) q e = refl
 
-    ends_taken : first (ends_rows s) ≡ Taken
+    ends_taken : first (ends_rows s) ≡ Ok tt
     ends_taken =
         clear_taken (ends_rows s)
         (clear_join (door_rows s) (closed_rows s ++ (row2 s (spare_place s) ∷ [])) p.door
@@ -151,7 +152,7 @@ module _ {s c : List ℕ} (o : OnlyTiersDiffer s c) where
           (le-ltb (length c) (tier_place k + 12) (there k h), (rw f refl, (rw (eq-eqb _ _ (sizes k h)) refl, tt)))
 
       -- each is within its limits
-      pub tiers_taken : ((k : ℕ) → k < tier_count s → tier_fits (tier_in c k) ≡ true) → first (sheet_rows c) ≡ Taken
+      pub tiers_taken : ((k : ℕ) → k < tier_count s → tier_fits (tier_in c k) ≡ true) → first (sheet_rows c) ≡ Ok tt
       tiers_taken fit = by_tiers ∙ clear_taken each_tier (clear_all (tier_rows c) (tier_count s) (λ k h. tier_passes k h (fit k h)))
 
       -- tier k is the first that is not
@@ -160,7 +161,7 @@ module _ {s c : List ℕ} (o : OnlyTiersDiffer s c) where
           k < tier_count s →
           ((j : ℕ) → j < k → tier_fits (tier_in c j) ≡ true) →
           tier_fits (tier_in c k) ≡ false →
-          first (sheet_rows c) ≡ Refused 7 (tier_place k)
+          first (sheet_rows c) ≡ Err (numbers 7 (tier_place k))
       tier_refused k h fit bad =
           by_tiers
           ∙ first_refused (tier_rows c) (tier_count s) k h

@@ -1,4 +1,5 @@
 -- Every sheet within its limits is taken: its bytes, written out, decode to it.
+use Rattle.std.specs.Prelude.{Ok}
 use Prim.Native.Nat.{ℕ, zero, suc, ◌+◌, ◌*◌, ◌<◌, ◌≤◌}
 use mathlib.Core.Bool.{false}
 use mathlib.Core.List.{List, [], ◌∷◌, ◌++◌, map, flat_map, append_assoc, append-nil}
@@ -10,7 +11,6 @@ use lib.ListN.{length, get_or, take, length-append}
 use lib.Seq.{get_or-take}
 use Rattle.sheet.specs.declared.Lash.{Lash}
 use Rattle.sheet.specs.declared.Sheet.{Sheet}
-use Rattle.sheet.specs.declared.Reading.TheVariants.{Taken}
 use Rattle.sheet.specs.Layout.{head_of, tier_count, tier_place, lash_place, door_place, closed_place, spare_place, blank_tier, blank_lash}
 use Rattle.sheet.specs.Layout.{tiers_in, lashes_in, sheet_of}
 use Rattle.arith.specs.Bytes.{byte_at}
@@ -234,7 +234,7 @@ module _ (t : Sheet) (f : Fits t) (p : Padded t) where
   nothing_spare =
       (le-ltb (spare_place s) (length s) (omega (arith, spare_place_lem, sym (ap length after_door) ∙ whole_length)), tt)
 
-  taken : first (sheet_rows s) ≡ Taken
+  taken : first (sheet_rows s) ≡ Ok tt
   taken =
       clear_taken (sheet_rows s)
       (clear_join (head_rows s) (tiers_rows s ++ ends_rows s) head_clear

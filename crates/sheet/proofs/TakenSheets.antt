@@ -1,28 +1,27 @@
 -- A taken sheet is within its limits.
+use Rattle.std.specs.Prelude.{Ok}
 use Prim.Native.Nat.{ℕ, suc, ◌-◌, ◌<◌, ◌≤◌}
 use mathlib.Core.Bool.{false, not}
 use mathlib.Core.List.{List, map}
-use mathlib.Core.Path.{◌≡◌, refl, sym, ap}
+use mathlib.Core.Path.{◌≡◌, sym, ap, subst}
 use native.Mathlib.Omega.{arith}
 use borrow.Author.Tests.{ltb-false, eqb-true, not-false}
 use lib.Dec.{ltb, eqb}
 use lib.ListN.{length, get_or, take, replicate}
 use lib.Seq.{take_at}
-use Rattle.sheet.specs.declared.Reading.{Reading}
-use Rattle.sheet.specs.declared.Reading.TheVariants.{Taken, Refused}
-use Rattle.sheet.specs.declared.Decoded.{Decoded}
+use Rattle.sheet.specs.declared.Sheet.{Sheet}
 use Rattle.sheet.specs.Layout.{head_of, tier_count, tier_in, lash_in, door_place, closed_place, spare_place, rule_fits, breaking_fits}
 use Rattle.sheet.specs.Layout.{blank_tier, blank_lash, tiers_in, lashes_in, sheet_of}
 use Rattle.arith.specs.Bytes.{byte_at}
 use Rattle.arith.specs.Lists.{below, padded}
-use Rattle.sheet.specs.Refusals.{not_later, first, end_rows, sheet_rows, unless_refused, decoded}
+use Rattle.sheet.specs.Refusals.{not_later, first, end_rows, sheet_rows, decoded}
 use Rattle.sheet.specs.Fits.{EndFits, Fits, Padded}
 use Rattle.sheet.specs.Theorems.{TakenWithinLimits}
 use Rattle.arith.proofs.Arrays.{length_entries, entry_at}
 use Rattle.sheet.proofs.Bools.{or_false}
-use Rattle.sheet.proofs.Clear.{Clear, Parts, parts, not_taken, tier_clear, some_tier, few_tiers, lash_clear, few_lashes}
+use Rattle.sheet.proofs.Clear.{Clear, Parts, parts, tier_clear, some_tier, few_tiers, lash_clear, few_lashes}
 use Rattle.sheet.proofs.Clear.{lashes_there}
-use Rattle.sheet.proofs.Refusal.{decoded_sheet}
+use Rattle.sheet.proofs.CallRefusals.{decoded_taken}
 
 module _ (n : ℕ) (s : List ℕ) (at : ℕ) (h : Clear (end_rows n s at)) where
   lash_held : (k : ℕ) → k < byte_at s at → get_or (lashes_in s at (byte_at s at)) k blank_lash ≡ lash_in s at k
@@ -39,7 +38,7 @@ module _ (n : ℕ) (s : List ℕ) (at : ℕ) (h : Clear (end_rows n s at)) where
             λ k q. rw (lash_held k (omega (arith, q)), lash_held (suc k) q) (not-false _ (lash_clear n s at h (suc k) q).1.1.1.0);
       }
 
-pub taken_fits : (s : List ℕ) → first (sheet_rows s) ≡ Taken → Fits (sheet_of s)
+pub taken_fits : (s : List ℕ) → first (sheet_rows s) ≡ Ok tt → Fits (sheet_of s)
 unfolding sheet_of
 taken_fits s e =
     record {
@@ -87,7 +86,7 @@ sheet_padded s =
         (sym (take_at (map f (below n)) (replicate (size - length (map f (below n))) b) n (length_entries f b n)))
 
 -- a taken sheet ends with its last entry, and has 23 to 451 bytes
-module _ (s : List ℕ) (e : first (sheet_rows s) ≡ Taken) where
+module _ (s : List ℕ) (e : first (sheet_rows s) ≡ Ok tt) where
   pub taken_length : length s ≡ spare_place s
   taken_length =
       let p = parts s e in
@@ -103,17 +102,8 @@ module _ (s : List ℕ) (e : first (sheet_rows s) ≡ Taken) where
       (omega (arith, taken_length), omega (arith, taken_length))
 
 -- what a caller of `decode` has where the sheet is taken
-pub decoded_fits : (s : List ℕ) (d : Decoded) → d ≡ decoded s → d.reading ≡ Taken → Fits d.sheet
-unfolding decoded
-decoded_fits s d e = rw e (go (first (sheet_rows s)) refl)
-  where
-    go :
-        (r : Reading) →
-        first (sheet_rows s) ≡ r →
-        (unless_refused r (sheet_of s)).reading ≡ Taken →
-        Fits (unless_refused r (sheet_of s)).sheet
-    go Taken q h = taken_fits s q
-    go (Refused n p) q h = not_taken n p h
+pub decoded_fits : (s : List ℕ) {t : Sheet} → decoded s ≡ Ok t → Fits t
+decoded_fits s e = let d = decoded_taken s e in subst Fits d.1 (taken_fits s d.0)
 
 pub taken_within_limits : TakenWithinLimits
-taken_within_limits s e = (decoded_fits s (decoded s) refl e, rw (decoded_sheet s e) (sheet_padded s))
+taken_within_limits s t e = (decoded_fits s e, subst Padded (decoded_taken s e).1 (sheet_padded s))

@@ -1,6 +1,6 @@
 -- Document 01, "The stack sheet": where each field lies, the codes and limits of the fields, and what a sheet holds.
 -- A byte past the end reads 0, so that each field has a value on any bytes; the refusals say when the bytes are too few.
-use Rattle.std.specs.Prelude.{ℕ, ◌+◌, ◌*◌, ◌/◌, ◌%◌, Bool, cond, ◌&&◌, ◌||◌, List, map, leb, ltb, eqb, replicate}
+use Rattle.std.specs.Prelude.{ℕ, ◌+◌, ◌*◌, ◌/◌, ◌%◌, Bool, cond, ◌&&◌, ◌||◌, List, map, leb, ltb, eqb}
 use Rattle.arith.specs.Bytes.{byte_at, le2, le4}
 use Rattle.arith.specs.Lists.{below, padded}
 use Rattle.sheet.specs.declared.Head.{Head}
@@ -165,16 +165,4 @@ sheet_of s =
       ndoor = byte_at s (door_place s);
       closed = lashes_in s (closed_place s) (byte_at s (closed_place s));
       nclosed = byte_at s (closed_place s);
-    }
-
-unfoldable pub blank_sheet : Sheet
-blank_sheet =
-    record {
-      head = record { rule = 0; route = 0; lockMaterial = 0; zero = 0; lockBreakingLoad = 0 };
-      tiers = replicate 10 blank_tier;
-      ntiers = 0;
-      door = replicate 8 blank_lash;
-      ndoor = 0;
-      closed = replicate 8 blank_lash;
-      nclosed = 0;
     }

@@ -1,16 +1,22 @@
 -- Document 01, "When a sheet is turned back": the table row by row, the order of reading, and what decoding a sheet gives.
 -- Every row has a meaning on any bytes; only the first row that holds counts.
-use Rattle.std.specs.Prelude.{ℕ, zero, suc, ◌+◌, Bool, false, not, cond, ◌&&◌, ◌||◌, length}
+use Rattle.std.specs.Prelude.{Result, Ok, Err, ℕ, zero, suc, ◌+◌, Bool, false, not, cond, ◌&&◌, ◌||◌, length}
 use mathlib.Core.List.{List, [], ◌∷◌, ◌++◌, flat_map}
 use Rattle.sheet.specs.declared.Lash.{Lash}
 use Rattle.sheet.specs.declared.Sheet.{Sheet}
-use Rattle.sheet.specs.declared.Reading.{Reading}
-use Rattle.sheet.specs.declared.Reading.TheVariants.{Taken, Refused}
-use Rattle.sheet.specs.declared.Decoded.{Decoded}
+use Rattle.sheet.specs.declared.Refusal.{Refusal}
 use Rattle.sheet.specs.Layout.{head_of, tier_count, tier_place, tier_in, lash_place, lash_in, door_place, closed_place, spare_place, ◌is◌}
-use Rattle.sheet.specs.Layout.{◌above◌, rule_fits, tier_fits, breaking_fits, lash_fits, sheet_of, blank_sheet}
+use Rattle.sheet.specs.Layout.{◌above◌, rule_fits, tier_fits, breaking_fits, lash_fits, sheet_of}
 use Rattle.arith.specs.Bytes.{byte_at}
 use Rattle.arith.specs.Lists.{below}
+
+-- the two numbers that are returned of a sheet that is turned back
+abbrev pub numbers : ℕ → ℕ → Refusal
+numbers n p = record { number = n; second = p }
+
+-- what comes of reading: the sheet is taken, or turned back
+abbrev pub Reading : Type 0
+Reading = Result Unit Refusal
 
 -- a row: the two numbers that are returned, and whether its condition holds
 pub record Row : Type 0 where
@@ -130,15 +136,16 @@ sheet_rows s = head_rows s then tiers_rows s then ends_rows s
 
 -- the first row that holds turns the sheet back; where none does, it is taken
 unfoldable pub first : List Row → Reading
-first [] = Taken
-first (r ∷ rs) = cond r.holds (Refused r.number r.second) (first rs)
+first [] = Ok tt
+first (r ∷ rs) = cond r.holds (Err (numbers r.number r.second)) (first rs)
 
--- a sheet decoded: as it stands where it is taken, a blank one where it is turned back
-abbrev pub unless_refused : Reading → Sheet → Decoded
-unless_refused Taken held = record { reading = Taken; sheet = held }
-unless_refused (Refused number second) held = record { reading = Refused number second; sheet = blank_sheet }
+-- what is found where a reading turns nothing back
+abbrev pub unless_refused : {A : Type 0} → Reading → A → Result A Refusal
+unless_refused (Ok _) found = Ok found
+unless_refused (Err why) found = Err why
 
-unfoldable pub decoded : List ℕ → Decoded
+-- a sheet decoded, where it is taken
+unfoldable pub decoded : List ℕ → Result Sheet Refusal
 decoded s = unless_refused (first (sheet_rows s)) (sheet_of s)
 
 -- 13 comes last: what a call is turned back for that reads the sheet, then tests rows of its own, and needs so many bytes of an answer

@@ -8,7 +8,8 @@ ghost use Rattle.sheet.specs.Layout.{exposed, turned};
 ghost use Rattle.sheet.specs.Lashings.{lashing_of};
 ghost use Rattle.sheet.specs.Routes.{route_percent};
 
-// Fields have the widths of the sheet's own fields, so that a sheet is cheap to copy.
+// Fields have the widths of the sheet's own fields, so that a sheet is cheap to copy. Codes stay numbers, no enums: a field holds whatever
+// its byte does (`head_of`, `tier_of`, `lash_of` of specs/Layout), and the table's rows judge it there.
 
 // The head: rule number, route, lock material (0 ordinary steel, 1 higher strength, 2 nodular iron), a zero byte,
 // lock breaking load in N.
@@ -50,7 +51,8 @@ pub struct Lash {
     pub breakingLoad: u32,
 }
 
-// A decoded sheet. Entries of an array behind its count are blank.
+// A decoded sheet. Entries of an array behind its count are blank; an array beside its count is the form that the paper names, in fixed
+// memory.
 #[derive(Clone, Copy)]
 pub struct Sheet {
     pub head: Head,
@@ -76,17 +78,12 @@ pub fn turned(t: Tier) -> bool
     t.wind / 2 == 1
 }
 
-// What comes of reading: the sheet is taken, or refused with a number of the table and its second number.
+// Why a sheet is turned back: a number of the table and its second number. No enum of its cases: the table's rows (`Row` of specs/Refusals)
+// are numbers, those of later calls among them, and C gets the number.
 #[derive(Clone, Copy)]
-pub enum Reading {
-    Taken,
-    Refused(u64, usize),
-}
-
-#[derive(Clone, Copy)]
-pub struct Decoded {
-    pub reading: Reading,
-    pub sheet: Sheet,
+pub struct Refusal {
+    pub number: u64,
+    pub second: usize,
 }
 
 // A lash by its kind: a cross lash is on the lee corner, a side lash on the windward corner.

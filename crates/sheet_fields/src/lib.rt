@@ -2,11 +2,11 @@
 
 #![tactic(auto)]
 
-ghost use Rattle.std.specs.Prelude.{◌≡◌, ◌+◌, ◌*◌, ◌<◌, ◌≤◌, length};
+ghost use Rattle.std.specs.Prelude.{Ok, ◌≡◌, ◌+◌, ◌*◌, ◌<◌, ◌≤◌, length};
 ghost use Rattle.arith.specs.Bytes.{le2, le4, byte_at};
-ghost use Rattle.sheet.specs.declared.Reading.TheVariants.{Taken};
 ghost use Rattle.sheet.specs.Layout.{head_of, tier_of, lash_of, tier_place, lash_place, door_place, closed_place, spare_place};
-ghost use Rattle.sheet.specs.Layout.{tiers_in, lashes_in, sheet_of, blank_tier, blank_lash, blank_sheet};
+ghost use Rattle.sheet.specs.Layout.{tiers_in, lashes_in, sheet_of, blank_tier, blank_lash};
+ghost use Rattle.sheet.specs.Inner.Blank.{blank_sheet};
 ghost use Rattle.sheet.specs.Refusals.{first, sheet_rows};
 ghost use Rattle.sheet.specs.Inner.Changed.{with_tiers};
 
@@ -163,16 +163,17 @@ pub fn blank_sheet() -> Sheet
     }
 }
 
+// Tiers and lashes are read by a loop each. A generic one over what reads an entry would be no plainer: its contract would need the entry
+// as a function beside the closure.
+
 // The first n tiers.
 fn tiers_of(s: &[u8], n: usize) -> [Tier; 10]
     requires { (n ≤ 10) × (tier_place n ≤ length s.now) }
     ensures { result ≡ tiers_in s.now n }
 {
     let mut tiers = [blank_tier(); 10];
-    let mut k = 0;
-    while k < n {
+    for k in 0..n {
         tiers[k] = tier_of(s, 9 + 12 * k);
-        k += 1;
     }
     tiers
 }
@@ -183,17 +184,15 @@ pub fn lashes_of(s: &[u8], at: usize, n: usize) -> [Lash; 8]
     ensures { result ≡ lashes_in s.now at n }
 {
     let mut lashes = [blank_lash(); 8];
-    let mut k = 0;
-    while k < n {
+    for k in 0..n {
         lashes[k] = lash_of(s, at + 1 + 20 * k);
-        k += 1;
     }
     lashes
 }
 
 // The tiers of a taken sheet.
 pub fn own_tiers(s: &[u8]) -> [Tier; 10]
-    requires { first (sheet_rows s.now) ≡ Taken }
+    requires { first (sheet_rows s.now) ≡ Ok tt }
     ensures { result ≡ (sheet_of s.now).tiers }
 {
     tiers_of(s, byte_at(s, 8) as usize)
@@ -201,7 +200,7 @@ pub fn own_tiers(s: &[u8]) -> [Tier; 10]
 
 // What a taken sheet holds, with these tiers in place of its own.
 pub fn sheet_with(s: &[u8], tiers: [Tier; 10]) -> Sheet
-    requires { first (sheet_rows s.now) ≡ Taken }
+    requires { first (sheet_rows s.now) ≡ Ok tt }
     ensures { result ≡ with_tiers tiers (sheet_of s.now) }
 {
     let n = byte_at(s, 8) as usize;
@@ -223,7 +222,7 @@ pub fn sheet_with(s: &[u8], tiers: [Tier; 10]) -> Sheet
 // What a sheet holds that no row of the table turns back. Not by sheet_with: each has one caller, so the compiler puts both into theirs,
 // and copies no sheet.
 pub fn sheet_of(s: &[u8]) -> Sheet
-    requires { first (sheet_rows s.now) ≡ Taken }
+    requires { first (sheet_rows s.now) ≡ Ok tt }
     ensures { result ≡ sheet_of s.now }
 {
     let ntiers = byte_at(s, 8) as usize;

@@ -1,19 +1,18 @@
 -- The numbers read back from a side answer, and its length.
+use Rattle.std.specs.Prelude.{Ok}
 use Prim.Native.Nat.{ℕ, ◌+◌, ◌*◌}
 use mathlib.Core.List.{List, [], ◌∷◌, ◌++◌}
-use mathlib.Core.Path.{◌≡◌, refl, sym, ap, subst, ◌∙◌}
+use mathlib.Core.Path.{◌≡◌, refl, ap, subst, ◌∙◌}
 use native.Mathlib.Omega.{arith}
 use lib.ListN.{length, drop}
 use Rattle.arith.specs.Bytes.{bytes4}
 use Rattle.arith.specs.Lists.{counted}
-use Rattle.sheet.specs.declared.Reading.{Reading}
-use Rattle.sheet.specs.declared.Reading.TheVariants.{Taken}
+use Rattle.sheet.specs.Refusals.{Reading}
 use Rattle.sheet.specs.declared.Sheet.{Sheet}
 use Rattle.sheet.specs.Layout.{tier_count, sheet_of}
 use Rattle.sheet.specs.Fits.{Fits}
-use Rattle.sheet.proofs.Refusal.{decoded_reading, sheet_taken_of, own_taken_of}
+use Rattle.sheet.proofs.CallRefusals.{sheet_taken_of, own_taken_of}
 use Rattle.sheet.proofs.TakenSheets.{taken_fits}
-use Rattle.answer.specs.declared.Outcome.TheVariants as O
 use Rattle.answer.proofs.ReadBack.{Stands, first_part, second_part, first_byte, number, section_length, the_count, the_entry}
 use Rattle.side_walls.specs.SideWalls.{reported_racking, reported_shift, side_verdict, side_bytes}
 use Rattle.side_walls.specs.Inner.Units.{Pitched}
@@ -55,9 +54,9 @@ module _ (t : Sheet) (p : List ℕ) where
         }
 
 -- a pair of sheets that is taken
-module _ (s p : List ℕ) (room : ℕ) (e : side_refusal s p room ≡ Taken) where
+module _ (s p : List ℕ) (room : ℕ) (e : side_refusal s p room ≡ Ok tt) where
   pub fits : Fits (sheet_of s)
-  fits = taken_fits s (sym (decoded_reading s) ∙ sheet_taken_of s (pitch_rows (tier_count s) p) longest_side room e)
+  fits = taken_fits s (sheet_taken_of s (pitch_rows (tier_count s) p) longest_side room e)
 
   pub goes_with : Pitched (sheet_of s).ntiers p
   unfolding sheet_of
@@ -70,6 +69,6 @@ all_read_back s p before after r e c =
     let a : SideAnswered (side_bytes (sheet_of s) p) before after r =
     subst (λ (q : Reading). SidedAs q (side_bytes (sheet_of s) p) before after r) e c.holds in
     let back = drop (length (side_bytes (sheet_of s) p)) before in (
-      a.taken ∙ ap O.Taken (side_length (sheet_of s) p),
+      a.taken ∙ ap Ok (side_length (sheet_of s) p),
       rw a.written (read_back (sheet_of s) p (fits s p (length before) e) (goes_with s p (length before) e) back),
     )

@@ -1,11 +1,8 @@
 -- Document 02, P5: what the call for side walls says that is given a stack sheet s, a second short sheet p and a side buffer.
-use Rattle.std.specs.Prelude.{ℕ, List, ◌++◌, ◌≡◌, length, drop}
-use Rattle.sheet.specs.declared.Reading.{Reading}
-use Rattle.sheet.specs.declared.Reading.TheVariants.{Taken, Refused}
+use Rattle.std.specs.Prelude.{Ok, Err, ℕ, List, ◌++◌, ◌≡◌, length, drop}
 use Rattle.sheet.specs.Layout.{tier_count, sheet_of}
-use Rattle.sheet.specs.Refusals.{refusal_of}
-use Rattle.answer.specs.declared.Outcome.{Outcome}
-use Rattle.answer.specs.declared.Outcome.TheVariants as O
+use Rattle.sheet.specs.Refusals.{Reading, refusal_of}
+use Rattle.answer.specs.Outcomes.{Outcome}
 use Rattle.answer.specs.Checked.{TurnedBack}
 use Rattle.side_walls.specs.SideWalls.{side_bytes}
 use Rattle.side_parts.specs.ShortSheets.{pitch_rows}
@@ -19,13 +16,13 @@ side_refusal s p room = refusal_of s (pitch_rows (tier_count s) p) longest_side 
 
 -- answered: 0 and the side answer's length; the buffer holds its bytes, then what stood there
 pub record SideAnswered (bytes before after : List ℕ) (r : Outcome) : Type 0 where
-  pub taken : r ≡ O.Taken (length bytes)
+  pub taken : r ≡ Ok (length bytes)
   pub written : after ≡ bytes ++ drop (length bytes) before
 
 -- by cases on a refusal, which leaves the buffer as it was
 abbrev pub SidedAs : Reading → List ℕ → List ℕ → List ℕ → Outcome → Type 0
-SidedAs (Refused number second) bytes before after r = TurnedBack number second before after r
-SidedAs Taken bytes before after r = SideAnswered bytes before after r
+SidedAs (Err why) bytes before after r = TurnedBack why before after r
+SidedAs (Ok _) bytes before after r = SideAnswered bytes before after r
 
 -- the call with a side buffer that held `before`
 pub record Sided (s p before after : List ℕ) (r : Outcome) : Type 0 where

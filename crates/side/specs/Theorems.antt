@@ -1,11 +1,9 @@
 -- What is proved of the call for side walls.
-use Rattle.std.specs.Prelude.{ℕ, ◌+◌, ◌*◌, ◌<◌, List, ◌≡◌, length}
+use Rattle.std.specs.Prelude.{Ok, ℕ, ◌+◌, ◌*◌, ◌<◌, List, ◌≡◌, length}
 use Rattle.arith.specs.Bytes.{byte_at, le4}
-use Rattle.sheet.specs.declared.Reading.TheVariants.{Taken}
 use Rattle.sheet.specs.declared.Sheet.{Sheet}
 use Rattle.sheet.specs.Layout.{sheet_of}
-use Rattle.answer.specs.declared.Outcome.{Outcome}
-use Rattle.answer.specs.declared.Outcome.TheVariants as O
+use Rattle.answer.specs.Outcomes.{Outcome}
 use Rattle.side_walls.specs.SideWalls.{reported_racking, reported_shift, side_verdict}
 use Rattle.side.specs.Sides.{side_refusal, Sided}
 
@@ -20,6 +18,6 @@ pub record SideReadBack (t : Sheet) (p : List ℕ) (side : List ℕ) : Type 0 wh
 abbrev pub AllReadBack : Type 0
 AllReadBack =
     (s p before after : List ℕ) (r : Outcome) →
-    side_refusal s p (length before) ≡ Taken →
+    side_refusal s p (length before) ≡ Ok tt →
     Sided s p before after r →
-    (r ≡ O.Taken (2 + 8 * (sheet_of s).ntiers)) × SideReadBack (sheet_of s) p after
+    (r ≡ Ok (2 + 8 * (sheet_of s).ntiers)) × SideReadBack (sheet_of s) p after

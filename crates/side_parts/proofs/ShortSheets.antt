@@ -1,4 +1,5 @@
 -- What turns a short sheet back, in its order; and one that is taken goes with the stack.
+use Rattle.std.specs.Prelude.{Ok, Err}
 use Prim.Native.Nat.{ℕ, suc, ◌+◌, ◌-◌, ◌*◌, ◌<◌, ◌≤◌}
 use mathlib.Core.Bool.{not}
 use mathlib.Core.List.{List, [], ◌∷◌, flat_map}
@@ -8,8 +9,7 @@ use borrow.Author.Tests.{eq-eqb, ne_eqb, eqb-true, lt-ltb, le-ltb, ltb-false}
 use lib.Dec.{eqb}
 use lib.ListN.{length}
 use Rattle.arith.specs.Lists.{from}
-use Rattle.sheet.specs.declared.Reading.TheVariants.{Taken, Refused}
-use Rattle.sheet.specs.Refusals.{Row, first}
+use Rattle.sheet.specs.Refusals.{Row, numbers, first}
 use Rattle.sheet.proofs.Bools.{or_false, not_false}
 use Rattle.sheet.proofs.Clear.{clear, clear_each}
 use Rattle.sheet.proofs.Rows.{no_rows, row_holds, row_passed, entry_taken, entry_refused, no_entry_left}
@@ -25,11 +25,11 @@ module _ (n : ℕ) (p : List ℕ) where
   abbrev pub from_tier : ℕ → List Row
   from_tier i = flat_map tier_row (from i (n - i))
 
-  pub wrong_length : (length p ≡ 1 + 2 * n → ⊥) → first (pitch_rows n p) ≡ Refused 14 0
+  pub wrong_length : (length p ≡ 1 + 2 * n → ⊥) → first (pitch_rows n p) ≡ Err (numbers 14 0)
   wrong_length h = row_holds _ _ (rw (ne_eqb (length p) (1 + 2 * n) h) refl)
 
   module _ (long : length p ≡ 1 + 2 * n) where
-    pub wrong_count : (pitch_count p ≡ n → ⊥) → first (pitch_rows n p) ≡ Refused 14 0
+    pub wrong_count : (pitch_count p ≡ n → ⊥) → first (pitch_rows n p) ≡ Err (numbers 14 0)
     wrong_count h = row_holds _ _ (rw (eq-eqb (length p) (1 + 2 * n) long, ne_eqb (pitch_count p) n h) refl)
 
     pub past_14 : pitch_count p ≡ n → first (pitch_rows n p) ≡ first (from_tier 0)
@@ -41,13 +41,13 @@ module _ (n : ℕ) (p : List ℕ) where
   pub tier_passed : (i : ℕ) → i < n → longitudinal p i ≤ 1500 → first (from_tier i) ≡ first (from_tier (i + 1))
   tier_passed i h l = entry_taken tier_row i n h (row_passed _ _ (le-ltb 1500 (longitudinal p i) l) ∙ no_rows)
 
-  pub tier_refused : (i : ℕ) → i < n → 1500 < longitudinal p i → first (from_tier i) ≡ Refused 15 (suc i)
+  pub tier_refused : (i : ℕ) → i < n → 1500 < longitudinal p i → first (from_tier i) ≡ Err (numbers 15 (suc i))
   tier_refused i h l = entry_refused tier_row i n h (row_holds _ _ (lt-ltb 1500 (longitudinal p i) l))
 
-  pub tiers_passed : (i : ℕ) → n ≤ i → first (from_tier i) ≡ Taken
+  pub tiers_passed : (i : ℕ) → n ≤ i → first (from_tier i) ≡ Ok tt
   tiers_passed i h = no_entry_left tier_row i n h
 
-  pub pitched : first (pitch_rows n p) ≡ Taken → Pitched n p
+  pub pitched : first (pitch_rows n p) ≡ Ok tt → Pitched n p
   pitched e =
       let c = clear (pitch_rows n p) e in
       let w = or_false (not (eqb (length p) (1 + 2 * n))) (not (eqb (pitch_count p) n)) c.0 in

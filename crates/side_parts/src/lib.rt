@@ -13,27 +13,28 @@ ghost use Rattle.side_parts.specs.ShortSheets.{pitch_rows};
 
 use arith::bytes::{read1, read2, write1, write4};
 use limits::Limits;
-use sheet::Reading;
+use sheet::Refusal;
 
 // What a short sheet for a stack of n tiers is turned back for: its length or count, then the first A_L above 1,500.
-pub fn test_pitch(pitch: &[u8], n: usize) -> Reading
+pub fn test_pitch(pitch: &[u8], n: usize) -> Result<(), Refusal>
     requires { n ≤ 10 }
     ensures { result ≡ first (pitch_rows n pitch.now) }
 {
-    if pitch.len() != 1 + 2 * n {
-        return Reading::Refused(14, 0);
+    if pitch.len() != 1 + 2 * n || read1(pitch, 0) != n as u64 {
+        return Err(Refusal {
+            number: 14,
+            second: 0,
+        });
     }
-    if read1(pitch, 0) != n as u64 {
-        return Reading::Refused(14, 0);
-    }
-    let mut i = 0;
-    while i < n {
+    for i in 0..n {
         if 1500 < read2(pitch, 1 + 2 * i) {
-            return Reading::Refused(15, i + 1);
+            return Err(Refusal {
+                number: 15,
+                second: i + 1,
+            });
         }
-        i += 1;
     }
-    Reading::Taken
+    Ok(())
 }
 
 // 0, or 1 where one of n rackings exceeds the limit.
@@ -41,12 +42,10 @@ pub fn verdict_of(racking: &[u64], n: usize) -> u64
     requires { n ≤ length racking.now }
     ensures { (result ≡ cond (any_of (λ i. get_or racking.now i 0 above side_limit) (below n)) 1 0) × (result ≤ 1) }
 {
-    let mut i = 0;
-    while i < n {
+    for i in 0..n {
         if (Limits::SIDE_WALL as u64) < racking[i] {
             return 1;
         }
-        i += 1;
     }
     0
 }
@@ -67,12 +66,10 @@ pub fn write_tiers<'a>(
 {
     write1(answer, at, n as u64);
     let mut next = at + 1;
-    let mut i = 0;
-    while i < n {
+    for i in 0..n {
         write4(answer, next, racking[i]);
         write4(answer, next + 4, shift[i]);
         next += 8;
-        i += 1;
     }
     next
 }

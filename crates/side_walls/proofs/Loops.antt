@@ -1,5 +1,5 @@
 -- Rackings in units from the top tier down, and their figures from the bottom up.
-use Prim.Native.Nat.{ℕ, zero, suc, zero-le, ◌+◌, ◌*◌, ◌-◌, ◌/◌, ◌^◌, ◌<◌, ◌≤◌}
+use Prim.Native.Nat.{ℕ, zero, suc, ◌+◌, ◌*◌, ◌-◌, ◌/◌, ◌^◌, ◌<◌, ◌≤◌}
 use mathlib.Core.List.{List}
 use mathlib.Core.Path.{◌≡◌, refl, sym, ap, ap₂, subst, ◌∙◌}
 use native.Mathlib.Numerals.{add-one}
@@ -70,10 +70,6 @@ module _ {t : Sheet} {p : List ℕ} where
         above_small = omega (arith, s.within, s.above_small);
       }
 
-  pub pushed_all : {units : List ℕ} {above i : ℕ} → i ≤ 0 → PushedDown t p units above i → Pushed t p units
-  pushed_all h s =
-      record { each = λ j q. (s.filled.each j (omega arith) q).0; small = λ j q. (s.filled.each j (omega arith) q).1 }
-
 -- from the bottom up
 abbrev Up : ℕ → (ℕ → ℕ) → ℕ → ℕ → Type 0
 Up d part j x = (x ≡ rounded_up (part j) d) × (x < 2 ^ 32)
@@ -120,19 +116,6 @@ module _ {units : List ℕ} where
         sum_is = up;
         sum_small = omega (arith, s.sum_small);
       })
-
-  pub rounded_all :
-      {n : ℕ} {racking shift : List ℕ} {sum i : ℕ} →
-      n ≤ i →
-      RoundedSoFar units racking shift sum i →
-      RoundedUp n units racking shift
-  rounded_all h s =
-      record {
-        rackings = λ j q. (s.rackings.each j zero-le (omega arith)).0;
-        shifts = λ j q. (s.shifts.each j zero-le (omega arith)).0;
-        racking_fits = λ j q. (s.rackings.each j zero-le (omega arith)).1;
-        shift_fits = λ j q. (s.shifts.each j zero-le (omega arith)).1;
-      }
 
 -- rackings in units and their figures are what is reported
 module _ {t : Sheet} {p units : List ℕ} (e : Pushed t p units) where

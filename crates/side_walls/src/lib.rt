@@ -46,9 +46,7 @@ fn push_all(t: Sheet, share: u64, pitch: &[u8], units: &mut [u64; 10])
     ensures { Pushed t pitch.now units.new }
 {
     let mut above = 0;
-    let mut i = t.ntiers;
-    while 0 < i {
-        i -= 1;
+    for i in (0..t.ntiers).rev() {
         let tier = t.tiers[i];
         let own = push_of(tier.mass, read2(pitch, 1 + 2 * i));
         units[i] = racking_of(share, own, above);
@@ -64,13 +62,11 @@ fn round_up(n: usize, units: [u64; 10]) -> SideFigures
     let mut racking = [0u64; 10];
     let mut shift = [0u64; 10];
     let mut sum = 0;
-    let mut i = 0;
-    while i < n {
+    for i in 0..n {
         let own = units[i];
         sum += own;
         racking[i] = ceil_div(own, NEWTON);
         shift[i] = ceil_div(sum, MICROMETRE);
-        i += 1;
     }
     SideFigures { racking, shift }
 }

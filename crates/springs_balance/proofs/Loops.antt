@@ -10,8 +10,7 @@ use lib.IntN.{ℤ, pos, nat_abs, ◌+ℤ◌, ◌-ℤ◌}
 use lib.ListN.{get_or}
 use Rattle.arith.specs.Inner.Rounding.{scaled_down}
 use Rattle.arith.specs.Inner.Sizes.{Small}
-use Rattle.springs.specs.Equations.{closed_spring}
-use Rattle.springs.specs.Inner.Promise.{stiffness_scale, most_held, most_loaded, farthest, Solvable}
+use Rattle.springs.specs.Inner.Promise.{stiffness_scale, farthest, Solvable}
 use Rattle.springs.specs.Inner.Balance.{spring_at, pulled, pushed, allowed, slack_at, alike, level_in_balance, in_balance_to, in_balance, most_force}
 use Rattle.springs.proofs.Balance.{spring_in, spring_top, not_true, not_false}
 use Rattle.springs.proofs.Ranges.{force_small}
@@ -25,8 +24,8 @@ pub record Sofar (n : ℕ) (k κ ω d : List ℕ) (over : ℤ) (i : ℕ) : Type 
       (j : ℕ) → i ≡ suc j → over ≡ pos (spring_at n k (suc j) * get_or d (suc (suc j)) 0) -ℤ pos (spring_at n k (suc j) * get_or d (suc j) 0)
   pub same : in_balance_to n k κ ω d i ≡ in_balance n k κ ω d
 
-pub sofar_start : (n : ℕ) (k κ ω d : List ℕ) → Sofar n k κ ω d (pos 0) n
-sofar_start n k κ ω d = record {
+pub sofar_start : {n : ℕ} {k κ ω d : List ℕ} → Sofar n k κ ω d (pos 0) n
+sofar_start {n} {k} {κ} {ω} {d} = record {
   within = omega arith;
   small = record { size = omega arith };
   over_is = λ j e. ap₂ (λ (x y : ℕ). pos x -ℤ pos y) (none j e (get_or d (suc (suc j)) 0)) (none j e (get_or d (suc j) 0));
@@ -47,10 +46,10 @@ test k κ ω d over i j =
 
 -- a turn
 module _
-    (n : ℕ)
-    (k κ ω d : List ℕ)
-    (over : ℤ)
-    (i j : ℕ)
+    {n : ℕ}
+    {k κ ω d : List ℕ}
+    {over : ℤ}
+    {i j : ℕ}
     (next : i ≡ suc j)
     (s : Solvable n k κ ω)
     (far : (m : ℕ) → get_or d m 0 ≤ farthest)
@@ -59,14 +58,8 @@ module _
     inside : j < n
     inside = omega (arith, t.within)
 
-    pub spring_ready : (get_or k j 0 ≤ closed_spring) × (get_or d i 0 ≤ farthest) × (get_or d j 0 ≤ farthest)
-    spring_ready = ((s.springs j inside).1, far i, far j)
-
-    pub under_small : Small (2 * most_force) (under k d i j)
-    under_small = force_small spring_ready.0 spring_ready.1 spring_ready.2
-
-    pub level_ready : (get_or κ j 0 ≤ most_held) × (get_or ω j 0 ≤ most_loaded) × (get_or d i 0 ≤ farthest)
-    level_ready = (s.held j inside, s.loaded j inside, far i)
+    under_small : Small (2 * most_force) (under k d i j)
+    under_small = force_small (s.springs j inside).1 (far i) (far j)
 
     tested : test k κ ω d over i j ≡ level_in_balance n k κ ω d j
     unfolding pulled pushed
@@ -89,12 +82,12 @@ module _
     whole = sym t.same ∙ ap (in_balance_to n k κ ω d) next ∙ split
 
     -- a level out of balance decides
-    pub failed : (r : Bool) → r ≡ test k κ ω d over i j → not r ≡ true → false ≡ in_balance n k κ ω d
-    failed r e f = sym (whole ∙ ap (λ (b : Bool). b && in_balance_to n k κ ω d j) (sym (e ∙ tested) ∙ not_true r f))
+    pub failed : {r : Bool} → r ≡ test k κ ω d over i j → not r ≡ true → false ≡ in_balance n k κ ω d
+    failed {r} e f = sym (whole ∙ ap (λ (b : Bool). b && in_balance_to n k κ ω d j) (sym (e ∙ tested) ∙ not_true r f))
 
     -- a level in balance leaves it to those under it
-    pub sofar_next : (r : Bool) → r ≡ test k κ ω d over i j → not r ≡ false → Sofar n k κ ω d (under k d i j) j
-    sofar_next r e f = record {
+    pub sofar_next : {r : Bool} → r ≡ test k κ ω d over i j → not r ≡ false → Sofar n k κ ω d (under k d i j) j
+    sofar_next {r} e f = record {
       within = omega (arith, t.within);
       small = under_small;
       over_is = down;
@@ -116,6 +109,6 @@ module _
             sym (ap₂ (λ (x y : ℕ). pos x -ℤ pos y) (at m (suc (suc m)) i z two) (at m (suc m) j z (sym z)))
 
 -- after the last turn
-pub sofar_end : (n : ℕ) (k κ ω d : List ℕ) (over : ℤ) (i : ℕ) → i ≤ 0 → Sofar n k κ ω d over i → true ≡ in_balance n k κ ω d
+pub sofar_end : {n : ℕ} {k κ ω d : List ℕ} {over : ℤ} {i : ℕ} → i ≤ 0 → Sofar n k κ ω d over i → true ≡ in_balance n k κ ω d
 unfolding in_balance_to
-sofar_end n k κ ω d over i h t = ap (in_balance_to n k κ ω d) {x = 0} {y = i} (omega arith) ∙ t.same
+sofar_end {n} {k} {κ} {ω} {d} {i = i} h t = ap (in_balance_to n k κ ω d) {x = 0} {y = i} (omega arith) ∙ t.same

@@ -5,11 +5,12 @@
 ghost use Rattle.std.specs.Prelude.{◌≡◌, ℕ, ◌+◌, ◌*◌, ◌/◌, ◌<◌, ◌≤◌, ◌^◌, leb, pos, nat_abs, ◌+ℤ◌, ◌-ℤ◌, length, get_or};
 ghost use Rattle.arith.specs.Inner.Sizes.{Small};
 ghost use Rattle.arith.specs.Inner.Rounding.{scaled_down};
-ghost use Rattle.springs.specs.Inner.Promise.{stiffness_scale, most_held, most_loaded, farthest, Solvable};
+ghost use Rattle.springs.specs.Inner.Promise.{stiffness_scale, most_held, most_loaded, farthest};
 ghost use Rattle.springs.specs.Equations.{closed_spring};
 ghost use Rattle.springs.specs.Inner.Balance.{allowed, in_balance, most_force};
 
 use arith::rounding::split_product;
+use springs::SpringChain;
 
 // Stiffnesses are in 2^-22 N/mm.
 const SCALE: u64 = 4194304;
@@ -38,10 +39,7 @@ fn size(x: i64) -> u64
     requires { Small (2 ^ 62) x }
     ensures { (result ≡ nat_abs x) × (result ≤ 2 ^ 62) }
 {
-    if x < 0 {
-        return (0 - x) as u64;
-    }
-    x as u64
+    x.unsigned_abs()
 }
 
 // Whether a level of shift d is in balance: the spring under it and its lashes hold it, the spring over it and its load push it.
@@ -55,21 +53,17 @@ fn in_balance(under: i64, over: i64, kappa: u64, omega: u64, d: u64) -> bool
 }
 
 // Whether each level is in balance under the shifts d, from the top down.
-pub fn balanced(n: usize, k: &[u64], kappa: &[u64], omega: &[u64], d: &[u64]) -> bool
-    requires solvable { Solvable n k.now kappa.now omega.now × (n ≤ length k.now) × (n ≤ length kappa.now) × (n ≤ length omega.now) }
-    requires by_index { ((i : ℕ) → get_or d.now i 0 ≤ farthest) × (n < length d.now) }
-    ensures { result ≡ in_balance n k.now kappa.now omega.now d.now }
+pub fn balanced(chain: SpringChain<'_>, d: &[u64]) -> bool
+    requires { ((i : ℕ) → get_or d.now i 0 ≤ farthest) × (chain.n < length d.now) }
+    ensures { let c = chain.entry in result ≡ in_balance c.n c.k.now c.kappa.now c.omega.now d.now }
 {
     let mut over = 0;
-    let mut i = n;
-    while 0 < i {
-        let j = i - 1;
-        let under = force_of(k[j], d[i], d[j]);
-        if !in_balance(under, over, kappa[j], omega[j], d[i]) {
+    for j in (0..chain.n).rev() {
+        let under = force_of(chain.k[j], d[j + 1], d[j]);
+        if !in_balance(under, over, chain.kappa[j], chain.omega[j], d[j + 1]) {
             return false;
         }
         over = under;
-        i = j;
     }
     true
 }

@@ -1,25 +1,19 @@
 -- The two loops of elimination: what holds of their arrays at each turn.
-use mathlib.Core.Path.{◌≡◌, refl, sym, ap, ap₂, subst, ◌∙◌}
+use mathlib.Core.Path.{◌≡◌, sym, ap, ap₂, subst, ◌∙◌}
 use mathlib.Core.List.{List}
-use Prim.Native.Nat.{ℕ, zero, suc, ◌+◌, ◌≤◌, ◌<◌}
+use Prim.Native.Nat.{ℕ, suc, ◌+◌, ◌≤◌, ◌<◌}
 use native.Mathlib.Omega.{arith}
 use native.Mathlib.Decide.{ℕ_discrete, dec_le}
-use lib.ListN.{get_or, length, set, replicate, length-set}
+use lib.ListN.{get_or, length, set, length-set}
 use lib.Seq.{get_or-set_same, get_or-set_other}
 use Rattle.springs.specs.Inner.Promise.{farthest, Solvable}
 use Rattle.springs.specs.Inner.Elimination.{stiffness_down, load_down, shift_up, eliminated, InRange, most_load_together, HandedDown}
 use Rattle.springs.proofs.Recursion as R
 use Rattle.springs.proofs.Ranges.{in_range, load_in_range, far_at}
 
--- a new array holds zeros
-pub zeros : (m j : ℕ) → ◌≡◌ {A = ℕ} (get_or (replicate m 0) j 0) 0
-zeros zero j = refl
-zeros (suc m) zero = refl
-zeros (suc m) (suc j) = zeros m j
-
 -- what is known from level i up is known from any level over it
-pub later : (i j n : ℕ) (k κ ω x y : List ℕ) → i ≤ j → HandedDown i n k κ ω x y → HandedDown j n k κ ω x y
-later i j n k κ ω x y l h = record { stiffness = λ m b. h.stiffness m (omega arith); load = λ m b. h.load m (omega arith) }
+pub later : {i j n : ℕ} {k κ ω x y : List ℕ} → i ≤ j → HandedDown i n k κ ω x y → HandedDown j n k κ ω x y
+later l h = record { stiffness = λ m b. h.stiffness m (omega arith); load = λ m b. h.load m (omega arith) }
 
 -- from the top down: levels i and above are done
 pub record Down (n : ℕ) (k κ ω x y : List ℕ) (i : ℕ) : Type 0 where
@@ -29,13 +23,13 @@ pub record Down (n : ℕ) (k κ ω x y : List ℕ) (i : ℕ) : Type 0 where
   pub done : HandedDown i n k κ ω x y
 
 pub down_start :
-    (n : ℕ) (k κ ω x y : List ℕ) →
+    {n : ℕ} {k κ ω x y : List ℕ} →
     length x ≡ 11 →
     length y ≡ 11 →
     get_or x n 0 ≡ 0 →
     get_or y n 0 ≡ 0 →
     Down n k κ ω x y n
-down_start n k κ ω x y lx ly x0 y0 = record {
+down_start {n} {k} {κ} {ω} {x} {y} lx ly x0 y0 = record {
   within = omega arith;
   long_x = lx;
   long_y = ly;
@@ -46,7 +40,7 @@ down_start n k κ ω x y lx ly x0 y0 = record {
 }
 
 -- a turn at tier i, of the entry j
-module _ (n : ℕ) (k κ ω x y : List ℕ) (i j : ℕ) (next : i ≡ suc j) (s : Solvable n k κ ω) (d : Down n k κ ω x y i) where
+module _ {n : ℕ} {k κ ω x y : List ℕ} {i j : ℕ} (next : i ≡ suc j) (s : Solvable n k κ ω) (d : Down n k κ ω x y i) where
   -- what is handed down to level i
   given_x : get_or x i 0 ≡ R.x n k κ ω (suc j)
   given_x = d.done.stiffness i (omega arith) d.within ∙ ap (R.x n k κ ω) next
@@ -60,11 +54,11 @@ module _ (n : ℕ) (k κ ω x y : List ℕ) (i j : ℕ) (next : i ≡ suc j) (s 
       rw (given_x, given_y) (in_range n k κ ω s j l, load_in_range n k κ ω s j l)
 
   pub down_next :
-      (u w : ℕ) →
+      {u w : ℕ} →
       u ≡ stiffness_down (get_or k j 0) (get_or κ j 0) (get_or x i 0) →
       w ≡ load_down (get_or k j 0) (get_or κ j 0) (get_or ω j 0) (get_or x i 0) (get_or y i 0) →
       Down n k κ ω (set x j u) (set y j w) j
-  down_next u w eu ew = record {
+  down_next {u} {w} eu ew = record {
     within = omega (arith, d.within);
     long_x = length-set x j u ∙ d.long_x;
     long_y = length-set y j w ∙ d.long_y;
@@ -100,12 +94,12 @@ pub record Up (n : ℕ) (k κ ω d : List ℕ) (i : ℕ) : Type 0 where
   pub rest : (j : ℕ) → n < j → get_or d j 0 ≡ 0
 
 pub up_start :
-    (n : ℕ) (k κ ω d : List ℕ) →
+    {n : ℕ} {k κ ω d : List ℕ} →
     length d ≡ 11 →
     get_or d 0 0 ≡ 0 →
     ((j : ℕ) → n < j → get_or d j 0 ≡ 0) →
     Up n k κ ω d 0
-up_start n k κ ω d e z b = record {
+up_start {n} {k} {κ} {ω} {d} e z b = record {
   within = omega arith;
   long = e;
   done = λ j h. subst (λ (m : ℕ). get_or d m 0 ≡ R.d n k κ ω m) {x = 0} {y = j} (omega arith) (z ∙ sym (R.shift_deck n k κ ω));
@@ -114,9 +108,9 @@ up_start n k κ ω d e z b = record {
 
 -- a turn at the entry i, for level j, where x and y are handed down
 module _
-    (n : ℕ)
-    (k κ ω x y d : List ℕ)
-    (i j : ℕ)
+    {n : ℕ}
+    {k κ ω x y d : List ℕ}
+    {i j : ℕ}
     (next : j ≡ suc i)
     (inside : i < n)
     (s : Solvable n k κ ω)
@@ -136,10 +130,10 @@ module _
     up_ready = rw (taken_x, taken_y, under) (in_range n k κ ω s i inside, load_in_range n k κ ω s i inside, far_at n k κ ω s i)
 
     pub up_next :
-        (u : ℕ) →
+        {u : ℕ} →
         u ≡ shift_up (get_or k i 0) (get_or κ i 0) (get_or ω i 0) (get_or x j 0) (get_or y j 0) (get_or d i 0) →
         Up n k κ ω (set d j u) j
-    up_next u e = record {
+    up_next {u} e = record {
       within = omega arith;
       long = length-set d j u ∙ t.long;
       done = λ m b. done m b (ℕ_discrete m j);
@@ -158,8 +152,8 @@ module _
         done m b (no z) = get_or-set_other d j m u 0 z ∙ t.done m (omega arith)
 
 -- after the last turn
-pub up_done : (n : ℕ) (k κ ω d : List ℕ) (i : ℕ) → i ≡ n → Up n k κ ω d i → d ≡ eliminated n k κ ω
-up_done n k κ ω d i e t = R.is_eliminated n k κ ω d t.long (λ j. go j (dec_le j i))
+pub up_done : {n : ℕ} {k κ ω d : List ℕ} {i : ℕ} → i ≡ n → Up n k κ ω d i → d ≡ eliminated n k κ ω
+up_done {n} {k} {κ} {ω} {d} {i} e t = R.is_eliminated n k κ ω d t.long (λ j. go j (dec_le j i))
   where
     go : (j : ℕ) → Dec (j ≤ i) → get_or d j 0 ≡ R.d n k κ ω j
     go j (yes h) = t.done j h

@@ -25,8 +25,8 @@ pub record Down (n : ℕ) (k κ ω : List ℕ) (a w : ℕ → Float) (upper : Up
   pub here : upper ≡ C.above n k κ ω i
   pub done : Sloped i n k κ ω a w
 
-pub down_start : (n : ℕ) (k κ ω : List ℕ) (a w : ℕ → Float) → Down n k κ ω a w top n
-down_start n k κ ω a w = record {
+pub down_start : {n : ℕ} {k κ ω : List ℕ} {a w : ℕ → Float} → Down n k κ ω a w top n
+down_start {n} {k} {κ} {ω} = record {
   within = omega arith;
   here = sym (C.above_top n k κ ω);
   done = record { own = λ j h l. absurd (omega arith); share = λ j h l. absurd (omega arith) };
@@ -39,15 +39,14 @@ pub record Stored (a a' : ℕ → Float) (j : ℕ) (x : Float) : Type 0 where
 
 -- a turn at level i, over the tier of entry j
 pub down_next :
-    (n : ℕ) (k κ ω : List ℕ) (a w a' w' : ℕ → Float) (upper : UpperChain) (i j : ℕ) →
+    {n : ℕ} {k κ ω : List ℕ} {a w a' w' : ℕ → Float} {upper next : UpperChain} {i j : ℕ} →
     i ≡ suc j →
     Down n k κ ω a w upper i →
-    (next : UpperChain) →
     next ≡ step_down upper (get_or k j 0) (get_or κ j 0) (get_or ω j 0) →
     Stored a a' j next.a →
     Stored w w' j next.w →
     Down n k κ ω a' w' next j
-down_next n k κ ω a w a' w' upper i j e t next en sa sw = record {
+down_next {n} {k} {κ} {ω} {a' = a'} {w' = w'} {next = next} {j = j} e t en sa sw = record {
   within = omega (arith, t.within);
   here = now;
   done = record { own = λ m h l. own m h l (ℕ_discrete m j); share = λ m h l. share m h l (ℕ_discrete m j) };
@@ -73,11 +72,11 @@ down_next n k κ ω a w a' w' upper i j e t next en sa sw = record {
 
 -- after the last turn
 pub down_done :
-    (n : ℕ) (k κ ω : List ℕ) (a w : ℕ → Float) (upper : UpperChain) (i : ℕ) →
+    {n : ℕ} {k κ ω : List ℕ} {a w : ℕ → Float} {upper : UpperChain} {i : ℕ} →
     i ≤ 0 →
     Down n k κ ω a w upper i →
     Sloped 0 n k κ ω a w
-down_done n k κ ω a w upper i h t = record {
+down_done h t = record {
   own = λ j b l. t.done.own j (omega arith) l;
   share = λ j b l. t.done.share j (omega arith) l;
 }
@@ -97,9 +96,9 @@ pub record Up (n : ℕ) (a w : ℕ → Float) (d : List ℕ) (x : Float) (i : �
   pub done : (j : ℕ) → j ≤ i → get_or d j 0 ≡ risen_at n a w j
   pub rest : (j : ℕ) → i < j → get_or d j 0 ≡ 0
 
-pub up_start : (n : ℕ) (a w : ℕ → Float) (d : List ℕ) → d ≡ replicate 11 0 → Up n a w d none 0
+pub up_start : {n : ℕ} {a w : ℕ → Float} {d : List ℕ} → d ≡ replicate 11 0 → Up n a w d none 0
 unfolding float_in risen_at
-up_start n a w d e = record {
+up_start {n} {a} {w} {d} e = record {
   within = omega arith;
   long = ap length e;
   here = refl;
@@ -112,18 +111,16 @@ up_start n a w d e = record {
 
 -- a turn for level j, the next over i
 pub up_next :
-    (n : ℕ) (a w : ℕ → Float) (d : List ℕ) (x : Float) (i j : ℕ) →
+    {n : ℕ} {a w : ℕ → Float} {d : List ℕ} {x own share : Float} {i j r : ℕ} →
     j ≡ suc i →
     i < n →
     n ≤ 10 →
     Up n a w d x i →
-    (own share : Float) →
     own ≡ a i →
     share ≡ w i →
-    (r : ℕ) →
     r ≡ near_of (add binary64 own (mul binary64 share x)) →
     Up n a w (set d j (r % 1099511627776)) (add binary64 own (mul binary64 share x)) j
-up_next n a w d x i j e inside few t own share eo es r er = record {
+up_next {n} {a} {w} {d} {x} {own} {share} {i} {j} {r} e inside few t eo es er = record {
   within = omega arith;
   long = length-set d j (r % 1099511627776) ∙ t.long;
   here = now;
@@ -151,8 +148,8 @@ up_next n a w d x i j e inside few t own share eo es r er = record {
     done m b (no z) = get_or-set_other d j m (r % 1099511627776) 0 z ∙ t.done m (omega arith)
 
 -- after the last turn
-pub up_done : (n : ℕ) (a w : ℕ → Float) (d : List ℕ) (x : Float) (i : ℕ) → i ≡ n → Up n a w d x i → d ≡ risen n a w
-up_done n a w d x i e t = is_risen n a w d t.long (λ j. go j (dec_le j i))
+pub up_done : {n : ℕ} {a w : ℕ → Float} {d : List ℕ} {x : Float} {i : ℕ} → i ≡ n → Up n a w d x i → d ≡ risen n a w
+up_done {n} {a} {w} {d} {i = i} e t = is_risen n a w d t.long (λ j. go j (dec_le j i))
   where
     go : (j : ℕ) → Dec (j ≤ i) → get_or d j 0 ≡ risen_at n a w j
     go j (yes h) = t.done j h

@@ -2,13 +2,13 @@
 
 #![tactic(auto)]
 
-ghost use Rattle.std.specs.Prelude.{◌≡◌, ◌<◌, ◌≤◌, length, replicate};
-ghost use Rattle.springs.specs.Inner.Promise.{most_held, most_loaded, Solvable};
+ghost use Rattle.std.specs.Prelude.{◌≡◌, ◌≤◌, replicate};
+ghost use Rattle.springs.specs.Inner.Promise.{most_held, most_loaded};
 ghost use Rattle.springs.specs.Inner.Candidate.{step_down, candidate, Sloped, risen, by_level};
 ghost use Rattle.springs.specs.Equations.{closed_spring};
 
 use floats::{float_of, near};
-use springs::UpperChain;
+use springs::{SpringChain, UpperChain};
 
 // From the levels over a tier to the level under it: k its spring, kappa and omega the lashes and the load of the level over it.
 pub fn step(over: UpperChain, k: u64, kappa: u64, omega: u64) -> UpperChain
@@ -31,11 +31,8 @@ pub fn step(over: UpperChain, k: u64, kappa: u64, omega: u64) -> UpperChain
 }
 
 // From the top down: the shift of level i is a[i] and w[i] of the shift under it.
-fn slope(n: usize, k: &[u64], kappa: &[u64], omega: &[u64], a: &mut [f64], w: &mut [f64])
-    requires solvable { Solvable n k.now kappa.now omega.now × (n ≤ length k.now) × (n ≤ length kappa.now) × (n ≤ length omega.now) }
-    requires a_len { (length a.old ≡ 11) × (length w.old ≡ 11) }
-    ensures { Sloped 0 n k.now kappa.now omega.now (by_level a.new)
-        (by_level w.new) }
+fn slope(chain: SpringChain<'_>, a: &mut [f64; 11], w: &mut [f64; 11])
+    ensures { let c = chain.entry in Sloped 0 c.n c.k.now c.kappa.now c.omega.now (by_level a.new) (by_level w.new) }
 {
     let mut over = UpperChain {
         s: 1.0,
@@ -44,39 +41,32 @@ fn slope(n: usize, k: &[u64], kappa: &[u64], omega: &[u64], a: &mut [f64], w: &m
         a: 0.0,
         w: 0.0,
     };
-    let mut i = n;
-    while 0 < i {
-        let j = i - 1;
-        over = step(over, k[j], kappa[j], omega[j]);
-        a[i] = over.a;
-        w[i] = over.w;
-        i = j;
+    for j in (0..chain.n).rev() {
+        over = step(over, chain.k[j], chain.kappa[j], chain.omega[j]);
+        a[j + 1] = over.a;
+        w[j + 1] = over.w;
     }
 }
 
 // From the deck up, in whole numbers.
-fn rise(n: usize, a: &[f64], w: &[f64], d: &mut [u64])
-    requires { (n ≤ 10) × (length a.now ≡ 11) × (length w.now ≡ 11) × (d.old ≡ replicate 11 0) }
+fn rise(n: usize, a: &[f64; 11], w: &[f64; 11], d: &mut [u64; 11])
+    requires { (n ≤ 10) × (d.old ≡ replicate 11 0) }
     ensures { d.new ≡ risen n (by_level a.now) (by_level w.now) }
 {
     let mut x = 0.0;
-    let mut i = 0;
-    while i < n {
-        let j = i + 1;
-        x = a[j] + w[j] * x;
-        d[j] = near(x) % 1099511627776;
-        i = j;
+    for i in 0..n {
+        x = a[i + 1] + w[i + 1] * x;
+        d[i + 1] = near(x) % 1099511627776;
     }
 }
 
 // The candidate of an end put into d.
-pub fn guess(n: usize, k: &[u64], kappa: &[u64], omega: &[u64], d: &mut [u64])
-    requires solvable { Solvable n k.now kappa.now omega.now × (n ≤ length k.now) × (n ≤ length kappa.now) × (n ≤ length omega.now) }
-    requires d_value { d.old ≡ replicate 11 0 }
-    ensures { d.new ≡ candidate n k.now kappa.now omega.now }
+pub fn guess(chain: SpringChain<'_>, d: &mut [u64; 11])
+    requires { d.old ≡ replicate 11 0 }
+    ensures { let c = chain.entry in d.new ≡ candidate c.n c.k.now c.kappa.now c.omega.now }
 {
     let mut a = [0.0f64; 11];
     let mut w = [0.0f64; 11];
-    slope(n, k, kappa, omega, &mut a, &mut w);
-    rise(n, &a, &w, d);
+    slope(chain, &mut a, &mut w);
+    rise(chain.n, &a, &w, d);
 }

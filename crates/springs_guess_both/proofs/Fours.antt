@@ -39,36 +39,44 @@ module _ (l : List Float) (j : ℕ) (x y z u : Float) (room : 4 * j + 3 < length
   abbrev three : List Float
   three = set two (4 * j + 2) z
 
-  abbrev pub four : List Float
+  abbrev four : List Float
   four = set three (4 * j + 3) u
 
-  pub length_four : length four ≡ length l
+  length_four : length four ≡ length l
   length_four = simp length-set
 
-  pub first : Stored (every_fourth 0 l) (every_fourth 0 four) j x
+  first : Stored (every_fourth 0 l) (every_fourth 0 four) j x
   first =
       later three j 0 (4 * j + 3) u (λ m e. omega arith)
       (later two j 0 (4 * j + 2) z (λ m e. omega arith)
       (later one j 0 (4 * j + 1) y (λ m e. omega arith)
       (own l j 0 (4 * j) x (omega arith) (omega arith))))
 
-  pub second : Stored (every_fourth 1 l) (every_fourth 1 four) j y
+  second : Stored (every_fourth 1 l) (every_fourth 1 four) j y
   second =
       later three j 1 (4 * j + 3) u (λ m e. omega arith)
       (later two j 1 (4 * j + 2) z (λ m e. omega arith)
       (before l j 1 (4 * j) x (λ m e. omega arith)
       (own one j 1 (4 * j + 1) y (omega arith) (simp length-set (omega arith)))))
 
-  pub third : Stored (every_fourth 2 l) (every_fourth 2 four) j z
+  third : Stored (every_fourth 2 l) (every_fourth 2 four) j z
   third =
       later three j 2 (4 * j + 3) u (λ m e. omega arith)
       (before l j 2 (4 * j) x (λ m e. omega arith)
       (before one j 2 (4 * j + 1) y (λ m e. omega arith)
       (own two j 2 (4 * j + 2) z (omega arith) (simp length-set (omega arith)))))
 
-  pub fourth : Stored (every_fourth 3 l) (every_fourth 3 four) j u
+  fourth : Stored (every_fourth 3 l) (every_fourth 3 four) j u
   fourth =
       before l j 3 (4 * j) x (λ m e. omega arith)
       (before one j 3 (4 * j + 1) y (λ m e. omega arith)
       (before two j 3 (4 * j + 2) z (λ m e. omega arith)
       (own three j 3 (4 * j + 3) u (omega arith) (simp length-set (omega arith)))))
+
+  pub stored_four :
+      (length four ≡ length l)
+      × Stored (every_fourth 0 l) (every_fourth 0 four) j x
+      × Stored (every_fourth 1 l) (every_fourth 1 four) j y
+      × Stored (every_fourth 2 l) (every_fourth 2 four) j z
+      × Stored (every_fourth 3 l) (every_fourth 3 four) j u
+  stored_four = (length_four, first, second, third, fourth)

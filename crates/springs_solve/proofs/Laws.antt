@@ -20,10 +20,9 @@ module _ (n : ℕ) (k κ ω d : List ℕ) (s : Solvable n k κ ω) (e : d ≡ ca
   pub testable : ((i : ℕ) → get_or d i 0 ≤ farthest) × (n < length d)
   testable = rw e (candidate_far n k κ ω s.few, omega (arith, length_candidate n k κ ω, s.few))
 
-  pub replaceable : (length d ≡ 11) × (get_or d 0 0 ≡ 0) × ((j : ℕ) → n < j → get_or d j 0 ≡ 0)
+  pub replaceable : (get_or d 0 0 ≡ 0) × ((j : ℕ) → n < j → get_or d j 0 ≡ 0)
   replaceable =
       rw e (
-        length_candidate n k κ ω,
         guess_candidate n k κ ω s.few 0 ∙ guess_deck n k κ ω,
         λ j h. guess_candidate n k κ ω s.few j ∙ guess_behind n k κ ω j h,
       )

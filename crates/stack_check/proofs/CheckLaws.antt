@@ -1,33 +1,28 @@
 -- What `check` and `answer_to` give is what Named names: by the refusals in their order, then the answer.
+use Rattle.std.specs.Prelude.{Ok, Err}
 use mathlib.Core.Path.{◌≡◌, refl, sym, ap, ap₂, ◌∙◌}
 use mathlib.Core.List.{List, ◌++◌}
 use Prim.Native.Nat.{ℕ, ◌≤◌, ◌<◌}
 use borrow.Author.Tests.{lt-ltb, le-ltb}
 use lib.ListN.{drop, length}
-use Rattle.sheet.specs.declared.Reading.{Reading}
-use Rattle.sheet.specs.declared.Reading.TheVariants.{Taken, Refused}
+use Rattle.sheet.specs.Refusals.{Reading}
 use Rattle.sheet.specs.declared.Sheet.{Sheet}
 use Rattle.sheet.specs.declared.Tier.{Tier}
 use Rattle.sheet.specs.Layout.{sheet_of}
 use Rattle.sheet.specs.Refusals.{first, sheet_rows, refusal}
 use Rattle.sheet.specs.Fits.{Fits}
 use Rattle.sheet.specs.Inner.Changed.{with_tiers}
-use Rattle.sheet.proofs.Refusal.{decoded_reading, sheet_refused, room_last}
+use Rattle.sheet.proofs.CallRefusals.{sheet_refused, room_last}
 use Rattle.statics.specs.declared.LoadRule.{LoadRule}
-use Rattle.statics.specs.declared.EndFigures.{EndFigures}
 use Rattle.statics.specs.declared.Figures.{Figures}
 use Rattle.statics.specs.Inner.Computed.{figures_by, load_rule_of}
-use Rattle.answer.specs.declared.Outcome.{Outcome}
-use Rattle.answer.specs.declared.Outcome.TheVariants as O
+use Rattle.answer.specs.Outcomes.{Outcome}
 use Rattle.answer.specs.Answers.{answer_bytes}
 use Rattle.answer.specs.Checked.{AnsweredBy, room_for, Checked, kept}
 use Rattle.answer.specs.Inner.Named.{answer_by, check_bytes, returned_as, written_as, returned, written}
 use Rattle.answer.proofs.Named.{answer_by_named, check_named}
-
--- the figures of a sheet, end by end, are its figures
-module _ (c : LoadRule) (t : Sheet) {d e : EndFigures} (p : d ≡ (figures_by c t).door) (q : e ≡ (figures_by c t).closed) where
-  pub both_ends : ◌≡◌ {A = Figures} (record { door = d; closed = e }) (figures_by c t)
-  both_ends = λ i. record { door = p i; closed = q i }
+use Rattle.sheet.specs.declared.Refusal.{Refusal}
+use Rattle.sheet.specs.Refusals.{numbers}
 
 -- a decoded sheet
 module _ (c : LoadRule) (t : Sheet) (before : List ℕ) where
@@ -36,7 +31,7 @@ module _ (c : LoadRule) (t : Sheet) (before : List ℕ) where
       (r ≡ returned_as (room_for (length before)) (answer_by c t))
       × (after ≡ written_as (room_for (length before)) (answer_by c t) before)
 
-  pub short_room : length before < 834 → ByName before (O.Refused 13 834)
+  pub short_room : length before < 834 → ByName before (Err (numbers 13 834))
   unfolding first
   short_room h = simp (lt-ltb (length before) 834 h) (refl, refl)
 
@@ -46,11 +41,11 @@ module _ (c : LoadRule) (t : Sheet) (before : List ℕ) where
       f ≡ figures_by c t →
       n ≡ length (answer_bytes t f) →
       after ≡ answer_bytes t f ++ drop (length (answer_bytes t f)) before →
-      ByName after (O.Taken n)
+      ByName after (Ok n)
   unfolding first
   answered {f} h e size stored =
       simp (le-ltb (length before) 834 h) (
-        ap O.Taken (size ∙ ap (λ (g : Figures). length (answer_bytes t g)) e),
+        ap Ok (size ∙ ap (λ (g : Figures). length (answer_bytes t g)) e),
         stored ∙ ap (λ (g : Figures). answer_bytes t g ++ drop (length (answer_bytes t g)) before) e,
       )
 
@@ -78,11 +73,11 @@ module _ (s before : List ℕ) where
       (g ∙ ap (λ (q : Reading). returned_as q (check_bytes s)) (sym e))
       (h ∙ ap (λ (q : Reading). written_as q (check_bytes s) before) (sym e))
 
-  pub refused : {n p : ℕ} → first (sheet_rows s) ≡ Refused n p → Checks before (O.Refused n p)
-  refused {n} {p} e = by_refusal (Refused n p) (sheet_refused s (length before) (decoded_reading s ∙ e)) refl refl
+  pub refused : {why : Refusal} → first (sheet_rows s) ≡ Err why → Checks before (Err why)
+  refused {why} e = by_refusal (Err why) (sheet_refused s (length before) e) refl refl
 
   pub taken :
-      first (sheet_rows s) ≡ Taken →
+      first (sheet_rows s) ≡ Ok tt →
       {c : LoadRule} {tiers : List Tier} {after : List ℕ} {r : Outcome} →
       c ≡ load_rule_of (sheet_of s) →
       tiers ≡ (sheet_of s).tiers →
@@ -91,6 +86,6 @@ module _ (s before : List ℕ) where
   taken e {c} {tiers} rule same (g, h) =
       let bytes : answer_by c (with_tiers tiers (sheet_of s)) ≡ check_bytes s =
       ap₂ (λ (c : LoadRule) (ts : List Tier). answer_by c (with_tiers ts (sheet_of s))) rule same in
-      by_refusal (room_for (length before)) (room_last s (length before) (decoded_reading s ∙ e))
+      by_refusal (room_for (length before)) (room_last s (length before) e)
       (g ∙ ap (λ (b : List ℕ). returned_as (room_for (length before)) b) bytes)
       (h ∙ ap (λ (b : List ℕ). written_as (room_for (length before)) b before) bytes)

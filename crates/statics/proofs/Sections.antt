@@ -13,9 +13,6 @@ use Rattle.statics.specs.Inner.InArrays.{Lengths, figures_in}
 pub rest : (k : ℕ) (l : List ℕ) → take (length l - k) (drop k l) ≡ drop k l
 rest k l = take_all (length l - k) (drop k l) (omega (arith, length-drop k l))
 
-pub rest_length : (k : ℕ) (l : List ℕ) → length (take (length l - k) (drop k l)) ≡ length l - k
-rest_length k l = ap length (rest k l) ∙ length-drop k l
-
 -- two sections of which the first has k entries: an entry of each is set
 module _ (k : ℕ) (l : List ℕ) {j : ℕ} (h : j < k) (x y : ℕ) where
   abbrev pub both_set : List ℕ

@@ -1,17 +1,17 @@
 -- The springs of an end's tiers: the loop over the tiers.
-use Prim.Native.Nat.{ℕ, suc, zero-le, ◌<◌, ◌≤◌}
+use Prim.Native.Nat.{ℕ, zero-le, ◌≤◌}
 use mathlib.Core.Bool.{cond}
 use mathlib.Core.List.{List, map}
 use mathlib.Core.Path.{◌≡◌, refl, sym, ◌∙◌}
 use native.Mathlib.Decide.{dec_lt}
 use native.Mathlib.Omega.{arith}
-use lib.ListN.{length, get_or, set, replicate, get_or-eq_default}
+use lib.ListN.{length, get_or, get_or-eq_default}
 use lib.Seq.{ext_get_or}
 use Rattle.arith.specs.Lists.{below}
 use Rattle.arith.proofs.Arrays.{length_entries}
 use Rattle.sheet.specs.declared.Tier.{Tier}
 use Rattle.sheet.specs.Layout.{turned, blank_tier}
-use Rattle.statics.proofs.Arrays.{Between, between_none, fill_above, entry_at}
+use Rattle.statics.proofs.Arrays.{Between, entry_at}
 
 module _ (own other : ℕ) (ts : List Tier) where
   abbrev pub spring : ℕ → ℕ
@@ -20,12 +20,6 @@ module _ (own other : ℕ) (ts : List Tier) where
   -- the springs of the first i tiers, and the end's own behind them
   abbrev pub Springs : ℕ → List ℕ → Type 0
   Springs i k = Between own (λ j x. x ≡ spring j) 10 0 i k
-
-  pub springs_none : Springs 0 (replicate 10 own)
-  springs_none = between_none own _ 10 0
-
-  pub springs_more : {i x : ℕ} {k : List ℕ} → i < 10 → x ≡ spring i → Springs i k → Springs (suc i) (set k i x)
-  springs_more {i} {x} {k} room e b = fill_above own (λ j x. x ≡ spring j) 10 0 i k x room e b
 
   pub springs_all : {i : ℕ} {k : List ℕ} → length ts ≤ i → Springs i k → k ≡ map spring (below 10)
   springs_all {i} {k} all b =

@@ -1,32 +1,17 @@
--- Masses tested and summed one after another, from place i on.
-use Prim.Native.Nat.{ℕ, ◌+◌, ◌<◌, ◌≤◌}
-use mathlib.Core.Bool.{true, false, not}
+-- Masses tested and summed: the definitions' words against std's.
+use Prim.Native.Nat.{ℕ}
+use mathlib.Core.Bool.{◌&&◌}
 use mathlib.Core.List.{List}
 use mathlib.Core.Path.{◌≡◌, refl}
-use native.Mathlib.Numerals.{add-one}
-use lib.ListN.{length, get_or, drop, drop_of_length-le}
-use lib.Seq.{drop-cons}
+use Rattle.std.specs.List.{list_all, sum as std_sum}
+use Rattle.std.proofs.lemmas.List.Recursion.{same_from_clauses, is_sum_by}
 use Rattle.sheet.specs.Layout.{within}
-use Rattle.sheet.proofs.Bools.{not_true, not_false}
 use Rattle.twenties.specs.Judgements.{sum, all_fit}
 
-module _ (l : List ℕ) (i : ℕ) where
-  pub fit_here : i < length l → not (within 1 30480 (get_or l i 0)) ≡ false → all_fit (drop i l) ≡ all_fit (drop (i + 1) l)
-  unfolding all_fit
-  fit_here h e = rw (drop-cons l i 0 h, not_false (within 1 30480 (get_or l i 0)) e, add-one i) refl
+pub fit_all : (l : List ℕ) → list_all (within 1 30480) l ≡ all_fit l
+unfolding all_fit
+fit_all l = same_from_clauses (list_all (within 1 30480)) all_fit (λ m b. within 1 30480 m && b) refl (λ _ _. refl) (λ _ _. refl) l
 
-  pub fit_not : i < length l → not (within 1 30480 (get_or l i 0)) ≡ true → all_fit (drop i l) ≡ false
-  unfolding all_fit
-  fit_not h e = rw (drop-cons l i 0 h, not_true (within 1 30480 (get_or l i 0)) e) refl
-
-  pub fit_end : length l ≤ i → all_fit (drop i l) ≡ true
-  unfolding all_fit
-  fit_end h = rw (drop_of_length-le l h) refl
-
-  pub sum_here : i < length l → sum (drop i l) ≡ get_or l i 0 + sum (drop (i + 1) l)
-  unfolding sum
-  sum_here h = rw (drop-cons l i 0 h, add-one i) refl
-
-  pub sum_end : length l ≤ i → sum (drop i l) ≡ 0
-  unfolding sum
-  sum_end h = rw (drop_of_length-le l h) refl
+pub sum_same : (l : List ℕ) → sum l ≡ std_sum l
+unfolding sum
+sum_same = is_sum_by sum (λ m. m) refl (λ _ _. refl)

@@ -1,5 +1,6 @@
 -- What each of the two rows settles: its refusal where it holds, and where neither does the ranges and the verdict; and how great the
 -- numbers of a judgement are.
+use Rattle.std.specs.Prelude.{Ok, Err}
 use Prim.Native.Nat.{ℕ, ◌*◌, ◌^◌, ◌≤◌, ◌<◌}
 use mathlib.Core.Bool.{Bool, true, false, not, ◌||◌}
 use mathlib.Core.List.{List, [], ◌∷◌}
@@ -11,10 +12,9 @@ use lib.ListN.{length}
 use Rattle.sheet.specs.Layout.{◌above◌, within}
 use Rattle.sheet.proofs.Bools.{and_true, or_false, not_false}
 use Rattle.sheet.proofs.Rows.{no_rows, row_holds, row_passed}
-use Rattle.twenties.specs.declared.Judgement.{Judgement}
-use Rattle.twenties.specs.declared.Judgement.TheVariants.{Given, Refused}
-use Rattle.twenties.specs.Judgements.{sum, total, all_fit, verdict, row22, unless_refused, judgement}
+use Rattle.twenties.specs.Judgements.{Judgement, sum, total, all_fit, verdict, row22, judgement}
 use Rattle.twenties.proofs.Rows.{permitted_most}
+use Rattle.sheet.specs.Refusals as R
 
 from_to : (lo hi x : ℕ) → not (within lo hi x) ≡ false → (lo ≤ x) × (x ≤ hi)
 from_to lo hi x e =
@@ -36,27 +36,27 @@ above_lowest (m ∷ ms) = omega arith
 
 -- both masses of a verdict fit 24 bits, the first number of a refusal 8 and the second 56
 abbrev pub Numbers : Judgement → Type 0
-Numbers (Given v) = (v.total < 2 ^ 24) × (v.permitted < 2 ^ 24)
-Numbers (Refused number second) = (number < 256) × (second < 2 ^ 56)
+Numbers (Ok v) = (v.total < 2 ^ 24) × (v.permitted < 2 ^ 24)
+Numbers (Err why) = (why.number < 256) × (why.second < 2 ^ 56)
 
 module _ (table acceleration : ℕ) (masses : List ℕ) where
   abbrev outside : Bool
   outside = (row22 table acceleration (length masses)).holds
 
-  pub refused_22 : outside ≡ true → judgement table acceleration masses ≡ Refused 22 0
+  pub refused_22 : outside ≡ true → judgement table acceleration masses ≡ Err (R.numbers 22 0)
   unfolding judgement
-  refused_22 e = ap (λ r. unless_refused r (verdict table acceleration masses)) (row_holds _ _ e)
+  refused_22 e = ap (λ r. R.unless_refused r (verdict table acceleration masses)) (row_holds _ _ e)
 
-  pub refused_23 : outside ≡ false → not (all_fit masses) ≡ true → judgement table acceleration masses ≡ Refused 23 0
+  pub refused_23 : outside ≡ false → not (all_fit masses) ≡ true → judgement table acceleration masses ≡ Err (R.numbers 23 0)
   unfolding judgement
-  refused_23 e f = ap (λ r. unless_refused r (verdict table acceleration masses)) (row_passed _ _ e ∙ row_holds _ _ f)
+  refused_23 e f = ap (λ r. R.unless_refused r (verdict table acceleration masses)) (row_passed _ _ e ∙ row_holds _ _ f)
 
   pub given :
-      outside ≡ false → not (all_fit masses) ≡ false → judgement table acceleration masses ≡ Given (verdict table acceleration masses)
+      outside ≡ false → not (all_fit masses) ≡ false → judgement table acceleration masses ≡ Ok (verdict table acceleration masses)
   unfolding judgement
   given e f =
       ap
-      (λ r. unless_refused r (verdict table acceleration masses))
+      (λ r. R.unless_refused r (verdict table acceleration masses))
       (row_passed _ _ e ∙ row_passed _ _ f ∙ no_rows)
 
   pub ranges :

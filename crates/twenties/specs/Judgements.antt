@@ -1,13 +1,10 @@
 -- Document 02, P12: twenties in forty-foot guides (CR 5.4.6(b)(ii)). Given are the table (0 without, 1 with a 40-ft box on top), the
 -- acceleration in thousandths of g and the masses of the twenties alone in kg, lowest first.
-use Rattle.std.specs.Prelude.{ℕ, ◌+◌, ◌-◌, ◌*◌, ◌/◌, Bool, true, not, cond, ◌&&◌, ◌||◌, List, [], ◌∷◌, leb, length, get_or, drop}
-use Rattle.sheet.specs.declared.Reading.{Reading}
-use Rattle.sheet.specs.declared.Reading.TheVariants as reading
+use Rattle.std.specs.Prelude.{Result, ℕ, ◌+◌, ◌-◌, ◌*◌, ◌/◌, Bool, true, not, cond, ◌&&◌, ◌||◌, List, [], ◌∷◌, leb, length, get_or, drop}
 use Rattle.sheet.specs.Layout.{◌is◌, ◌above◌, within}
-use Rattle.sheet.specs.Refusals.{Row, row, first}
+use Rattle.sheet.specs.Refusals.{Row, row, first, unless_refused}
 use Rattle.twenties.specs.declared.Verdict.{Verdict}
-use Rattle.twenties.specs.declared.Judgement.{Judgement}
-use Rattle.twenties.specs.declared.Judgement.TheVariants.{Given, Refused}
+use Rattle.sheet.specs.declared.Refusal.{Refusal}
 use Rattle.twenties.specs.Tables.{table52, table53}
 
 -- between two rows the one of higher acceleration is taken: row 0 is that of 350, each further row 10 higher; so rounded up (RowsTaken)
@@ -48,11 +45,11 @@ all_fit (m ∷ ms) = within 1 30480 m && all_fit ms
 abbrev pub row23 : List ℕ → Row
 row23 masses = row 23 0 (not (all_fit masses))
 
--- the first row that holds turns the question back, 22 before 23; where none does, the verdict is given
-abbrev pub unless_refused : Reading → Verdict → Judgement
-unless_refused reading.Taken v = Given v
-unless_refused (reading.Refused number second) v = Refused number second
+-- what is answered: a verdict, or why none is given
+abbrev pub Judgement : Type 0
+Judgement = Result Verdict Refusal
 
+-- the first row that holds turns the question back, 22 before 23; where none does, the verdict is given
 unfoldable pub judgement : ℕ → ℕ → List ℕ → Judgement
 judgement table acceleration masses =
     unless_refused

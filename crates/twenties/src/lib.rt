@@ -7,6 +7,8 @@ mod tables; // tables.rt: the two tables
 ghost use Rattle.std.specs.Prelude.{◌≡◌, ◌<◌, ◌≤◌, ◌^◌, length};
 ghost use Rattle.twenties.specs.Judgements.{permitted, total, all_fit, judgement};
 
+use sheet::Refusal;
+
 // Yes or no, with the total of all tiers but the lowest and the permitted mass, in kg.
 #[derive(Clone, Copy)]
 pub struct Verdict {
@@ -15,16 +17,9 @@ pub struct Verdict {
     pub permitted: u64,
 }
 
-// A verdict, or the two numbers of a refusal.
-#[derive(Clone, Copy)]
-pub enum Judgement {
-    Given(Verdict),
-    Refused(u64, usize),
-}
-
 // Judges the masses of the twenties alone, lowest first, in kg: by table 0 (5-2, without) or 1 (5-3, with a 40-ft box on top), at an
 // acceleration in thousandths of g. No mass is read unless there are 3 to 11.
-pub fn judge(table: u32, acceleration: u32, masses: &[u32]) -> Judgement
+pub fn judge(table: u32, acceleration: u32, masses: &[u32]) -> Result<Verdict, Refusal>
     ensures { result ≡ judgement table acceleration masses.now }
 {
     let tiers = masses.len();
@@ -32,14 +27,20 @@ pub fn judge(table: u32, acceleration: u32, masses: &[u32]) -> Judgement
         | !((350 <= acceleration) & (acceleration <= 650))
         | !((3 <= tiers) & (tiers <= 11))
     {
-        return Judgement::Refused(22, 0);
+        return Err(Refusal {
+            number: 22,
+            second: 0,
+        });
     }
     if !all_fit(masses) {
-        return Judgement::Refused(23, 0);
+        return Err(Refusal {
+            number: 23,
+            second: 0,
+        });
     }
     let total = total_above(masses);
     let permitted = permitted_at(table, acceleration, tiers);
-    Judgement::Given(Verdict {
+    Ok(Verdict {
         yes: total <= permitted,
         total,
         permitted,
@@ -50,15 +51,7 @@ pub fn judge(table: u32, acceleration: u32, masses: &[u32]) -> Judgement
 fn all_fit(masses: &[u32]) -> bool
     ensures { result ≡ all_fit masses.now }
 {
-    let mut i = 0;
-    while i < masses.len() {
-        let mass = masses[i];
-        if !((1 <= mass) & (mass <= 30480)) {
-            return false;
-        }
-        i += 1;
-    }
-    true
+    masses.iter().all(|mass| 1 <= *mass && *mass <= 30480)
 }
 
 // The total of all tiers but the lowest.
@@ -66,13 +59,7 @@ fn total_above(masses: &[u32]) -> u64
     requires { length masses.now ≤ 11 }
     ensures { result ≡ total masses.now }
 {
-    let mut sum = 0;
-    let mut i = 1;
-    while i < masses.len() {
-        sum += wide(masses[i]);
-        i += 1;
-    }
-    sum
+    masses.iter().skip(1).map(|mass| wide(*mass)).sum()
 }
 
 fn wide(x: u32) -> u64

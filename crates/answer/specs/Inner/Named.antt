@@ -1,15 +1,13 @@
 -- What the check answers, by name: a function of the sheet's bytes and the buffer, so that other calls can say what the check would answer.
 -- Theorems says what it is worth; nothing here need be believed.
-use Rattle.std.specs.Prelude.{List, ◌++◌, ℕ, drop, length}
-use Rattle.sheet.specs.declared.Reading.{Reading}
-use Rattle.sheet.specs.declared.Reading.TheVariants.{Taken, Refused}
+use Rattle.std.specs.Prelude.{Ok, Err, List, ◌++◌, ℕ, drop, length}
+use Rattle.sheet.specs.Refusals.{Reading}
 use Rattle.sheet.specs.declared.Sheet.{Sheet}
 use Rattle.sheet.specs.Layout.{sheet_of}
 use Rattle.sheet.specs.Refusals.{refusal}
 use Rattle.statics.specs.declared.LoadRule.{LoadRule}
 use Rattle.statics.specs.Inner.Computed.{figures_by, load_rule_of}
-use Rattle.answer.specs.declared.Outcome.{Outcome}
-use Rattle.answer.specs.declared.Outcome.TheVariants as O
+use Rattle.answer.specs.Outcomes.{Outcome}
 use Rattle.answer.specs.Answers.{answer_bytes}
 
 -- the bytes of the answer to a decoded sheet, by the rule c
@@ -18,12 +16,12 @@ answer_by c t = answer_bytes t (figures_by c t)
 
 -- what is returned and what a buffer that held `before` holds then, by cases on a refusal
 abbrev pub returned_as : Reading → List ℕ → Outcome
-returned_as (Refused c p) bytes = O.Refused c p
-returned_as Taken bytes = O.Taken (length bytes)
+returned_as (Err why) bytes = Err why
+returned_as (Ok _) bytes = Ok (length bytes)
 
 abbrev pub written_as : Reading → List ℕ → List ℕ → List ℕ
-written_as (Refused c p) bytes before = before
-written_as Taken bytes before = bytes ++ drop (length bytes) before
+written_as (Err why) bytes before = before
+written_as (Ok _) bytes before = bytes ++ drop (length bytes) before
 
 -- of a sheet's bytes, by the rule of the sheet
 abbrev pub check_bytes : List ℕ → List ℕ

@@ -3,7 +3,7 @@ use mathlib.Core.Path.{◌∙◌}
 use Prim.Native.Nat.{◌≤◌}
 use native.Mathlib.Nat.{zero-add, le_trans}
 use native.Mathlib.Omega.{arith}
-use Rattle.answer_findings.specs.Inner.Findings.{both_in}
+use Rattle.statics.specs.Inner.InArrays.{both_in}
 use Rattle.answer_write.proofs.Stores.{from_start}
 use Rattle.answer_encode.proofs.AnswerLaws.{whole}
 use borrow.Author.Rules.{rules}
@@ -27,14 +27,11 @@ pub returns : goal.returns
 returns c =
     let x = c.args in
     let z = c.requires.0 in
-    let f =
-    both_in x.doorRacking.now x.doorLevels.now x.doorForces.now x.closedRacking.now x.closedLevels.now
-    x.closedForces.now in
     let found = c.put_findings-count.ensures in
     let r = c.write_found.ensures in
     let h : c.write_found.result ≤ 834 =
     omega (arith, found.few, r.1, c.write_end-q.ensures.1, c.write_end-p.ensures.1, z.tiers, z.door_few, z.closed_few) in
     let p =
-    whole x.t f z found c.write1.ensures c.verdict_of.ensures.0 c.write_end-p.ensures.0
+    whole x.t (both_in x.figures.now) z found c.write1.ensures c.verdict_of.ensures.0 c.write_end-p.ensures.0
     c.write_end-q.ensures.0 c.write1-2.ensures r.0 in
     (p.place ∙ zero-add _, from_start p (le_trans h c.requires.1))

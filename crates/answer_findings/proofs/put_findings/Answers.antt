@@ -2,7 +2,7 @@
 use mathlib.Core.Path.{ap, ◌∙◌}
 use native.Mathlib.Omega.{arith}
 use Rattle.limits.specs.Inner.LowerOf.{lower_of}
-use Rattle.answer_findings.specs.Inner.Findings.{both_in}
+use Rattle.statics.specs.Inner.InArrays.{both_in}
 use Rattle.answer_findings.proofs.FindingLaws.{put_both}
 use Rattle.answer_findings.proofs.put_findings.Goals as goal
 
@@ -10,7 +10,5 @@ pub returns : goal.returns
 returns c =
     let x = c.args in
     let lower = c.lower_of-pull.ensures ∙ ap lower_of c.safe_load.ensures in
-    let f =
-    both_in x.doorRacking.now x.doorLevels.now x.doorForces.now x.closedRacking.now x.closedLevels.now
-    x.closedForces.now in
-    put_both x.t f c.requires.0 c.lower_of-pull.result lower c.put_end-p.ensures.0 c.put_end-q.ensures.0 (omega arith)
+    put_both x.t (both_in x.figures.now) c.requires.0 c.lower_of-pull.result lower c.put_end-p.ensures.0 c.put_end-q.ensures.0
+    (omega arith)

@@ -1,11 +1,10 @@
 -- Contracts of inner functions; nothing here need be believed.
-use Rattle.std.specs.Prelude.{◌≡◌, ℕ, ◌-◌, ◌≤◌, ℤ, pos, nat_abs, get_or, length}
+use Rattle.std.specs.Prelude.{◌≡◌, ℕ, ◌-◌, ◌≤◌, pos, nat_abs, get_or, length}
 use mathlib.Core.List.{List, ◌++◌, flat_map}
 use Rattle.sheet.specs.declared.Lash.{Lash}
 use Rattle.sheet.specs.declared.Sheet.{Sheet}
 use Rattle.statics.specs.declared.EndFigures.{EndFigures}
 use Rattle.statics.specs.declared.Figures.{Figures}
-use Rattle.statics.specs.Inner.InArrays.{figures_in}
 use Rattle.sheet.specs.Ends.{door, closed, lashes_of}
 use Rattle.answer.specs.Limits.{racking_limit, compression_limit, lash_vertical_limit, lash_athwart_limit}
 use Rattle.answer.specs.Findings.{findings}
@@ -39,8 +38,3 @@ pub record PutFindings (t : Sheet) (f : Figures) (before after : List ℕ) (coun
   pub put : Put before 0 (flat_map finding_bytes (findings t f)) after count
   pub counts : count ≡ length (findings t f)
   pub few : count ≤ 108
-
--- the figures of both ends, the door end's three arrays first
-abbrev pub both_in : List ℤ → List ℕ → List ℕ → List ℤ → List ℕ → List ℕ → Figures
-both_in racking levels forces racking' levels' forces' =
-    record { door = figures_in racking levels forces; closed = figures_in racking' levels' forces' }

@@ -9,12 +9,12 @@ use mir.Syntax.{w32}
 use mir.Val.{SFits}
 use mir.ValLaws.{to_z-of_z}
 use Rattle.answer.specs.Limits.{racking_limit}
-use Rattle.answer_put.proofs.Puts.{over_none, over_more, over_all}
+use Rattle.answer_put.proofs.Puts.{over_none, over_more}
 use borrow.Author.Rules.{rules}
 use Rattle.answer_put.proofs.put_rackings.Goals as goal
 
 pub loop-k-init : goal.loop-k-init
-loop-k-init c = (omega arith, omega arith, over_none _ _ _ _ _ _ _)
+loop-k-init c = (omega arith, over_none _ _ _ _ _ _ _)
 
 pub loop-k-preserved : goal.loop-k-preserved
 loop-k-preserved c =
@@ -24,9 +24,4 @@ loop-k-preserved c =
     let b : l.k ≡ 1 + l.k - 1 = omega arith in
     let e =
     (rw (to_z-of_z w32 _ g) at c.racking_over.ensures) ∙ ap (λ (i : ℕ). ltb racking_limit (nat_abs (get_or xs i (pos 0)))) b in
-    (omega arith, omega arith, over_more _ _ _ _ _ l.k l.invariant.2 refl (rw e at c.put_where-next.ensures.put.0))
-
-pub returns : goal.returns
-returns c =
-    let l = c.loop-k in
-    (over_all _ _ _ _ _ l.k l.invariant.2 _ (omega arith) (omega arith), omega arith)
+    (omega arith, over_more _ _ _ _ _ l.k l.invariant.1 refl (rw e at c.put_where-next.ensures.put.0))

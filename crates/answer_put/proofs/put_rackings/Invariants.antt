@@ -8,8 +8,5 @@ use Rattle.answer_put.proofs.put_rackings.Given as goal
 
 abbrev pub invariant-loop-k : goal.invariant-loop-k
 invariant-loop-k l =
-    (l.k ≤ l.n) × (l.next ≤ l.at + l.k) × Put l.initial.found l.at
+    (l.next ≤ l.at + l.k) × Put l.initial.found l.at
     (findings_over l.end 1 1 (λ i. nat_abs (get_or l.xs (i - 1) (pos 0))) (λ i. racking_limit) l.k) l.found l.next
-
-abbrev pub decreases-loop-k : goal.decreases-loop-k
-decreases-loop-k l = l.n - l.k

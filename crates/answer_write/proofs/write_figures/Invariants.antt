@@ -1,5 +1,5 @@
 -- `answer_write::write_figures`: behind the count, the entries passed are stored.
-use Prim.Native.Nat.{◌+◌, ◌*◌, ◌≤◌, ◌-◌}
+use Prim.Native.Nat.{◌+◌, ◌*◌}
 use mathlib.Core.Path.{◌≡◌}
 use mathlib.Core.List.{flat_map}
 use lib.ListN.{get_or}
@@ -10,9 +10,5 @@ use Rattle.answer_write.proofs.write_figures.Given as goal
 
 abbrev pub invariant-loop-i : goal.invariant-loop-i
 invariant-loop-i l =
-    (l.i ≤ l.n)
-    × (l.next ≡ l.initial.next + 4 * l.i)
+    (l.next ≡ l.initial.next + 4 * l.i)
     × Wrote l.initial.answer l.initial.next (flat_map (λ k. bytes4 (get_or l.xs k 0)) (below l.i)) l.answer l.next
-
-abbrev pub decreases-loop-i : goal.decreases-loop-i
-decreases-loop-i l = l.n - l.i

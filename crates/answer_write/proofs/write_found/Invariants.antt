@@ -1,5 +1,5 @@
 -- `answer_write::write_found`: the findings passed are stored.
-use Prim.Native.Nat.{◌+◌, ◌*◌, ◌≤◌, ◌-◌}
+use Prim.Native.Nat.{◌+◌, ◌*◌}
 use mathlib.Core.Path.{◌≡◌}
 use mathlib.Core.List.{flat_map}
 use lib.ListN.{take}
@@ -9,7 +9,4 @@ use Rattle.answer_write.proofs.write_found.Given as goal
 
 abbrev pub invariant-loop-i : goal.invariant-loop-i
 invariant-loop-i l =
-    (l.i ≤ l.n) × (l.next ≡ l.at + 3 * l.i) × Wrote l.initial.answer l.at (flat_map word_bytes (take l.i l.found)) l.answer l.next
-
-abbrev pub decreases-loop-i : goal.decreases-loop-i
-decreases-loop-i l = l.n - l.i
+    (l.next ≡ l.at + 3 * l.i) × Wrote l.initial.answer l.at (flat_map word_bytes (take l.i l.found)) l.answer l.next

@@ -6,23 +6,16 @@ use lib.IntN.{pos}
 use mir.Syntax.{w32}
 use mir.Val.{SFits}
 use mir.ValLaws.{to_z-of_z}
-use Rattle.answer_write.proofs.Stores.{run, entries_none, entries_more, counted_all}
+use Rattle.answer_write.proofs.Stores.{run, entries_none, entries_more}
 use borrow.Author.Rules.{rules}
 use Rattle.answer_write.proofs.write_rackings.Goals as goal
 
 pub loop-i-init : goal.loop-i-init
-loop-i-init c = (search rules, omega arith, entries_none _ _ _)
+loop-i-init c = (omega arith, entries_none _ _ _)
 
 pub loop-i-preserved : goal.loop-i-preserved
 loop-i-preserved c =
     let xs = c.args.xs.now in
     let g : SFits w32 (get_or xs c.loop-i.i (pos 0)) = search rules in
     let e = rw (to_z-of_z w32 _ g) at c.write_signed.ensures in
-    (search rules, omega arith, entries_more _ c.loop-i.i c.loop-i.invariant.2 (run e refl))
-
-pub returns : goal.returns
-returns c = (
-  counted_all _ c.loop-i.i c.args.n c.write1.ensures c.loop-i.invariant.2
-      (omega arith) (omega arith),
-  omega arith,
-)
+    (omega arith, entries_more _ c.loop-i.i c.loop-i.invariant.1 (run e refl))

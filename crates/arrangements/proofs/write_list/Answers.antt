@@ -1,5 +1,5 @@
 -- `arrangements::write_list`: loads, springs, lengths and stiffnesses once, then the accepted choices, then their count (Bytes).
-use mathlib.Core.Path.{refl, sym, ap, ◌∙◌}
+use mathlib.Core.Path.{sym, ap, ◌∙◌}
 use native.Mathlib.Omega.{arith}
 use lib.ListN.{take}
 use Rattle.sheet.proofs.SheetLimits.{sheet_limits}
@@ -7,11 +7,8 @@ use Rattle.limits.specs.Inner.LowerOf.{lower_of}
 use Rattle.arrangements.proofs.Bytes.{whole}
 use Rattle.arrangements.proofs.write_list.Goals as goal
 
-pub loads_of-requires : goal.loads_of-requires
-loads_of-requires c =
-    let p = c.requires in
-    let e = c.rule_of-rule.ensures in
-    record { n_bound = (p.0.few, e.1, e.2); by_index = (sheet_limits p.0).each; loads_value = (refl, refl, refl) }
+pub loads_of-requires-clause-by_index : goal.loads_of-requires-clause-by_index
+loads_of-requires-clause-by_index c = (sheet_limits c.requires.0).each
 
 pub put_choices-next-requires : goal.put_choices-next-requires
 put_choices-next-requires c =
@@ -25,7 +22,6 @@ put_choices-next-requires c =
         closed_springs = c.springs_of.ensures.1;
         loaded = rw (sym rule) c.loads_of.ensures.0;
         measured = c.loads_of.ensures.1;
-        long = (omega arith, omega arith, omega arith);
       };
       gear_given = (
         record {

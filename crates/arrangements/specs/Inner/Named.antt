@@ -2,14 +2,14 @@
 -- need be believed.
 use Rattle.std.specs.Prelude.{ℕ, ◌<◌, ◌≤◌, List, [], ◌∷◌, ◌++◌, ◌≡◌, length, get_or}
 use Rattle.sheet.specs.declared.Lash.{Lash}
-use Rattle.sheet.specs.declared.Reading.{Reading}
+use Rattle.sheet.specs.Refusals.{Reading}
 use Rattle.sheet.specs.declared.Sheet.{Sheet}
 use Rattle.sheet.specs.Fits.{Fits}
 use Rattle.sheet.specs.Layout.{blank_lash, sheet_of}
 use Rattle.sheet.specs.Inner.Limits.{LashLimits}
 use Rattle.sheet.specs.Refusals.{row13, first}
 use Rattle.statics.specs.Inner.Computed.{load_rule_of}
-use Rattle.answer.specs.declared.Outcome.{Outcome}
+use Rattle.answer.specs.Outcomes.{Outcome}
 use Rattle.answer.specs.Inner.Named.{answer_by, returned_as, written_as}
 use Rattle.choices.specs.Choices.{chosen}
 use Rattle.gear.specs.Gear.{gear_lashes, with_lashes}

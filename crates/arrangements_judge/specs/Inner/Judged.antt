@@ -14,10 +14,11 @@ use Rattle.answer.specs.Limits.{safe_load}
 use Rattle.answer.specs.Findings.{accepted}
 use Rattle.end_verdict.specs.Inner.NoneOver.{none_found}
 use Rattle.gear.specs.Gear.{with_lashes}
-use Rattle.chosen_lashes.specs.declared.Chosen.{Chosen}
+use Rattle.gear.specs.declared.Gear.{Gear}
+use Rattle.arrangements_judge.specs.declared.Stack.{Stack}
 
 -- the lashes in arrays
-abbrev pub lashes_in : Chosen → List Lash
+abbrev pub lashes_in : Gear → List Lash
 lashes_in g = take g.count g.lashes
 
 -- an end of n tiers of heights hs with springs k and m lashes ls, whose stiffnesses by level are κ, loads ω on the levels and half of the
@@ -26,7 +27,6 @@ pub record EndGiven (n : ℕ) (k hs : List ℕ) (m : ℕ) (ls : List Lash) (κ �
   pub works : Workable n k hs m ls ω weights
   pub counted : length ls ≡ m
   pub levelled : κ ≡ stiffnesses_of ls
-  pub long : (length k ≡ 10) × (length hs ≡ 10) × (length ω ≡ 10) × (length weights ≡ 22)
 
 -- whether it has no finding, where its lashes are the first m of an array
 abbrev pub no_finding : ℕ → List ℕ → List Tier → List Lash → ℕ → PullLimit → List ℕ → Bool
@@ -39,7 +39,9 @@ pub record StackGiven (t : Sheet) (pull : PullLimit) (k h hs ω weights : List �
   pub closed_springs : h ≡ springs_of closed (tiers_of t)
   pub loaded : Loaded (load_rule_of t) t.ntiers (tiers_of t) ω
   pub measured : TiersMeasured t.ntiers (tiers_of t) hs weights
-  pub long : (length hs ≡ 10) × (length ω ≡ 10) × (length weights ≡ 22)
+
+abbrev pub Given : Stack → Type 0
+Given s = StackGiven s.sheet s.pull s.springs.door s.springs.closed s.tiers.heights s.tiers.loads s.tiers.weights
 
 -- whether the check accepts it with these lashes at both ends
 abbrev pub accepted_with : List Lash → Sheet → Bool

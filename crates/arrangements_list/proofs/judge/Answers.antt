@@ -17,16 +17,6 @@ returns-then-all-choice c =
     let a = c.args in
     rw (le-ltb a.choice a.all (omega (arith, c.if-all-choice.true))) refl
 
-pub gather-g-requires : goal.gather-g-requires
-gather-g-requires c =
-    let g = c.requires.gear_given in
-    record {
-      m_bound = (g.few, g.each);
-      lashes_measured = g.measured;
-      lengths_len = (g.measured.long.long, g.measured.stiff.long);
-      long_value = (refl, refl, refl);
-    }
-
 pub accepts-requires : goal.accepts-requires
 accepts-requires c =
     let ls = chosen c.args.choice (take c.args.m c.args.lashes) in
@@ -34,7 +24,7 @@ accepts-requires c =
     let fits = c.requires.gear_given.fits c.args.choice in
     record {
       stack_given = c.requires.stack_given;
-      kappa_value = (held_by_name ls e, subst (λ (l : List Lash). Fits (with_lashes l c.args.t)) (sym (held_back ls e)) fits);
+      held = (held_by_name ls e, subst (λ (l : List Lash). Fits (with_lashes l c.args.stack.now.sheet)) (sym (held_back ls e)) fits);
     }
 
 pub returns : goal.returns
@@ -42,4 +32,4 @@ returns c =
     let a = c.args in
     let ls = chosen a.choice (take a.m a.lashes) in
     rw (lt-ltb a.choice a.all (omega (arith, c.if-all-choice.false)))
-    (c.accepts.ensures ∙ ap (λ (l : List Lash). accepted_with l a.t) (held_back ls c.gather-g.ensures))
+    (c.accepts.ensures ∙ ap (λ (l : List Lash). accepted_with l a.stack.now.sheet) (held_back ls c.gather-g.ensures))

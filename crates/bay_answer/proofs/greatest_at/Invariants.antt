@@ -1,5 +1,5 @@
 -- `bay_answer::greatest_at`: after i turns the greatest of the first i sizes of both ends.
-use Prim.Native.Nat.{◌-◌, ◌≤◌, ◌^◌}
+use Prim.Native.Nat.{◌≤◌, ◌^◌}
 use mathlib.Core.Path.{◌≡◌}
 use Rattle.bay_wind.specs.Sums.{larger}
 use Rattle.bay_answer.specs.Inner.Totalled.{greatest_at}
@@ -7,7 +7,4 @@ use Rattle.bay_answer.proofs.greatest_at.Given as goal
 
 abbrev pub invariant-loop-i : goal.invariant-loop-i
 invariant-loop-i l =
-    (l.i ≤ l.n) × (l.greatest ≡ larger (greatest_at l.answer l.door l.i) (greatest_at l.answer l.closed l.i)) × (l.greatest ≤ 2 ^ 31)
-
-abbrev pub decreases-loop-i : goal.decreases-loop-i
-decreases-loop-i l = l.n - l.i
+    (l.greatest ≡ larger (greatest_at l.answer l.door l.i) (greatest_at l.answer l.closed l.i)) × (l.greatest ≤ 2 ^ 31)

@@ -1,9 +1,7 @@
--- `bay_answer::larger_of`: by the comparison of the two.
-use Rattle.bay_answer.proofs.Sizes.{right_larger, left_larger}
+-- `bay_answer::larger_of`: std's `max` by another name.
+use mathlib.Core.Path.{sym, ◌∙◌}
+use Rattle.bay_answer.proofs.Sizes.{larger_max}
 use Rattle.bay_answer.proofs.larger_of.Goals as goal
 
-pub returns-then-a-b : goal.returns-then-a-b
-returns-then-a-b c = right_larger c.args.a c.args.b c.if-a-b.true
-
 pub returns : goal.returns
-returns c = left_larger c.args.a c.args.b c.if-a-b.false
+returns c = c.max.ensures ∙ sym (larger_max c.args.a c.args.b)

@@ -1,5 +1,5 @@
 -- `bay_answer::mass_of`: after k turns the mass of the first k tiers.
-use Prim.Native.Nat.{◌*◌, ◌-◌, ◌≤◌}
+use Prim.Native.Nat.{◌*◌, ◌≤◌}
 use mathlib.Core.Path.{◌≡◌}
 use Rattle.sheet.specs.Layout.{tiers_in}
 use Rattle.sheet.specs.Fits.{tier_at}
@@ -7,7 +7,4 @@ use Rattle.bay_wind.specs.Sums.{sum_of}
 use Rattle.bay_answer.proofs.mass_of.Given as goal
 
 abbrev pub invariant-loop-k : goal.invariant-loop-k
-invariant-loop-k l = (l.k ≤ l.n) × (l.mass ≡ sum_of (λ j. (tier_at (tiers_in l.row l.n) j).mass) l.k) × (l.mass ≤ 65535 * l.k)
-
-abbrev pub decreases-loop-k : goal.decreases-loop-k
-decreases-loop-k l = l.n - l.k
+invariant-loop-k l = (l.mass ≡ sum_of (λ j. (tier_at (tiers_in l.row l.n) j).mass) l.k) × (l.mass ≤ 65535 * l.k)

@@ -9,17 +9,16 @@ use Rattle.bay_wind.proofs.Sums.{sum_none, tiers_more}
 use Rattle.bay_outlines.proofs.height_of.Goals as goal
 
 pub loop-k-init : goal.loop-k-init
-loop-k-init c = (search rules, sym (sum_none _), search rules)
+loop-k-init c = (sym (sum_none _), search rules)
 
 pub loop-k-preserved : goal.loop-k-preserved
 loop-k-preserved c = (
-  search rules,
-  tiers_more (λ (t : Tier). t.height) c.args.row.now c.args.n c.loop-k.k c.loop-k-test.true c.loop-k.invariant.1
+  tiers_more (λ (t : Tier). t.height) c.args.row.now c.args.n c.loop-k.k c.loop-k-test.true c.loop-k.invariant.0
       c.tier_of-t.ensures,
-  omega (arith, c.loop-k.invariant.2),
+  omega arith,
 )
 
 pub returns : goal.returns
 returns c =
     let a = c.args in
-    c.loop-k.invariant.1 ∙ ap (height_of (tiers_in a.row.now a.n)) (omega arith)
+    c.loop-k.invariant.0 ∙ ap (height_of (tiers_in a.row.now a.n)) (omega arith)

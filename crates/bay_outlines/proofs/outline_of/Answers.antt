@@ -1,10 +1,10 @@
 -- `bay_outlines::outline_of`: the counts and lengths that a loaded row needs follow from its being taken (Heights).
+use Rattle.std.specs.Prelude.{Ok}
 use Prim.Native.Nat.{ℕ}
 use mathlib.Core.List.{List}
 use mathlib.Core.Path.{◌≡◌, sym, ◌∙◌}
 use native.Mathlib.Omega.{arith}
 use lib.ListN.{length}
-use Rattle.sheet.specs.declared.Reading.TheVariants.{Taken}
 use Rattle.sheet.specs.Refusals.{first, sheet_rows}
 use Rattle.bay_rows.specs.Refusals.{row_reading}
 use Rattle.bay_outlines.proofs.Heights.{empty_outline, tiers_few, tiers_held, first_held, loaded_outline}
@@ -12,7 +12,7 @@ use Rattle.bay_rows.proofs.Readings.{loaded_reading}
 use Rattle.bay_outlines.proofs.outline_of.Goals as goal
 
 -- a loaded row is taken
-taken : (row : List ℕ) → (length row ≡ 0 → ⊥) → row_reading row ≡ Taken → first (sheet_rows row) ≡ Taken
+taken : (row : List ℕ) → (length row ≡ 0 → ⊥) → row_reading row ≡ Ok tt → first (sheet_rows row) ≡ Ok tt
 taken row some h = sym (loaded_reading row some) ∙ h
 
 pub returns-then-row-eq0 : goal.returns-then-row-eq0

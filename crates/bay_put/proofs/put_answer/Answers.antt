@@ -1,4 +1,5 @@
 -- `bay_put::put_answer`: the answer to the row with its tiers in the bay, behind its length, read back for the totals (Answers, Rows).
+use Rattle.std.specs.Prelude.{Ok}
 use Prim.Native.Nat.{ℕ, ◌+◌, ◌-◌, ◌≤◌}
 use mathlib.Core.List.{List, ◌++◌}
 use mathlib.Core.Path.{◌≡◌, sym, ap, subst, ◌∙◌}
@@ -10,7 +11,6 @@ use lib.ListN.{length, take, drop}
 use Rattle.arith.specs.Bytes.{byte_at, bytes2}
 use Rattle.sheet.specs.declared.Sheet.{Sheet}
 use Rattle.sheet.specs.declared.Tier.{Tier}
-use Rattle.sheet.specs.declared.Reading.TheVariants.{Taken}
 use Rattle.sheet.specs.Refusals.{first, sheet_rows}
 use Rattle.sheet.specs.Layout.{sheet_of}
 use Rattle.sheet.specs.Fits.{Fits}
@@ -27,7 +27,7 @@ use Rattle.bay_put.proofs.Rows.{tiers_held, counts_fit, totals_are, put}
 use Rattle.bay_put.proofs.put_answer.Goals as goal
 
 -- a row that has no refusal
-module _ (row : List ℕ) (near : Neighbours) (taken : first (sheet_rows row) ≡ Taken) where
+module _ (row : List ℕ) (near : Neighbours) (taken : first (sheet_rows row) ≡ Ok tt) where
   -- its sheet in the bay
   abbrev sheet : Sheet
   sheet = sheet_in_bay near (sheet_of row)
@@ -86,7 +86,7 @@ totals_of-requires c =
     let row = a.row.now in
     let lashes = c.byte_at-ndoor.ensures.0 ∙ ap (byte_at row) c.door_place.ensures.0 in
     let read = answer_read row a.near c.requires.0 a.report.now c.requires.1 c.tiers_in_bay-tiers.ensures c.answer_row-n.ensures
-    c.put_length.ensures in
+    c.write2.ensures in
     let fit = counts_fit a.near row c.requires.0 c.byte_at-ntiers.ensures.0 lashes read in
     (fit.0, fit.1, fit.2, fit.3, c.mass_of-mass.ensures.1)
 
@@ -97,9 +97,9 @@ returns c =
     let near = a.near in
     let lashes = c.byte_at-ndoor.ensures.0 ∙ ap (byte_at row) c.door_place.ensures.0 in
     let read = answer_read row near c.requires.0 a.report.now c.requires.1 c.tiers_in_bay-tiers.ensures c.answer_row-n.ensures
-    c.put_length.ensures in
+    c.write2.ensures in
     let stored = stored row near c.requires.0 a.report.now c.requires.1 c.tiers_in_bay-tiers.ensures c.answer_row-n.ensures
-    c.put_length.ensures in
+    c.write2.ensures in
     let totals =
     totals_are near row c.requires.0 c.byte_at-ntiers.ensures.0 lashes read c.mass_of-mass.ensures.0 c.totals_of.ensures.0 in
     put near row c.requires.0 a.report.now totals c.totals_of.ensures.1 stored

@@ -9,7 +9,7 @@ returns-then-row-eq0 c =
     let s = a.row.now in (
       empty_totals a.near s c.if-row-eq0.true,
       nothing_bounded,
-      empty_stored a.near s a.report.now c.if-row-eq0.true (omega (arith, c.requires.1)) c.put_length.ensures,
+      empty_stored a.near s a.report.now c.if-row-eq0.true (omega (arith, c.requires.1)) c.write2.ensures,
     )
 
 pub put_answer-requires : goal.put_answer-requires

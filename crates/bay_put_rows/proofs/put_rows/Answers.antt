@@ -1,4 +1,5 @@
 -- `bay_put_rows::put_rows`: after k turns the buffer holds the first k rows, and the totals are theirs (Steps).
+use Rattle.std.specs.Prelude.{Ok}
 use Prim.Native.Nat.{ℕ, ◌+◌, ◌<◌, ◌≤◌}
 use mathlib.Core.List.{List, ◌++◌}
 use mathlib.Core.Path.{◌≡◌, refl, sym, ap, ap₂, subst, ◌∙◌}
@@ -8,7 +9,6 @@ use borrow.Author.Rules.{rules}
 use lib.ListN.{length, drop, length-drop}
 use Rattle.sheet.specs.Layout.{sheet_of}
 use Rattle.bay_wind.specs.Exposure.{neighbours_of, sheet_in_bay}
-use Rattle.bay_rows.specs.declared.BayReading.TheVariants.{Taken}
 use Rattle.bay_rows.specs.Bay.{row_count, row_place}
 use Rattle.bay_rows.specs.Refusals.{rows_refusal}
 use Rattle.bay_rows.proofs.Places.{place_first, next_is, row_there, row_is}
@@ -23,7 +23,7 @@ use Rattle.bay_put_rows.proofs.Steps.{stored_none, stored_more, same_room}
 use Rattle.bay_put_rows.proofs.put_rows.Goals as goal
 
 -- a bay that has no refusal, and its count
-module _ (bay : List ℕ) (taken : rows_refusal bay ≡ Taken) {n : ℕ} (count : n ≡ row_count bay) where
+module _ (bay : List ℕ) (taken : rows_refusal bay ≡ Ok tt) {n : ℕ} (count : n ≡ row_count bay) where
   bay-sound : Sound bay
   bay-sound = sound bay taken
 
@@ -50,63 +50,33 @@ outlines-rows-requires c = (few c.args.bay.now c.requires.0 c.requires.1, c.requ
 pub loop-k-init : goal.loop-k-init
 loop-k-init c =
     let bay = c.args.bay.now in
-    let none = c.none-totals.ensures in (
-      search rules,
-      sym (place_first bay),
-      search rules,
-      totals_none bay none,
-      bounded_none none,
-      stored_none bay c.args.report.now,
-      refl,
-    )
-
-pub neighbours_of-near-requires : goal.neighbours_of-near-requires
-neighbours_of-near-requires c =
-    let o = c.outlines-rows.ensures in
-    (omega (arith, c.loop-k-test.true), omega (arith, few c.args.bay.now c.requires.0 c.requires.1, o.1), o.2 ∙ sym o.1)
+    let none = c.none-totals.ensures in
+    record {
+      few = few bay c.requires.0 c.requires.1;
+      at = sym (place_first bay);
+      near = search rules;
+      totals = totals_none bay none;
+      bounded = bounded_none none;
+      stored = stored_none bay c.args.report.now;
+      size = refl;
+    }
 
 pub row_at-requires : goal.row_at-requires
 row_at-requires c =
     let bay = c.args.bay.now in (
-      omega (arith, c.loop-k.invariant.2, few bay c.requires.0 c.requires.1, c.loop-k-test.true),
-      row_there bay c.loop-k.k c.loop-k.invariant.1 c.args.n c.loop-k-test.true (ends bay c.requires.0 c.requires.1),
+      omega arith,
+      row_there bay c.loop-k.k c.loop-k.invariant.at c.args.n c.loop-k-test.true (ends bay c.requires.0 c.requires.1),
     )
-
-pub slice_bounds-put_row-count : goal.slice_bounds-put_row-count
-slice_bounds-put_row-count c =
-    let l = c.loop-k.invariant in
-    omega (arith, room c.loop-k.report (few c.args.bay.now c.requires.0 c.requires.1) c.loop-k-test.true l.4 l.6 c.requires.2)
 
 pub put_row-row-requires : goal.put_row-row-requires
 put_row-row-requires c =
     let bay = c.args.bay.now in
     let l = c.loop-k.invariant in
-    let row = row_is bay c.loop-k.k l.1 c.row_at.ensures in
-    let left = room c.loop-k.report (few bay c.requires.0 c.requires.1) c.loop-k-test.true l.4 l.6 c.requires.2 in (
+    let row = row_is bay c.loop-k.k l.at c.row_at.ensures in
+    let left = room c.loop-k.report l.few c.loop-k-test.true l.bounded l.size c.requires.2 in (
       rw row ((bay-sound bay c.requires.0 c.requires.1).rows c.loop-k.k (rw c.requires.1 at c.loop-k-test.true)),
       rw (part_to_end c.loop-k.report c.loop-k.totals.length, length-drop) (omega (arith, left)),
     )
-
-pub added_up-totals-requires : goal.added_up-totals-requires
-added_up-totals-requires c =
-    let x = c.loop-k.invariant.4 in
-    let y = c.put_row-row.ensures.1 in
-    let h = few c.args.bay.now c.requires.0 c.requires.1 in
-    let k = c.loop-k.invariant.0 in (
-      omega (arith, x.length, h, k),
-      omega (arith, y.length),
-      omega (arith, x.accepted, h, k),
-      omega (arith, y.accepted),
-      omega (arith, x.mass, h, k),
-      omega (arith, y.mass),
-    )
-
-pub next_place-at-requires : goal.next_place-at-requires
-next_place-at-requires c =
-    omega (arith, c.loop-k.invariant.2, few c.args.bay.now c.requires.0 c.requires.1, c.loop-k-test.true)
-
-pub overflow_add-k : goal.overflow_add-k
-overflow_add-k c = omega (arith, few c.args.bay.now c.requires.0 c.requires.1, c.loop-k-test.true)
 
 pub loop-k-preserved : goal.loop-k-preserved
 loop-k-preserved c =
@@ -115,34 +85,33 @@ loop-k-preserved c =
     let l = c.loop-k.invariant in
     let e = c.next_place-at.ensures in
     let row = c.put_row-row.ensures in
-    let row_handed = row_is bay k l.1 c.row_at.ensures in
+    let row_handed = row_is bay k l.at c.row_at.ensures in
     let near_is = c.neighbours_of-near.ensures
-    ∙ ap (λ rows. neighbours_of rows k) (rows_are bay c.args.n c.outlines-rows.ensures.0 c.requires.1) in
+    ∙ ap (λ rows. neighbours_of rows k) (rows_are bay c.args.n c.outlines-rows.ensures c.requires.1) in
     let answered = answer_in c.neighbours_of-near.result c.row_at.result.now in
     let answer_is = ap₂ answer_in near_is row_handed in
     let totals = row.0 ∙ ap₂ (λ near s. row_totals (sheet_in_bay near (sheet_of s)) (answer_in near s)) near_is row_handed in
-    let to = ap (λ (t : Totals). t.length) l.3 in
+    let to = ap (λ (t : Totals). t.length) l.totals in
     let size = ap (λ (t : Totals). t.length) row.0 in
-    let left = room c.loop-k.report (few bay c.requires.0 c.requires.1) c.loop-k-test.true l.4 l.6 c.requires.2 in
+    let left = room c.loop-k.report l.few c.loop-k-test.true l.bounded l.size c.requires.2 in
     let space : c.loop-k.totals.length + length (row_bytes answered) ≤ length c.loop-k.report =
-    omega (arith, size, row.1.length, left) in (
-      search rules,
-      next_is bay k l.1 e.0,
-      omega (arith, l.2, e.1),
-      totals_more bay k l.3 totals c.added_up-totals.ensures,
-      bounded_more k l.4 row.1 c.added_up-totals.ensures,
-      stored_more bay k c.args.report.now l.5 to space row.2 answer_is,
-      same_room (row_bytes answered) c.loop-k.report c.loop-k.totals.length space row.2 ∙ l.6,
-    )
-
-pub shape_of-report : goal.shape_of-report
-shape_of-report c = c.loop-k.invariant.6
+    omega (arith, size, row.1.length, left) in
+    record {
+      few = l.few;
+      at = next_is bay k l.at e.0;
+      near = omega (arith, l.near, e.1);
+      totals = totals_more bay k l.totals totals c.added_up-totals.ensures;
+      bounded = bounded_more k l.bounded row.1 c.added_up-totals.ensures;
+      stored = stored_more bay k c.args.report.now l.stored to space row.2 answer_is;
+      size = same_room (row_bytes answered) c.loop-k.report c.loop-k.totals.length space row.2 ∙ l.size;
+    }
 
 pub returns : goal.returns
 returns c =
     let bay = c.args.bay.now in
-    let all : c.loop-k.k ≡ c.args.n = omega (arith, c.loop-k.invariant.0, c.loop-k-test.false) in (
-      c.loop-k.invariant.3 ∙ ap (totals_of bay) all,
-      subst (λ m. Bounded m c.loop-k.totals) all c.loop-k.invariant.4,
-      c.loop-k.invariant.5 ∙ ap (λ m. rows_bytes bay m ++ drop (length (rows_bytes bay m)) c.args.report.now) all,
+    let l = c.loop-k.invariant in
+    let all : c.loop-k.k ≡ c.args.n = omega (arith, c.loop-k-test.false) in (
+      l.totals ∙ ap (totals_of bay) all,
+      subst (λ m. Bounded m c.loop-k.totals) all l.bounded,
+      l.stored ∙ ap (λ m. rows_bytes bay m ++ drop (length (rows_bytes bay m)) c.args.report.now) all,
     )

@@ -6,13 +6,13 @@ use Rattle.bay_rows.specs.Bay.{row_place}
 use Rattle.bay_rows.proofs.Places.{place_first, next_is}
 use Rattle.bay_rows.proofs.end_place.Goals as goal
 
-pub loop-k-init : goal.loop-k-init
-loop-k-init c = (search rules, sym (place_first _), search rules)
+pub loop-init : goal.loop-init
+loop-init c = (sym (place_first _), search rules)
 
-pub loop-k-preserved : goal.loop-k-preserved
-loop-k-preserved c =
+pub loop-preserved : goal.loop-preserved
+loop-preserved c =
     let e = c.next_place-at.ensures in
-    (search rules, next_is _ c.loop-k.k c.loop-k.invariant.1 e.0, omega (arith, c.loop-k.invariant.2, e.1))
+    (next_is _ c.loop.counter c.loop.invariant.0 e.0, omega (arith, c.loop.invariant.1, e.1))
 
 pub returns : goal.returns
-returns c = c.loop-k.invariant.1 ∙ ap (row_place _) (omega arith)
+returns c = c.loop.invariant.0 ∙ ap (row_place _) (omega arith)

@@ -5,7 +5,7 @@ use mathlib.Core.Path.{◌≡◌, sym, ap, ◌∙◌}
 use native.Mathlib.Nat.{sub-zero}
 use native.Mathlib.Omega.{arith}
 use borrow.Author.Rules.{rules}
-use Rattle.sheet.specs.declared.Reading.{Reading}
+use Rattle.sheet.specs.Refusals.{Reading}
 use Rattle.bay_rows.specs.Bay.{row_place, row_at, row_of}
 use Rattle.bay_rows.specs.Refusals.{row_reading}
 use Rattle.bay_rows.proofs.Places.{place_first, next_is, row_there, row_is}
@@ -22,34 +22,31 @@ reading :
 reading bay k h e g = sym (h ∙ ap row_reading (row_is bay k e g))
 
 pub loop-k-init : goal.loop-k-init
-loop-k-init c = (search rules, sym (place_first c.args.bay.now), search rules, rw sub-zero)
+loop-k-init c = (sym (place_first c.args.bay.now), search rules, rw sub-zero)
 
 pub row_at-requires : goal.row_at-requires
 row_at-requires c =
-    let bay = c.args.bay.now in (
-      omega (arith, c.loop-k.invariant.2, c.requires.0),
-      row_there bay c.loop-k.k c.loop-k.invariant.1 c.args.n c.loop-k-test.true c.requires.1,
-    )
+    let bay = c.args.bay.now in
+    (omega arith, row_there bay c.loop-k.k c.loop-k.invariant.0 c.args.n c.loop-k-test.true c.requires.1)
 
-pub returns-in-Refused : goal.returns-in-Refused
-returns-in-Refused c =
-    sym (next_refused c.args.bay.now c.loop-k.k c.args.n c.loop-k-test.true (reading c.args.bay.now c.loop-k.k c.test_row.ensures c.loop-k.invariant.1 c.row_at.ensures ∙ c.in-Refused.is))
-    ∙ c.loop-k.invariant.3
-
-pub next_place-at-requires : goal.next_place-at-requires
-next_place-at-requires c =
-    omega (arith, c.loop-k.invariant.2, c.requires.0, c.loop-k-test.true)
+pub returns-in-Err : goal.returns-in-Err
+returns-in-Err c =
+    let bay = c.args.bay.now in
+    let k = c.loop-k.k in
+    let said = reading bay k c.test_row.ensures c.loop-k.invariant.0 c.row_at.ensures in
+    sym (next_refused bay k c.args.n c.loop-k-test.true (said ∙ c.in-Err.is)) ∙ c.loop-k.invariant.2
 
 pub loop-k-preserved : goal.loop-k-preserved
 loop-k-preserved c =
+    let bay = c.args.bay.now in
+    let k = c.loop-k.k in
+    let said = reading bay k c.test_row.ensures c.loop-k.invariant.0 c.row_at.ensures in
     let e = c.next_place-at.ensures in (
-      search rules,
-      next_is c.args.bay.now c.loop-k.k c.loop-k.invariant.1 e.0,
-      omega (arith, c.loop-k.invariant.2, e.1),
-      sym (next_taken c.args.bay.now c.loop-k.k c.args.n c.loop-k-test.true (reading c.args.bay.now c.loop-k.k c.test_row.ensures c.loop-k.invariant.1 c.row_at.ensures ∙ c.in_default.is))
-          ∙ c.loop-k.invariant.3,
+      next_is bay k c.loop-k.invariant.0 e.0,
+      omega arith,
+      sym (next_taken bay k c.args.n c.loop-k-test.true (said ∙ c.in_default.is)) ∙ c.loop-k.invariant.2,
     )
 
 pub returns : goal.returns
 returns c =
-    sym (none_left c.args.bay.now c.loop-k.k c.args.n c.loop-k-test.false) ∙ c.loop-k.invariant.3
+    sym (none_left c.args.bay.now c.loop-k.k c.args.n c.loop-k-test.false) ∙ c.loop-k.invariant.2

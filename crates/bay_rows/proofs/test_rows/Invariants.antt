@@ -8,7 +8,4 @@ use Rattle.bay_rows.proofs.test_rows.Given as goal
 
 abbrev pub invariant-loop-k : goal.invariant-loop-k
 invariant-loop-k l =
-    (l.k ≤ l.n) × (l.at ≡ row_place l.bay l.k) × (l.at ≤ 1 + 65537 * l.k) × (first_of l.bay (from l.k (l.n - l.k)) ≡ first_of l.bay (below l.n))
-
-abbrev pub decreases-loop-k : goal.decreases-loop-k
-decreases-loop-k l = l.n - l.k
+    (l.at ≡ row_place l.bay l.k) × (l.at ≤ 1 + 65537 * l.k) × (first_of l.bay (from l.k (l.n - l.k)) ≡ first_of l.bay (below l.n))

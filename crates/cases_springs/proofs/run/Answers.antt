@@ -3,7 +3,7 @@ use native.Mathlib.Omega.{arith}
 use Rattle.cases_springs.proofs.run.Goals as goal
 
 pub both_ways-requires : goal.both_ways-requires
-both_ways-requires c =
+both_ways-requires g c =
     record {
       n_bound = (c.requires.0, omega (arith, c.requires.1));
       k_len = (omega arith, omega arith, omega arith);

@@ -7,7 +7,7 @@ use Rattle.statics.specs.Lashes.{lash_length}
 use Rattle.statics.specs.Inner.WholeNumbers.{stiffness_of}
 use Rattle.statics.specs.Inner.Computed.{stiffnesses_of}
 use Rattle.choices.specs.Choices.{chosen}
-use Rattle.chosen_lashes.specs.declared.Chosen.{Chosen}
+use Rattle.gear.specs.declared.Gear.{Gear}
 
 -- lashes in arrays: with their lengths, their stiffnesses, and the sums of these by level
 pub record Held : Type 0 where
@@ -17,7 +17,7 @@ pub record Held : Type 0 where
   pub levels : List ℕ
   pub count : ℕ
 
-abbrev pub held_in : Chosen → List ℕ → List ℕ → List ℕ → Held
+abbrev pub held_in : Gear → List ℕ → List ℕ → List ℕ → Held
 held_in g lengths stiffnesses levels =
     record { lashes = g.lashes; lengths = lengths; stiffnesses = stiffnesses; levels = levels; count = g.count }
 

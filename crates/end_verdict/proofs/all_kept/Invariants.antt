@@ -1,5 +1,4 @@
 -- `end_verdict::all_kept`: none of the sizes passed exceeds the limit.
-use Prim.Native.Nat.{◌-◌, ◌≤◌}
 use mathlib.Core.Path.{◌≡◌}
 use lib.ListN.{get_or}
 use Rattle.end_verdict.specs.Inner.NoneOver.{none_over}
@@ -7,7 +6,4 @@ use Rattle.end_verdict.proofs.all_kept.Given as goal
 
 abbrev pub invariant-loop-k : goal.invariant-loop-k
 invariant-loop-k l =
-    (l.k ≤ l.n) × (l.kept ≡ none_over (λ i. get_or l.xs i 0) (λ i. l.limit) l.first l.k)
-
-abbrev pub decreases-loop-k : goal.decreases-loop-k
-decreases-loop-k l = l.n - l.k
+    l.kept ≡ none_over (λ i. get_or l.xs i 0) (λ i. l.limit) l.first l.k

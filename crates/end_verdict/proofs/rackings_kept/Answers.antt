@@ -10,11 +10,11 @@ use Rattle.answer.specs.Limits.{racking_limit}
 use native.Mathlib.Omega.{arith}
 use lib.ListN.{get_or}
 use borrow.Author.Rules.{rules}
-use Rattle.end_verdict.proofs.NoneFound.{kept_none, kept_more, kept_all}
+use Rattle.end_verdict.proofs.NoneFound.{kept_none, kept_more}
 use Rattle.end_verdict.proofs.rackings_kept.Goals as goal
 
 pub loop-k-init : goal.loop-k-init
-loop-k-init c = (omega arith, kept_none _ _ _)
+loop-k-init c = kept_none _ _ _
 
 pub loop-k-preserved : goal.loop-k-preserved
 loop-k-preserved c =
@@ -23,9 +23,4 @@ loop-k-preserved c =
     let g : SFits w32 (get_or xs l.k (pos 0)) = search rules in
     let b : l.k ≡ 1 + l.k - 1 = omega arith in
     let e = (rw (to_z-of_z w32 _ g) at c.racking_over.ensures) ∙ ap (λ (i : ℕ). ltb racking_limit (nat_abs (get_or xs i (pos 0)))) b in
-    (omega arith, kept_more _ _ _ l.k l.invariant.1 e)
-
-pub returns : goal.returns
-returns c =
-    let l = c.loop-k in
-    kept_all _ _ _ l.k l.invariant.1 _ (omega arith) (omega arith)
+    kept_more _ _ _ l.k l.invariant e

@@ -1,5 +1,5 @@
 -- `end_verdict::rackings_kept`: none of the rackings passed exceeds the limit in size.
-use Prim.Native.Nat.{◌-◌, ◌≤◌}
+use Prim.Native.Nat.{◌-◌}
 use mathlib.Core.Path.{◌≡◌}
 use lib.IntN.{pos, nat_abs}
 use Rattle.answer.specs.Limits.{racking_limit}
@@ -9,7 +9,4 @@ use Rattle.end_verdict.proofs.rackings_kept.Given as goal
 
 abbrev pub invariant-loop-k : goal.invariant-loop-k
 invariant-loop-k l =
-    (l.k ≤ l.n) × (l.kept ≡ none_over (λ i. nat_abs (get_or l.xs (i - 1) (pos 0))) (λ i. racking_limit) 1 l.k)
-
-abbrev pub decreases-loop-k : goal.decreases-loop-k
-decreases-loop-k l = l.n - l.k
+    l.kept ≡ none_over (λ i. nat_abs (get_or l.xs (i - 1) (pos 0))) (λ i. racking_limit) 1 l.k

@@ -1,76 +1,50 @@
 -- `figures::figures_both`: the shifts of both ends, then the figures of each end at its shifts (EndLaws).
-use mathlib.Core.Path.{◌≡◌, refl}
+use mathlib.Core.Path.{◌≡◌}
 use native.Mathlib.Omega.{arith}
 use lib.ListN.{length}
 use lib.Seq.{length-take-le}
 use Rattle.sheet.specs.Ends.{door, closed, lashes_of}
-use Rattle.figures.proofs.EndLaws.{end_solvable, without_loads, end_solved, end_fits}
+use Rattle.figures.proofs.EndLaws.{end_solvable, end_solved, end_fits}
 use Rattle.figures.proofs.figures_both.Goals as goal
 
-pub solve_both-requires : goal.solve_both-requires
-solve_both-requires c =
-    let whole : length c.args.s.door ≡ 8 = omega arith in
-    let door_counted : length (lashes_of door c.args.s) ≡ c.args.s.ndoor =
-    length-take-le c.args.s.ndoor c.args.s.door (omega (arith, c.requires.workable.few_lashes)) in
-    let whole : length c.args.s.closed ≡ 8 = omega arith in
-    let closed_counted : length (lashes_of closed c.args.s) ≡ c.args.s.nclosed =
-    length-take-le c.args.s.nclosed c.args.s.closed (omega (arith, c.requires.workable_2.few_lashes)) in
+pub invariant_of-door_chain : goal.invariant_of-door_chain
+invariant_of-door_chain c =
     let p = c.requires in
-    let levels = p.level_stiffnesses in
-    let long = p.k_len in
-    let few = p.workable.few in
+    let s = c.args.s in
+    let few = p.door_workable.few in
+    let counted : length (lashes_of door s) ≡ s.ndoor = length-take-le s.ndoor s.door (omega (arith, p.door_workable.few_lashes)) in
     record {
-      solvable = (
-        end_solvable p.workable door_counted levels.0,
-        omega (arith, few, long.0),
-        omega (arith, few, long.2),
-        omega (arith, few, long.4),
-      );
-      solvable_2 = (end_solvable p.workable_2 closed_counted levels.1, omega (arith, few, long.1), omega (arith, few, long.3));
-      d_value = (refl, refl);
+      solvable = end_solvable p.door_workable counted p.level_stiffnesses.0;
+      there = (omega (arith, few), omega (arith, few), omega (arith, few));
     }
 
-pub figures_at-requires : goal.figures_at-requires
-figures_at-requires c =
+pub invariant_of-closed_chain : goal.invariant_of-closed_chain
+invariant_of-closed_chain c =
     let p = c.requires in
-    let lashes = p.lashes_measured.0 in
-    let long = p.k_len in
-    let d = c.solve_both in
+    let s = c.args.s in
+    let few = p.closed_workable.few in
+    let counted : length (lashes_of closed s) ≡ s.nclosed =
+    length-take-le s.nclosed s.closed (omega (arith, p.closed_workable.few_lashes)) in
     record {
-      workable = without_loads p.workable;
-      k_len = (long.0, long.6, omega arith, long.5);
-      lashes_measured = (lashes, d.ensures.door.1.far);
-      lengths_len = (lashes.long.long, lashes.stiff.long);
-      racking_value = p.door_racking_value;
-    }
-
-pub figures_at-requires-2 : goal.figures_at-requires-2
-figures_at-requires-2 c =
-    let p = c.requires in
-    let lashes = p.lashes_measured.1 in
-    let long = p.k_len in
-    let d = c.solve_both in
-    record {
-      workable = without_loads p.workable_2;
-      k_len = (long.1, long.6, omega arith, long.5);
-      lashes_measured = (lashes, d.ensures.closed.1.far);
-      lengths_len = (lashes.long.long, lashes.stiff.long);
-      racking_value = p.closed_racking_value;
+      solvable = end_solvable p.closed_workable counted p.level_stiffnesses.1;
+      there = (omega (arith, few), omega (arith, few), omega (arith, few));
     }
 
 pub returns : goal.returns
 returns c =
     let g = c.args in
-    let tiers = c.requires.lashes_measured.2 in
-    let levels = c.requires.level_stiffnesses in
-    let long = c.requires.k_len in
+    let ω = g.tiers.now.loads in
+    let p = c.requires in
     let d = c.solve_both.ensures in
-    let fits = c.requires.fitting in
-    let p = end_fits door g.s g.k.now g.kappa.now g.loads.now long.2 levels.0 d.door.0 fits.0 in
-    let q = end_fits closed g.s g.h.now g.eta.now g.loads.now long.3 levels.1 d.closed.0 fits.1 in
-    let x = c.figures_at.ensures in
-    let y = c.figures_at-2.ensures in
+    let levels = p.level_stiffnesses in
+    let door_fits = end_fits door g.s g.springs.now.door g.door_lashes.now.levels ω (omega arith) levels.0 d.door.0 p.fitting.0 in
+    let closed_fits =
+    end_fits closed g.s g.springs.now.closed g.closed_lashes.now.levels ω (omega arith) levels.1 d.closed.0 p.fitting.1 in
     record {
-      door_forces_after = (end_solved door g.s g.k.now g.kappa.now g.loads.now long.2 levels.0 d.door.0 (x.0 _ tiers p), x.1);
-      closed_forces_after = (end_solved closed g.s g.h.now g.eta.now g.loads.now long.3 levels.1 d.closed.0 (y.0 _ tiers q), y.1);
+      door_figures =
+          end_solved door g.s g.springs.now.door g.door_lashes.now.levels ω (omega arith) levels.0 d.door.0
+          (c.figures_at.ensures _ p.tiers_measured door_fits);
+      closed_figures =
+          end_solved closed g.s g.springs.now.closed g.closed_lashes.now.levels ω (omega arith) levels.1 d.closed.0
+          (c.figures_at-2.ensures _ p.tiers_measured closed_fits);
     }

@@ -6,7 +6,3 @@ abbrev pub invariant-loop-i : goal.invariant-loop-i
 invariant-loop-i l =
     let parts = l.above.parts in
     FiguredFrom l.n l.k l.heights l.d l.weights l.lee l.windward l.racking l.levels l.above.moment parts.lee parts.windward l.i
-
-abbrev pub decreases-loop-i : goal.decreases-loop-i
-decreases-loop-i l =
-    l.i

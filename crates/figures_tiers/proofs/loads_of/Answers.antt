@@ -1,8 +1,8 @@
 -- `figures_tiers::loads_of`: from the top down, each level's load, the weights above it, and the heights (LoadLaws).
-use mathlib.Core.Path.{◌≡◌, refl}
-use lib.ListN.{get_or, length, take, length-set}
+use mathlib.Core.Path.{refl}
+use lib.ListN.{get_or, take, length-set}
 use lib.Seq.{get_or-take, length-take-le}
-use Prim.Native.Nat.{ℕ, ◌-◌, ◌<◌}
+use Prim.Native.Nat.{ℕ, ◌-◌, ◌<◌, ◌≤◌}
 use mathlib.Core.List.{List}
 use Rattle.sheet.specs.declared.Tier.{Tier}
 use native.Mathlib.Omega.{arith}
@@ -23,70 +23,42 @@ limits n j tiers h each = rw (get_or-take n tiers j blank_tier h) at (each j h)
 
 pub loop-i-init : goal.loop-i-init
 loop-i-init c =
-    let stacked : length (take c.args.n c.args.tiers) ≡ c.args.n =
-    length-take-le c.args.n c.args.tiers (omega (arith, c.requires.n_bound.0)) in
-    let p = c.requires.loads_value in
+    let stacked = length-take-le c.args.n c.args.tiers (omega (arith, c.requires.n_bound.0)) in
+    let p = c.requires.zeros in
     rw (p.0, p.1)
-    (loaded_none stacked, carried_none stacked, carried_none stacked, heights_none stacked c.requires.n_bound.0 p.2, refl)
+    (loaded_none stacked, carried_none stacked, carried_none stacked, heights_none stacked c.requires.n_bound.0 (omega arith), refl)
 
 pub tier_load-tier-requires : goal.tier_load-tier-requires
-tier_load-tier-requires c =
-    limits c.args.n (c.loop-i.i - 1) c.args.tiers (omega (arith, c.loop-i-test.true, c.loop-i.invariant.0.within)) c.requires.by_index
-
-pub level_load-requires : goal.level_load-requires
-level_load-requires c =
-    let p = c.requires.n_bound in
-    let t = c.tier_load-tier.ensures in
-    record {
-      share_bound = (p.1, p.2);
-      transverse_bound = (t.1, t.3);
-      transverse_bound_2 = (c.loop-i.invariant.0.transverse_small, c.loop-i.invariant.0.wind_small);
-    }
+tier_load-tier-requires c = limits c.args.n (c.loop-i.i - 1) c.args.tiers (omega arith) c.requires.by_index
 
 pub mass_by-vmax_units-requires : goal.mass_by-vmax_units-requires
 mass_by-vmax_units-requires c =
-    let f =
-    limits c.args.n (c.loop-i.i - 1) c.args.tiers (omega (arith, c.loop-i-test.true, c.loop-i.invariant.0.within)) c.requires.by_index in
+    let f = limits c.args.n (c.loop-i.i - 1) c.args.tiers (omega arith) c.requires.by_index in
     (f.mass, f.aVmax)
 
 pub mass_by-vmin_units-requires : goal.mass_by-vmin_units-requires
 mass_by-vmin_units-requires c =
-    let f =
-    limits c.args.n (c.loop-i.i - 1) c.args.tiers (omega (arith, c.loop-i-test.true, c.loop-i.invariant.0.within)) c.requires.by_index in
+    let f = limits c.args.n (c.loop-i.i - 1) c.args.tiers (omega arith) c.requires.by_index in
     (f.mass, omega (arith, f.aVmin))
-
-pub half_weight-requires : goal.half_weight-requires
-half_weight-requires c =
-    omega (arith, c.loop-i.invariant.1.sum_small, c.requires.n_bound.0, c.mass_by-vmax_units.ensures.1)
-
-pub half_weight-requires-in-loop-i : goal.half_weight-requires-in-loop-i
-half_weight-requires-in-loop-i c =
-    omega (arith, c.loop-i.invariant.2.sum_small, c.requires.n_bound.0, c.mass_by-vmin_units.ensures.1)
-
-pub bounds-weights-i-in-loop-i : goal.bounds-weights-i-in-loop-i
-bounds-weights-i-in-loop-i c =
-    simp length-set (omega (arith, c.loop-i.invariant.4, c.loop-i.invariant.0.within, c.requires.n_bound.0))
 
 pub loop-i-preserved : goal.loop-i-preserved
 loop-i-preserved c =
-    let stacked : length (take c.args.n c.args.tiers) ≡ c.args.n =
-    length-take-le c.args.n c.args.tiers (omega (arith, c.requires.n_bound.0)) in
-    let own : get_or (take c.args.n c.args.tiers) (c.loop-i.i - 1) blank_tier ≡ get_or c.args.tiers (c.loop-i.i - 1) blank_tier =
-    get_or-take c.args.n c.args.tiers (c.loop-i.i - 1) blank_tier (omega (arith, c.loop-i-test.true, c.loop-i.invariant.0.within)) in
+    let stacked = length-take-le c.args.n c.args.tiers (omega (arith, c.requires.n_bound.0)) in
     let l = c.loop-i in
+    let own = get_or-take c.args.n c.args.tiers (l.i - 1) blank_tier (omega arith) in
     let few = c.requires.n_bound.0 in
-    let up = c.loop-i-test.true in
+    let up : 0 < l.i = omega arith in
     let e = c.tier_load-tier.ensures in
     let r = c.level_load.ensures in
     let f = c.mass_by-vmax_units.ensures in
     let g = c.mass_by-vmin_units.ensures in
     let x = c.half_weight.ensures in
     let y = c.half_weight-in-loop-i.ensures in
-    let low : l.i - 1 < 11 = omega (arith, l.invariant.0.within, few) in (
+    let low : l.i - 1 < 11 = omega (arith, few) in (
       loaded_more few up l.invariant.0 (rw own e.0) (rw own e.2) e.1 e.3 r.0 r.1,
-      rw (first_set 11 l.weights low c.half_weight.result c.half_weight-in-loop-i.result)
+      rw (first_set 11 l.measures.weights low c.half_weight.result c.half_weight-in-loop-i.result)
           (carried_more stacked few up l.invariant.1 (rw own f.0) f.1 x.0 x.1),
-      rw (second_set 11 l.weights low c.half_weight.result c.half_weight-in-loop-i.result)
+      rw (second_set 11 l.measures.weights low c.half_weight.result c.half_weight-in-loop-i.result)
           (carried_more stacked few up l.invariant.2 (rw own g.0) g.1 y.0 y.1),
       heights_more stacked few up l.invariant.0.within l.invariant.3 (rw own refl),
       simp length-set l.invariant.4,
@@ -94,17 +66,17 @@ loop-i-preserved c =
 
 pub returns : goal.returns
 returns c =
-    let stacked : length (take c.args.n c.args.tiers) ≡ c.args.n =
-    length-take-le c.args.n c.args.tiers (omega (arith, c.requires.n_bound.0)) in
+    let stacked = length-take-le c.args.n c.args.tiers (omega (arith, c.requires.n_bound.0)) in
     let l = c.loop-i in
-    let m = carried_all stacked c.loop-i-test.false l.invariant.1 in
-    let k = carried_all stacked c.loop-i-test.false l.invariant.2 in (
+    let all : l.i ≤ 0 = omega arith in
+    let m = carried_all stacked all l.invariant.1 in
+    let k = carried_all stacked all l.invariant.2 in (
       record {
-        named = loaded_all stacked c.requires.n_bound.0 c.loop-i-test.false l.invariant.0;
+        named = loaded_all stacked c.requires.n_bound.0 all l.invariant.0;
         small = λ i h. (l.invariant.0.loaded.each i (omega arith) h).1;
       },
       record {
-        heights_are = heights_all c.loop-i-test.false l.invariant.3;
+        heights_are = heights_all all l.invariant.3;
         vmax_is = λ i. (m i).0;
         vmin_is = λ i. (k i).0;
         most_light = λ i. (m i).1;

@@ -8,12 +8,8 @@ use Rattle.figures_tiers.proofs.loads_of.Given as goal
 
 abbrev pub invariant-loop-i : goal.invariant-loop-i
 invariant-loop-i l =
-    LoadedDown l.rule l.n (take l.n l.tiers) l.loads l.over.transverse l.over.wind l.i
-    × Carried (λ t. t.aVmax) l.n (take l.n l.tiers) (most_in l.weights) l.vmax_units l.i
-    × Carried (λ t. t.aVmin) l.n (take l.n l.tiers) (least_in l.weights) l.vmin_units l.i
-    × HeightsDown l.n (take l.n l.tiers) l.heights l.i
-    × (length l.weights ≡ 22)
-
-abbrev pub decreases-loop-i : goal.decreases-loop-i
-decreases-loop-i l =
-    l.i
+    LoadedDown l.rule l.n (take l.n l.tiers) l.measures.loads l.over.transverse l.over.wind l.i
+    × Carried (λ t. t.aVmax) l.n (take l.n l.tiers) (most_in l.measures.weights) l.vmax_units l.i
+    × Carried (λ t. t.aVmin) l.n (take l.n l.tiers) (least_in l.measures.weights) l.vmin_units l.i
+    × HeightsDown l.n (take l.n l.tiers) l.measures.heights l.i
+    × (length l.measures.weights ≡ 22)

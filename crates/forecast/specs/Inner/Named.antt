@@ -1,13 +1,13 @@
 -- What a forecast's call answers, by name: a function of its input, as the check's answer is. Theorems says what it is worth; nothing here
 -- need be believed.
 use Rattle.std.specs.Prelude.{List, [], ◌∷◌, ◌++◌, ◌≡◌, ℕ, length}
-use Rattle.sheet.specs.declared.Reading.{Reading}
+use Rattle.sheet.specs.Refusals.{Reading}
 use Rattle.sheet.specs.declared.Sheet.{Sheet}
 use Rattle.sheet.specs.Layout.{sheet_of}
 use Rattle.sheet.specs.Refusals.{row13, first, longest_answer}
 use Rattle.statics.specs.declared.LoadRule.{LoadRule}
 use Rattle.statics.specs.Inner.Computed.{load_rule_of}
-use Rattle.answer.specs.declared.Outcome.{Outcome}
+use Rattle.answer.specs.Outcomes.{Outcome}
 use Rattle.answer.specs.Inner.Named.{answer_by, returned_as, written_as}
 use Rattle.forecast_factor.specs.Factor.{factor}
 use Rattle.forecast.specs.Forecasts.{forecast_rows, forecast_refusal}

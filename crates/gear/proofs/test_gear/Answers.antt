@@ -1,27 +1,29 @@
 -- `gear::test_gear`: the section as an end of a sheet, then 2.
+use Rattle.std.specs.Prelude.{Err}
 use Prim.Native.Nat.{◌+◌, ◌*◌}
-use mathlib.Core.Path.{sym, ap, ◌∙◌}
+use mathlib.Core.Path.{◌≡◌, sym, ap, ◌∙◌}
 use native.Mathlib.Omega.{arith}
-use Rattle.sheet.specs.declared.Reading.TheVariants.{Refused}
-use Rattle.sheet.specs.Refusals.{end_rows}
+use borrow.Author.Rules.{rules}
+use Rattle.sheet.specs.Refusals.{numbers, end_rows}
 use Rattle.sheet.proofs.Rows.{behind_refused}
 use Rattle.gear.proofs.Section.{spare_refused, section_taken}
 use Rattle.gear.proofs.test_gear.Goals as goal
 
-pub returns-in-Refused : goal.returns-in-Refused
-returns-in-Refused c =
+pub returns-in_err-test_end : goal.returns-in_err-test_end
+returns-in_err-test_end c =
     let a = c.args in
-    sym (behind_refused (end_rows a.n a.gear.now 0) _ (sym c.test_end.ensures ∙ c.in-Refused.is))
+    let e : c.from_residual.result ≡ Err c.in_err-test_end.field-0.0 = search rules in
+    e ∙ sym (behind_refused (end_rows a.n a.gear.now 0) _ (sym c.test_end.ensures ∙ c.in_err-test_end.was))
 
 pub returns-then-spare-gear : goal.returns-then-spare-gear
 returns-then-spare-gear c =
     let a = c.args in
-    let taken = sym c.test_end.ensures ∙ c.in_default.is in
-    ap (λ k. Refused 2 (1 + 20 * k)) c.byte_at.ensures.0
+    let taken = sym c.test_end.ensures ∙ c.in_ok-test_end.was in
+    ap (λ k. Err (numbers 2 (1 + 20 * k))) c.byte_at.ensures.0
     ∙ sym (spare_refused a.n a.gear.now taken (omega (arith, c.if-spare-gear.true, c.byte_at.ensures.0)))
 
 pub returns : goal.returns
 returns c =
     let a = c.args in
-    let taken = sym c.test_end.ensures ∙ c.in_default.is in
+    let taken = sym c.test_end.ensures ∙ c.in_ok-test_end.was in
     sym (section_taken a.n a.gear.now taken (omega (arith, c.if-spare-gear.false, c.byte_at.ensures.0)))

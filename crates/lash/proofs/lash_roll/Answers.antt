@@ -4,8 +4,7 @@ use native.Mathlib.Omega.{arith}
 use mir.Syntax.{w32}
 use mir.ValLaws.{to_z-of_z}
 use Rattle.roll.specs.declared.Condition.{Condition}
-use Rattle.roll.specs.declared.Rolled.{Rolled}
-use Rattle.roll.specs.Rounded.{condition_a}
+use Rattle.roll.specs.Rounded.{Rolled, condition_a}
 use Rattle.roll.specs.Theorems.{Within}
 use Rattle.roll.proofs.Limits.{within}
 use Rattle.lash.specs.RolledIn.{RolledIn}
@@ -43,23 +42,23 @@ small j is = subst Within (sym (found j) ∙ is) (within (asked j))
 
 pub packed_accelerations-requires : goal.packed_accelerations-requires
 packed_accelerations-requires c =
-    let w = small (goal.at.packed_accelerations-requires c).After-condition_a-rolled c.in-Given.is in
+    let w = small (goal.at.packed_accelerations-requires c).After-condition_a-rolled c.in-Ok.is in
     (omega (arith, w.0), omega (arith, w.1), omega (arith, w.2))
 
 pub joined-requires : goal.joined-requires
 joined-requires c =
-    let w = small (goal.at.joined-requires c).After-condition_a-rolled c.in-Refused.is in
+    let w = small (goal.at.joined-requires c).After-condition_a-rolled c.in-Err.is in
     (omega (arith, w.1), omega (arith, w.2))
 
-pub returns-in-Given : goal.returns-in-Given
+pub returns-in-Ok : goal.returns-in-Ok
 unfolding asked
-returns-in-Given c =
-    let j = (goal.at.returns-in-Given c).After-condition_a-rolled in
-    subst (λ q. RolledIn q c.packed_accelerations.result) (sym c.in-Given.is ∙ found j) c.packed_accelerations.ensures
+returns-in-Ok c =
+    let j = (goal.at.returns-in-Ok c).After-condition_a-rolled in
+    subst (λ q. RolledIn q c.packed_accelerations.result) (sym c.in-Ok.is ∙ found j) c.packed_accelerations.ensures
 
-pub returns-in-Refused : goal.returns-in-Refused
+pub returns-in-Err : goal.returns-in-Err
 unfolding asked
-returns-in-Refused c =
-    let j = (goal.at.returns-in-Refused c).After-condition_a-rolled in
-    let n = (small j c.in-Refused.is).1 in
-    subst (λ q. RolledIn q c.joined.result) (sym c.in-Refused.is ∙ found j) (record { low = omega arith; above = omega arith })
+returns-in-Err c =
+    let j = (goal.at.returns-in-Err c).After-condition_a-rolled in
+    let n = (small j c.in-Err.is).1 in
+    subst (λ q. RolledIn q c.joined.result) (sym c.in-Err.is ∙ found j) (record { low = omega arith; above = omega arith })

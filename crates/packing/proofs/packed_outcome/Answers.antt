@@ -3,13 +3,13 @@ use Rattle.packing.proofs.OneNumber.{case_fits, case_joined}
 use Rattle.packing.proofs.packed_outcome.Goals as goal
 
 pub joined-requires : goal.joined-requires
-joined-requires c = case_fits c.in-Taken.is c.requires
+joined-requires c = case_fits c.in-Ok.is c.requires
 
-pub joined-requires-in-Refused : goal.joined-requires-in-Refused
-joined-requires-in-Refused c = case_fits c.in-Refused.is c.requires
+pub joined-requires-in-Err : goal.joined-requires-in-Err
+joined-requires-in-Err c = case_fits c.in-Err.is c.requires
 
-pub returns-in-Taken : goal.returns-in-Taken
-returns-in-Taken c = case_joined c.in-Taken.is c.joined.result c.joined.ensures
+pub returns-in-Ok : goal.returns-in-Ok
+returns-in-Ok c = case_joined c.in-Ok.is c.joined.result c.joined.ensures
 
-pub returns-in-Refused : goal.returns-in-Refused
-returns-in-Refused c = case_joined c.in-Refused.is c.joined-in-Refused.result c.joined-in-Refused.ensures
+pub returns-in-Err : goal.returns-in-Err
+returns-in-Err c = case_joined c.in-Err.is c.joined-in-Err.result c.joined-in-Err.ensures

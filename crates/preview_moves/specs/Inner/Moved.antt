@@ -2,13 +2,13 @@
 use Rattle.std.specs.Prelude.{ℕ, ◌-◌, not, ◌||◌, List, [], ◌∷◌, ◌≡◌, length, set}
 use Rattle.sheet.specs.declared.Tier.{Tier}
 use Rattle.sheet.specs.declared.Sheet.{Sheet}
-use Rattle.sheet.specs.declared.Reading.{Reading}
+use Rattle.sheet.specs.Refusals.{Reading}
 use Rattle.sheet.specs.Layout.{tier_place, within, ◌is◌, ◌above◌}
 use Rattle.sheet.specs.Fits.{tier_at}
 use Rattle.sheet.specs.Refusals.{Row, row, row13, first, longest_answer}
 use Rattle.sheet.specs.Inner.Changed.{with_tiers}
 use Rattle.statics.specs.Inner.Computed.{load_rule_of}
-use Rattle.answer.specs.declared.Outcome.{Outcome}
+use Rattle.answer.specs.Outcomes.{Outcome}
 use Rattle.answer.specs.Inner.Named.{answer_by, returned_as, written_as, returned, written}
 use Rattle.preview_moves.specs.Previews.{with_mass, move_refusal, UnlessTurnedBack}
 

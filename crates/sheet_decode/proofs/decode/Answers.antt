@@ -1,17 +1,16 @@
--- `sheet_decode::decode`: a sheet decoded: as it stands where its reading is Taken, else blank.
-use mathlib.Core.Path.{sym, ◌∙◌}
-use Rattle.sheet.specs.Refusals.{decoded}
+-- `sheet_decode::decode`: a sheet decoded, unless a row of the table turns it back.
+use mathlib.Core.Path.{sym, ap, ◌∙◌}
+use Rattle.std.specs.Prelude.{Ok}
+use borrow.Author.Rules.{rules}
+use Rattle.sheet.proofs.CallRefusals.{decoded_by, decoded_not}
 use Rattle.sheet_decode.proofs.decode.Goals as goal
 
+pub returns-in_err-test_sheet : goal.returns-in_err-test_sheet
+returns-in_err-test_sheet c =
+    search rules ∙ sym (decoded_not c.args.s.now (sym c.test_sheet.ensures ∙ c.in_err-test_sheet.was))
+
 pub sheet_of-requires : goal.sheet_of-requires
-sheet_of-requires c = sym c.test_sheet-reading.ensures ∙ c.in-Taken.is
+sheet_of-requires c = sym c.test_sheet.ensures ∙ c.in_ok-test_sheet.was
 
-pub returns-in-Taken : goal.returns-in-Taken
-unfolding decoded
-returns-in-Taken c =
-    rw (sym c.test_sheet-reading.ensures ∙ c.in-Taken.is, c.sheet_of.ensures)
-
-pub returns-in-Refused : goal.returns-in-Refused
-unfolding decoded
-returns-in-Refused c =
-    rw (sym c.test_sheet-reading.ensures ∙ c.in-Refused.is, c.blank_sheet.ensures)
+pub returns : goal.returns
+returns c = ap Ok c.sheet_of.ensures ∙ sym (decoded_by c.args.s.now (sym c.test_sheet.ensures ∙ c.in_ok-test_sheet.was))

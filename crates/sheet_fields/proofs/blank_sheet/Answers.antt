@@ -1,5 +1,5 @@
 -- `sheet_fields::blank_sheet`: a blank sheet: its arrays are blank entries repeated.
-use Rattle.sheet.specs.Layout.{blank_sheet}
+use Rattle.sheet.specs.Inner.Blank.{blank_sheet}
 use Rattle.sheet_fields.proofs.blank_sheet.Goals as goal
 
 pub returns : goal.returns

@@ -1,9 +1,8 @@
 -- What the steps of the call say; nothing here need be believed.
 use Rattle.std.specs.Prelude.{ℕ, List, [], ◌∷◌, ◌++◌}
-use Rattle.sheet.specs.declared.Reading.{Reading}
 use Rattle.sheet.specs.declared.Sheet.{Sheet}
-use Rattle.sheet.specs.Refusals.{row13, first}
-use Rattle.answer.specs.declared.Outcome.{Outcome}
+use Rattle.sheet.specs.Refusals.{Reading, row13, first}
+use Rattle.answer.specs.Outcomes.{Outcome}
 use Rattle.side_walls.specs.SideWalls.{side_bytes}
 use Rattle.side_parts.specs.ShortSheets.{pitch_rows}
 use Rattle.side.specs.Sides.{longest_side, SidedAs}

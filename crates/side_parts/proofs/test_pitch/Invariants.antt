@@ -1,5 +1,5 @@
 -- `side_parts::test_pitch`: 14, then 15 tier by tier (ShortSheets).
-use Prim.Native.Nat.{◌+◌, ◌*◌, ◌-◌, ◌≤◌}
+use Prim.Native.Nat.{◌+◌, ◌*◌}
 use mathlib.Core.Path.{◌≡◌}
 use lib.ListN.{length}
 use Rattle.sheet.specs.Refusals.{first}
@@ -8,7 +8,4 @@ use Rattle.side_parts.proofs.ShortSheets.{from_tier}
 use Rattle.side_parts.proofs.test_pitch.Given as goal
 
 abbrev pub invariant-loop-i : goal.invariant-loop-i
-invariant-loop-i l = (l.i ≤ l.n) × (length l.pitch ≡ 1 + 2 * l.n) × (first (from_tier l.n l.pitch l.i) ≡ first (pitch_rows l.n l.pitch))
-
-abbrev pub decreases-loop-i : goal.decreases-loop-i
-decreases-loop-i l = l.n - l.i
+invariant-loop-i l = (length l.pitch ≡ 1 + 2 * l.n) × (first (from_tier l.n l.pitch l.i) ≡ first (pitch_rows l.n l.pitch))

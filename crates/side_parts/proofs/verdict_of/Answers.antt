@@ -13,14 +13,14 @@ judged : {a b : Bool} → a ≡ b → ◌≡◌ {A = ℕ} (cond a 1 0) (cond b 1
 judged e = ap {B = ℕ} (λ (x : Bool). cond x 1 0) e
 
 pub loop-i-init : goal.loop-i-init
-loop-i-init c = (omega arith, any_all (over c.args.racking.now) c.args.n)
+loop-i-init c = any_all (over c.args.racking.now) c.args.n
 
 pub returns-then-racking-i : goal.returns-then-racking-i
 returns-then-racking-i c =
     let l = c.loop-i in
     let a = c.args in
     let f = over a.racking.now in
-    (judged (sym (any_here f a.n l.i c.loop-i-test.true (lt-ltb side_limit _ c.if-racking-i.true)) ∙ l.invariant.1), omega arith)
+    (judged (sym (any_here f a.n l.i c.loop-i-test.true (lt-ltb side_limit _ c.if-racking-i.true)) ∙ l.invariant), omega arith)
 
 pub loop-i-preserved : goal.loop-i-preserved
 loop-i-preserved c =
@@ -28,11 +28,11 @@ loop-i-preserved c =
     let a = c.args in
     let f = over a.racking.now in
     let within = le-ltb side_limit _ c.if-racking-i.false in
-    (omega (arith, c.loop-i-test.true), sym (any_later f a.n l.i c.loop-i-test.true within) ∙ l.invariant.1)
+    sym (any_later f a.n l.i c.loop-i-test.true within) ∙ l.invariant
 
 pub returns : goal.returns
 returns c =
     let l = c.loop-i in
     let a = c.args in
     let f = over a.racking.now in
-    (judged (sym (any_end f a.n l.i c.loop-i-test.false) ∙ l.invariant.1), omega arith)
+    (judged (sym (any_end f a.n l.i c.loop-i-test.false) ∙ l.invariant), omega arith)

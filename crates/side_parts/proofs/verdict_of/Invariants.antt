@@ -1,5 +1,5 @@
 -- `side_parts::verdict_of`: the rackings passed do not exceed the limit (Tests).
-use Prim.Native.Nat.{ℕ, ◌-◌, ◌≤◌}
+use Prim.Native.Nat.{ℕ}
 use mathlib.Core.Bool.{Bool}
 use mathlib.Core.List.{List}
 use mathlib.Core.Path.{◌≡◌}
@@ -14,7 +14,4 @@ abbrev pub over : List ℕ → ℕ → Bool
 over racking i = get_or racking i 0 above side_limit
 
 abbrev pub invariant-loop-i : goal.invariant-loop-i
-invariant-loop-i l = (l.i ≤ l.n) × (any_from (over l.racking) l.n l.i ≡ any_of (over l.racking) (below l.n))
-
-abbrev pub decreases-loop-i : goal.decreases-loop-i
-decreases-loop-i l = l.n - l.i
+invariant-loop-i l = any_from (over l.racking) l.n l.i ≡ any_of (over l.racking) (below l.n)

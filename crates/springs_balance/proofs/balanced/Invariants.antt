@@ -2,8 +2,5 @@
 use Rattle.springs_balance.proofs.Loops.{Sofar}
 use Rattle.springs_balance.proofs.balanced.Given as goal
 
-abbrev pub invariant-loop-i : goal.invariant-loop-i
-invariant-loop-i l = Sofar l.n l.k l.kappa l.omega l.d l.over l.i
-
-abbrev pub decreases-loop-i : goal.decreases-loop-i
-decreases-loop-i l = l.i
+abbrev pub invariant-loop-j : goal.invariant-loop-j
+invariant-loop-j l = let c = l.chain in Sofar c.n c.k.now c.kappa.now c.omega.now l.d l.over l.j

@@ -2,8 +2,5 @@
 use Rattle.springs_eliminate.proofs.Loops.{Down}
 use Rattle.springs_eliminate.proofs.hand_down.Given as goal
 
-abbrev pub invariant-loop-i : goal.invariant-loop-i
-invariant-loop-i l = Down l.n l.k l.kappa l.omega l.x l.y l.i
-
-abbrev pub decreases-loop-i : goal.decreases-loop-i
-decreases-loop-i l = l.i
+abbrev pub invariant-loop-j : goal.invariant-loop-j
+invariant-loop-j l = let c = l.chain in Down c.n c.k.now c.kappa.now c.omega.now l.x l.y l.j

@@ -5,9 +5,7 @@ use Rattle.springs.specs.Inner.Candidate.{by_level}
 use Rattle.springs_guess.proofs.Loops.{Down}
 use Rattle.springs_guess.proofs.slope.Given as goal
 
-abbrev pub invariant-loop-i : goal.invariant-loop-i
-invariant-loop-i l =
-    (length l.a ≡ 11) × (length l.w ≡ 11) × Down l.n l.k l.kappa l.omega (by_level l.a) (by_level l.w) l.over l.i
-
-abbrev pub decreases-loop-i : goal.decreases-loop-i
-decreases-loop-i l = l.i
+abbrev pub invariant-loop-j : goal.invariant-loop-j
+invariant-loop-j l =
+    let c = l.chain in
+    (length l.a ≡ 11) × (length l.w ≡ 11) × Down c.n c.k.now c.kappa.now c.omega.now (by_level l.a) (by_level l.w) l.over l.j

@@ -4,5 +4,5 @@ use Rattle.springs_solve.proofs.solve.Goals as goal
 
 pub returns : goal.returns
 returns c =
-    let g = c.args in
-    let named = c.settle.ensures in record { promised = promised g.n g.k.now g.kappa.now g.omega.now _ c.requires.0 named; named = named }
+    let g = c.args.chain in
+    let named = c.settle.ensures in record { promised = promised g.n g.k.now g.kappa.now g.omega.now _ g.solvable named; named = named }

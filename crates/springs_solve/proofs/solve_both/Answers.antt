@@ -4,9 +4,10 @@ use Rattle.springs_solve.proofs.solve_both.Goals as goal
 
 pub returns : goal.returns
 returns c =
-    let g = c.args in
+    let p = c.args.door in
+    let q = c.args.closed in
     let door = c.settle.ensures in
     let closed = c.settle-2.ensures in record {
-      door = (door, promised g.n g.k.now g.kappa.now g.omega.now _ c.requires.solvable.0 door);
-      closed = (closed, promised g.n g.h.now g.eta.now g.omega.now _ c.requires.solvable_2.0 closed);
+      door = (door, promised p.n p.k.now p.kappa.now p.omega.now _ p.solvable door);
+      closed = (closed, promised q.n q.k.now q.kappa.now q.omega.now _ q.solvable closed);
     }

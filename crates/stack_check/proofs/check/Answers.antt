@@ -1,50 +1,47 @@
 -- `stack_check::check`: the refusals in their order, then the answer (CheckLaws).
+use Rattle.std.specs.Prelude.{Ok, Err}
+use borrow.Author.Rules.{rules}
 use mathlib.Core.Path.{◌≡◌, sym, ap, ◌∙◌}
-use Rattle.sheet.specs.declared.Reading.TheVariants.{Taken}
 use Rattle.sheet.specs.Layout.{sheet_of}
 use Rattle.sheet.specs.Refusals.{first, sheet_rows}
 use Rattle.sheet.proofs.Clear.{parts, head_there}
 use Rattle.sheet.proofs.TakenSheets.{taken_fits}
 use Rattle.statics.specs.Inner.Computed.{load_rule_by}
 use Rattle.stack_check.proofs.CheckLaws.{refused, taken}
+use Rattle.stack_check.proofs.check.Goals.{In_ok-test_sheet}
 use Rattle.stack_check.proofs.check.Goals as goal
+
+passed : (c : In_ok-test_sheet) → first (sheet_rows c.args.sheet.now) ≡ Ok tt
+passed c = sym c.test_sheet.ensures ∙ c.in_ok-test_sheet.was
+
+pub returns-in_err-test_sheet : goal.returns-in_err-test_sheet
+returns-in_err-test_sheet c =
+    let e : c.from_residual.result ≡ Err c.in_err-test_sheet.field-0.0 = search rules in
+    let k = refused c.args.sheet.now c.args.answer.now (sym c.test_sheet.ensures ∙ c.in_err-test_sheet.was) in
+    rw e (record { checked = k.0; named = k.1 })
 
 pub head_of-requires : goal.head_of-requires
 head_of-requires c =
-    let passed : first (sheet_rows c.args.sheet.now) ≡ Taken = sym c.test_sheet-reading.ensures ∙ c.in-Taken.is in
     let s = c.args.sheet.now in
-    head_there s (parts s passed).head
+    head_there s (parts s (passed (goal.at.head_of-requires c).In_ok-test_sheet)).head
 
 pub rule_of-rule-requires : goal.rule_of-rule-requires
 unfolding sheet_of
-rule_of-rule-requires c =
-    let passed : first (sheet_rows c.args.sheet.now) ≡ Taken = sym c.test_sheet-reading.ensures ∙ c.in-Taken.is in
-    rw c.head_of.ensures (taken_fits _ passed).route
+rule_of-rule-requires c = rw c.head_of.ensures (taken_fits _ (passed (goal.at.rule_of-rule-requires c).In_ok-test_sheet)).route
 
 pub own_tiers-requires : goal.own_tiers-requires
-own_tiers-requires c =
-    let passed : first (sheet_rows c.args.sheet.now) ≡ Taken = sym c.test_sheet-reading.ensures ∙ c.in-Taken.is in
-    passed
+own_tiers-requires c = passed (goal.at.own_tiers-requires c).In_ok-test_sheet
 
 pub answer_with-requires : goal.answer_with-requires
 answer_with-requires c =
-    let passed : first (sheet_rows c.args.sheet.now) ≡ Taken = sym c.test_sheet-reading.ensures ∙ c.in-Taken.is in
-    let e = passed in
+    let e = passed (goal.at.answer_with-requires c).In_ok-test_sheet in
     let g = c.rule_of-rule.ensures in
     (e, rw c.own_tiers.ensures (taken_fits _ e), g.1, g.2)
 
-pub returns-in-Refused : goal.returns-in-Refused
-returns-in-Refused c =
-    let a = c.args in
-    let e = refused a.sheet.now a.answer.now (sym c.test_sheet-reading.ensures ∙ c.in-Refused.is) in
-    record { checked = e.0; named = e.1 }
-
-pub returns-in-Taken : goal.returns-in-Taken
+pub returns : goal.returns
 unfolding sheet_of
-returns-in-Taken c =
-    let passed : first (sheet_rows c.args.sheet.now) ≡ Taken = sym c.test_sheet-reading.ensures ∙ c.in-Taken.is in
-    let a = c.args in
+returns c =
     let e =
-    taken a.sheet.now a.answer.now passed (c.rule_of-rule.ensures.0 ∙ ap load_rule_by c.head_of.ensures)
-    c.own_tiers.ensures c.answer_with.ensures.named in
+    taken c.args.sheet.now c.args.answer.now (passed (goal.at.returns c).In_ok-test_sheet)
+    (c.rule_of-rule.ensures.0 ∙ ap load_rule_by c.head_of.ensures) c.own_tiers.ensures c.answer_with.ensures.named in
     record { checked = e.0; named = e.1 }

@@ -1,11 +1,7 @@
 -- `tier_springs::springs_of`: from the lowest tier up, each tier's spring at both ends (SpringLaws).
-use Prim.Native.Nat.{◌-◌, ◌≤◌}
 use lib.ListN.{take}
 use Rattle.tier_springs.proofs.SpringLaws.{Springs}
 use Rattle.tier_springs.proofs.springs_of.Given as goal
 
 abbrev pub invariant-loop-i : goal.invariant-loop-i
-invariant-loop-i l = (l.i ≤ l.n) × Springs 3730 15690 (take l.n l.tiers) l.i l.k × Springs 15690 3730 (take l.n l.tiers) l.i l.h
-
-abbrev pub decreases-loop-i : goal.decreases-loop-i
-decreases-loop-i l = l.n - l.i
+invariant-loop-i l = Springs 3730 15690 (take l.n l.tiers) l.i l.springs.door × Springs 15690 3730 (take l.n l.tiers) l.i l.springs.closed

@@ -1,17 +1,17 @@
--- `twenties::total_above` sums one box after another. The invariant: the sum and what is left give the total, and each box so far
--- added less than 2^32.
-use native.Mathlib.Omega.{arith}
-use borrow.Author.Rules.{rules}
-use Rattle.twenties.proofs.Masses.{sum_here, sum_end}
+-- `twenties::total_above`: std's `sum` of all boxes behind the first, of which there are at most ten.
+use mathlib.Core.Path.{◌≡◌, sym, ◌∙◌}
+use lib.ListN.{drop}
+use Rattle.std.specs.List.{sum as std_sum}
+use Rattle.std.proofs.Common.{rules}
+use Rattle.std.proofs.iter.runs.Made.{chains}
+use Rattle.std.proofs.iter.runs.Sources.{sums}
+use Rattle.twenties.proofs.Masses.{sum_same}
 use Rattle.twenties.proofs.total_above.Goals as goal
 
-pub loop-i-init : goal.loop-i-init
-loop-i-init c = (search rules, search rules, search rules)
-
-pub loop-i-preserved : goal.loop-i-preserved
-loop-i-preserved c =
-    (omega (arith, sum_here c.args.masses.now c.loop-i.i (omega arith)), omega arith, search rules)
+pub sum-requires-clause-fits : goal.sum-requires-clause-fits
+sum-requires-clause-fits c = search (rules, sums)
 
 pub returns : goal.returns
 returns c =
-    omega (arith, sum_end c.args.masses.now c.loop-i.i (omega arith))
+    let e : c.sum.result ≡ std_sum (drop 1 c.args.masses.now) = search (rules, chains) in
+    e ∙ sym (sum_same (drop 1 c.args.masses.now))

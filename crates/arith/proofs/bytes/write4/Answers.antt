@@ -1,23 +1,8 @@
--- `arith::bytes::write4` stores the four bytes one after the other.
-use Prim.Native.Nat.{suc, ◌+◌}
-use mathlib.Core.Path.{◌≡◌, refl}
-use native.Mathlib.Omega.{arith}
-use lib.ListN.{length-set}
+-- `arith::bytes::write4` puts the four bytes in place of those that stood there.
+use mathlib.Core.Path.{refl, ◌∙◌}
+use Rattle.arith.specs.Bytes.{bytes4}
+use Rattle.arith.proofs.ByteLaws.{put_bytes}
 use Rattle.arith.proofs.bytes.write4.Goals as goal
 
-pub bounds-buf-at-2 : goal.bounds-buf-at-2
-bounds-buf-at-2 c = simp length-set (omega arith)
-
-pub bounds-buf-at-3 : goal.bounds-buf-at-3
-bounds-buf-at-3 c = simp length-set (omega arith)
-
-pub bounds-buf-at-4 : goal.bounds-buf-at-4
-bounds-buf-at-4 c = simp length-set (omega arith)
-
 pub returns : goal.returns
-returns c =
-    let at = c.args.at in
-    let e1 : at + 1 ≡ suc at = omega arith in
-    let e2 : at + 2 ≡ suc (suc at) = omega arith in
-    let e3 : at + 3 ≡ suc (suc (suc at)) = omega arith in
-    rw (e1, e2, e3) refl
+returns c = put_bytes c.args.buf.now c.args.at 4 (bytes4 c.args.v) c.requires.0 refl (c.copy_from_slice.ensures.after ∙ c.to_le_bytes-bytes.ensures)

@@ -1,53 +1,49 @@
 -- `cases::fields::within`, by the size that the field asks for.
+use mathlib.Core.Path.{◌≡◌}
 use native.Mathlib.Omega.{arith}
+use borrow.Author.Rules.{rules}
 use borrow.Author.Tests.{lt-ltb, le-ltb, eq-eqb, ne_eqb}
 use Rattle.cases.specs.Inner.Fields.{size_within}
 use Rattle.cases.proofs.fields.within.Goals as goal
 
-pub returns-then-buffer-place : goal.returns-then-buffer-place
+pub returns-then-buffer-place-clause-value : goal.returns-then-buffer-place-clause-value
 unfolding size_within
-returns-then-buffer-place c =
-    (simp (← c.read1-size.ensures.0, lt-ltb _ _ c.if-buffer-place.true), omega arith)
+returns-then-buffer-place-clause-value c =
+    simp (← c.read1-size.ensures.0, lt-ltb _ _ c.if-buffer-place.true)
 
-pub returns-then-size-eq1 : goal.returns-then-size-eq1
+pub returns-in-1-clause-value : goal.returns-in-1-clause-value
 unfolding size_within
-returns-then-size-eq1 c = (
-  simp (
-    ← c.read1-size.ensures.0,
-    ← c.read4-least.ensures.0,
-    ← c.read4-most.ensures.0,
-    ← c.read1.ensures.0,
-    le-ltb _ _ c.if-buffer-place.false,
-    eq-eqb _ _ c.if-size-eq1.true,
-    c.size_if.ensures.0,
-  ),
-  omega arith,
+returns-in-1-clause-value c = simp (
+  ← c.read1-size.ensures.0,
+  ← c.read4-least.ensures.0,
+  ← c.read4-most.ensures.0,
+  ← c.read1.ensures.0,
+  le-ltb _ _ c.if-buffer-place.false,
+  eq-eqb _ _ c.in-1.is,
+  c.size_if.ensures.value,
 )
 
-pub returns-then-size-eq4 : goal.returns-then-size-eq4
+pub returns-in-4-clause-value : goal.returns-in-4-clause-value
 unfolding size_within
-returns-then-size-eq4 c = (
-  simp (
-    ← c.read1-size.ensures.0,
-    ← c.read4-least.ensures.0,
-    ← c.read4-most.ensures.0,
-    ← c.read4.ensures.0,
-    le-ltb _ _ c.if-buffer-place.false,
-    ne_eqb _ _ c.if-size-eq1.false,
-    eq-eqb _ _ c.if-size-eq4.true,
-    c.size_if-then-size-eq4.ensures.0,
-  ),
-  omega arith,
+returns-in-4-clause-value c = simp (
+  ← c.read1-size.ensures.0,
+  ← c.read4-least.ensures.0,
+  ← c.read4-most.ensures.0,
+  ← c.read4.ensures.0,
+  le-ltb _ _ c.if-buffer-place.false,
+  ne_eqb c.read1-size.result 1 (λ e. omega (arith, e, c.in-4.is)),
+  eq-eqb _ _ c.in-4.is,
+  c.size_if-in-4.ensures.value,
 )
 
-pub returns : goal.returns
+pub returns-in_default-clause-value : goal.returns-in_default-clause-value
 unfolding size_within
-returns c = (
-  simp (
-    ← c.read1-size.ensures.0,
-    le-ltb _ _ c.if-buffer-place.false,
-    ne_eqb _ _ c.if-size-eq1.false,
-    ne_eqb _ _ c.if-size-eq4.false,
-  ),
-  omega arith,
-)
+returns-in_default-clause-value c =
+    let no_byte : c.read1-size.result ≡ 1 → ⊥ = search rules in
+    let no_four : c.read1-size.result ≡ 4 → ⊥ = search rules in
+    simp (
+      ← c.read1-size.ensures.0,
+      le-ltb _ _ c.if-buffer-place.false,
+      ne_eqb _ _ no_byte,
+      ne_eqb _ _ no_four,
+    )

@@ -1,22 +1,14 @@
--- `cases::space::filled`: the bytes passed have their marks.
-use native.Mathlib.Omega.{arith}
-use Rattle.cases.proofs.MarkLaws.{marked_none, marked_more, marked_all, marked_length_to}
+-- `cases::space::filled`: each byte is what `mark` gave at its place.
+use mathlib.Core.List.{map}
+use mathlib.Core.Path.{ap, ◌∙◌}
+use borrow.Author.Rules.{rules}
+use Rattle.std.proofs.lemmas.List.FromFn.{fill_by_all}
+use Rattle.cases.specs.Inner.Marks.{mark_of}
+use Rattle.cases.proofs.MarkLaws.{range_from}
 use Rattle.cases.proofs.space.filled.Goals as goal
-
-pub loop-i-init : goal.loop-i-init
-loop-i-init c = (omega arith, marked_none)
-
-pub bounds-buffer-i : goal.bounds-buffer-i
-bounds-buffer-i c =
-    let l = c.loop-i in
-    omega (arith, marked_length_to l.i l.invariant.0 l.invariant.1)
-
-pub loop-i-preserved : goal.loop-i-preserved
-loop-i-preserved c =
-    let l = c.loop-i in
-    (omega arith, marked_more l.i (omega arith) l.invariant.1 c.mark.ensures)
 
 pub returns : goal.returns
 returns c =
-    let l = c.loop-i in
-    marked_all l.i l.invariant.1 (omega arith) (omega arith)
+    let made = c.from_fn.ensures.items in
+    fill_by_all mark_of c.from_fn.result 1024 0 made.long (λ k h. let q = (made.at k 0 h).2 in search rules)
+    ∙ ap (map mark_of) (range_from 0 1024)

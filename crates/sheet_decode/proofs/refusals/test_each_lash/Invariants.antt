@@ -12,6 +12,3 @@ invariant-loop-k l =
     (l.k ≤ l.count)
     × (l.least ≡ least_rank l.s l.at l.k)
     × (first (flat_map (lash_rows l.n l.s l.at) (from l.k (l.count - l.k))) ≡ first (flat_map (lash_rows l.n l.s l.at) (below l.count)))
-
-abbrev pub decreases-loop-k : goal.decreases-loop-k
-decreases-loop-k l = l.count - l.k

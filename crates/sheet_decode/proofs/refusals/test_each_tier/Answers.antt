@@ -9,12 +9,11 @@ use Rattle.sheet_decode.proofs.refusals.test_each_tier.Goals as goal
 pub loop-k-init : goal.loop-k-init
 loop-k-init c = (search rules, rw sub-zero)
 
-pub returns-in-Refused : goal.returns-in-Refused
-returns-in-Refused c =
+pub returns-in_err-test_tier : goal.returns-in_err-test_tier
+returns-in_err-test_tier c =
     let a = c.args in
-    sym
-    (entry_refused (tier_rows a.s.now) c.loop-k.k _ c.loop-k-test.true
-    (sym c.test_tier.ensures ∙ c.in-Refused.is))
+    search rules
+    ∙ sym (entry_refused (tier_rows a.s.now) c.loop-k.k _ c.loop-k-test.true (sym c.test_tier.ensures ∙ c.in_err-test_tier.was))
     ∙ c.loop-k.invariant.1
 
 pub loop-k-preserved : goal.loop-k-preserved
@@ -23,7 +22,7 @@ loop-k-preserved c =
       search rules,
       sym
           (entry_taken (tier_rows a.s.now) c.loop-k.k _ c.loop-k-test.true
-          (sym c.test_tier.ensures ∙ c.in_default.is))
+          (sym c.test_tier.ensures ∙ c.in_ok-test_tier.was))
           ∙ c.loop-k.invariant.1,
     )
 

@@ -8,6 +8,3 @@ use Rattle.sheet_decode.proofs.refusals.test_each_tier.Given as goal
 
 abbrev pub invariant-loop-k : goal.invariant-loop-k
 invariant-loop-k l = (l.k ≤ l.n) × (first (flat_map (tier_rows l.s) (from l.k (l.n - l.k))) ≡ first (flat_map (tier_rows l.s) (below l.n)))
-
-abbrev pub decreases-loop-k : goal.decreases-loop-k
-decreases-loop-k l = l.n - l.k

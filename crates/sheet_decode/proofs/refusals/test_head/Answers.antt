@@ -1,31 +1,29 @@
 -- `sheet_decode::refusals::test_head`: the head: 1, 3, 4, 5. Each return follows from the rows that passed before it.
 use mathlib.Core.Path.{◌≡◌, sym, ◌∙◌}
 use lib.ListN.{drop}
+use borrow.Author.Rules.{rules}
 use borrow.Author.Tests.{lt-ltb, le-ltb}
 use Rattle.sheet.specs.Refusals.{first, head_rows}
-use Rattle.sheet.proofs.Rows.{no_rows, row_holds, row_passed}
-use Rattle.sheet_decode.proofs.refusals.test_head.Goals.{After-head_of-h, Else-h, After-breaking_fits}
+use Rattle.sheet.proofs.Rows.{no_rows, row_holds, row_passed, behind_taken, behind_refused}
+use Rattle.sheet_decode.proofs.refusals.test_head.Goals.{Else-h, After-breaking_fits}
 use Rattle.sheet_decode.proofs.refusals.test_head.Goals as goal
 
--- the rows of the head, of which the first one, two and three have passed; `head_of` gave the head in h
-there : (c : After-head_of-h) → let rows = head_rows c.args.s.now in first rows ≡ first (drop 1 rows)
-there c = row_passed _ _ (le-ltb _ _ c.if-s-lt8.false)
-
+-- the rows of the head, of which the first two, and the first three, have passed; `head_of` gave the head in h
 ruled : (c : Else-h) → let rows = head_rows c.args.s.now in first rows ≡ first (drop 2 rows)
-ruled c = row_passed _ _ (le-ltb _ _ c.if-s-lt8.false) ∙ row_passed _ _ (simp (← c.head_of-h.ensures, c.if-h.false))
+ruled c = behind_taken _ _ (sym c.test_there.ensures.0 ∙ c.in_ok-test_there.was) ∙ row_passed _ _ (simp (← c.head_of-h.ensures, c.if-h.false))
 
 routed : (c : After-breaking_fits) → let rows = head_rows c.args.s.now in first rows ≡ first (drop 3 rows)
 routed c =
-    row_passed _ _ (le-ltb _ _ c.if-s-lt8.false)
+    behind_taken _ _ (sym c.test_there.ensures.0 ∙ c.in_ok-test_there.was)
     ∙ row_passed _ _ (simp (← c.head_of-h.ensures, c.if-h.false))
     ∙ row_passed _ _ (simp (← c.head_of-h.ensures) (le-ltb _ _ c.if-h-gt12.false))
 
-pub returns-then-s-lt8 : goal.returns-then-s-lt8
-returns-then-s-lt8 c = sym (row_holds _ _ (lt-ltb _ _ c.if-s-lt8.true))
+pub returns-in_err-test_there : goal.returns-in_err-test_there
+returns-in_err-test_there c = search rules ∙ sym (behind_refused _ _ (sym c.test_there.ensures.0 ∙ c.in_err-test_there.was))
 
 pub returns-then-h : goal.returns-then-h
 returns-then-h c =
-    sym (there (goal.at.returns-then-h c).After-head_of-h ∙ row_holds _ _ (simp (← c.head_of-h.ensures, c.if-h.true)))
+    sym (behind_taken _ _ (sym c.test_there.ensures.0 ∙ c.in_ok-test_there.was) ∙ row_holds _ _ (simp (← c.head_of-h.ensures, c.if-h.true)))
 
 pub returns-then-h-gt12 : goal.returns-then-h-gt12
 returns-then-h-gt12 c =

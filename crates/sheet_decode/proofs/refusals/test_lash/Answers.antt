@@ -4,25 +4,23 @@ use mathlib.Core.Path.{◌≡◌, sym, ap₂, ◌∙◌}
 use lib.Dec.{ltb}
 use Rattle.arith.specs.Bytes.{byte_at}
 use lib.ListN.{drop}
+use borrow.Author.Rules.{rules}
 use borrow.Author.Tests.{lt-ltb, le-ltb}
 use Rattle.sheet.specs.Refusals.{first, lash_rows, not_later}
-use Rattle.sheet.proofs.Rows.{no_rows, row_holds, row_passed}
+use Rattle.sheet.proofs.Rows.{no_rows, row_holds, row_passed, behind_taken, behind_refused}
 use Rattle.sheet_limits.proofs.Ranks.{not_later_rank}
-use Rattle.sheet_decode.proofs.refusals.test_lash.Goals.{Else-s-place, Else-not-lash_fits, Else-off_tiers, After-rank}
+use Rattle.sheet_decode.proofs.refusals.test_lash.Goals.{Else-not-lash_fits, Else-off_tiers, After-rank}
 use Rattle.sheet_decode.proofs.refusals.test_lash.Goals as goal
 
--- the rows of the lash, of which the first one, two and three have passed
-there : (c : Else-s-place) → let a = c.args in let rows = lash_rows a.n a.s.now a.at a.k in first rows ≡ first (drop 1 rows)
-there c = row_passed _ _ (le-ltb _ _ c.if-s-place.false)
-
+-- the rows of the lash, of which the first two, and the first three, have passed
 fits : (c : Else-not-lash_fits) → let a = c.args in let rows = lash_rows a.n a.s.now a.at a.k in first rows ≡ first (drop 2 rows)
 fits c =
-    row_passed _ _ (le-ltb _ _ c.if-s-place.false)
+    behind_taken _ _ (sym c.test_there.ensures.0 ∙ c.in_ok-test_there.was)
     ∙ row_passed _ _ (simp (← c.lash_of-l.ensures, ← c.lash_fits.ensures, c.if-not-lash_fits.false))
 
 on : (c : Else-off_tiers) → let a = c.args in let rows = lash_rows a.n a.s.now a.at a.k in first rows ≡ first (drop 3 rows)
 on c =
-    row_passed _ _ (le-ltb _ _ c.if-s-place.false)
+    behind_taken _ _ (sym c.test_there.ensures.0 ∙ c.in_ok-test_there.was)
     ∙ row_passed _ _ (simp (← c.lash_of-l.ensures, ← c.lash_fits.ensures, c.if-not-lash_fits.false))
     ∙ row_passed _ _ (simp (← c.lash_of-l.ensures, ← c.off_tiers.ensures, c.if-off_tiers.false))
 
@@ -37,13 +35,13 @@ ranked c =
     let bytes : (i : ℕ) → byte_at a.s.now i < 256 = λ i. (c.type_inv.s i).fits in
     not_later_rank a.s.now bytes a.at a.k ∙ ap₂ ltb (sym r) (sym c.requires.2)
 
-pub returns-then-s-place : goal.returns-then-s-place
-returns-then-s-place c = sym (row_holds _ _ (lt-ltb _ _ c.if-s-place.true))
+pub returns-in_err-test_there : goal.returns-in_err-test_there
+returns-in_err-test_there c = search rules ∙ sym (behind_refused _ _ (sym c.test_there.ensures.0 ∙ c.in_err-test_there.was))
 
 pub returns-then-not-lash_fits : goal.returns-then-not-lash_fits
 returns-then-not-lash_fits c =
     sym (
-    there (goal.at.returns-then-not-lash_fits c).Else-s-place
+    behind_taken _ _ (sym c.test_there.ensures.0 ∙ c.in_ok-test_there.was)
     ∙ row_holds _ _ (simp (← c.lash_of-l.ensures, ← c.lash_fits.ensures, c.if-not-lash_fits.true)))
 
 pub returns-then-off_tiers : goal.returns-then-off_tiers

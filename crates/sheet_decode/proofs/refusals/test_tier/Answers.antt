@@ -1,28 +1,26 @@
 -- `sheet_decode::refusals::test_tier`: a tier: 1, 7, 8. Each return follows from the rows that passed before it.
 use mathlib.Core.Path.{◌≡◌, sym, ◌∙◌}
 use lib.ListN.{drop}
-use borrow.Author.Tests.{lt-ltb, le-ltb, eq-eqb, ne_eqb}
+use borrow.Author.Rules.{rules}
+use borrow.Author.Tests.{eq-eqb, ne_eqb}
 use Rattle.sheet.specs.Refusals.{first, tier_rows}
 use Rattle.sheet.proofs.Items.{tier_size}
-use Rattle.sheet.proofs.Rows.{no_rows, row_holds, row_passed}
-use Rattle.sheet_decode.proofs.refusals.test_tier.Goals.{After-tier_of-t, Else-not-tier_fits}
+use Rattle.sheet.proofs.Rows.{no_rows, row_holds, row_passed, behind_taken, behind_refused}
+use Rattle.sheet_decode.proofs.refusals.test_tier.Goals.{Else-not-tier_fits}
 use Rattle.sheet_decode.proofs.refusals.test_tier.Goals as goal
-
-there : (c : After-tier_of-t) → let rows = tier_rows c.args.s.now c.args.k in first rows ≡ first (drop 1 rows)
-there c = row_passed _ _ (le-ltb _ _ c.if-s-at.false)
 
 fits : (c : Else-not-tier_fits) → let rows = tier_rows c.args.s.now c.args.k in first rows ≡ first (drop 2 rows)
 fits c =
-    row_passed _ _ (le-ltb _ _ c.if-s-at.false)
+    behind_taken _ _ (sym c.test_there.ensures.0 ∙ c.in_ok-test_there.was)
     ∙ row_passed _ _ (simp (← c.tier_of-t.ensures, ← c.tier_fits.ensures, c.if-not-tier_fits.false))
 
-pub returns-then-s-at : goal.returns-then-s-at
-returns-then-s-at c = sym (row_holds _ _ (lt-ltb _ _ c.if-s-at.true))
+pub returns-in_err-test_there : goal.returns-in_err-test_there
+returns-in_err-test_there c = search rules ∙ sym (behind_refused _ _ (sym c.test_there.ensures.0 ∙ c.in_err-test_there.was))
 
 pub returns-then-not-tier_fits : goal.returns-then-not-tier_fits
 returns-then-not-tier_fits c =
     sym (
-    there (goal.at.returns-then-not-tier_fits c).After-tier_of-t
+    behind_taken _ _ (sym c.test_there.ensures.0 ∙ c.in_ok-test_there.was)
     ∙ row_holds _ _ (simp (← c.tier_of-t.ensures, ← c.tier_fits.ensures, c.if-not-tier_fits.true)))
 
 pub returns-then-t-field1 : goal.returns-then-t-field1

@@ -1,9 +1,0 @@
--- `cases_springs::inside` ends, and reads within the input.
-use Prim.Native.Nat.{◌-◌, ◌≤◌}
-use Rattle.cases_springs.proofs.inside.Given as goal
-
-abbrev pub invariant-loop-i : goal.invariant-loop-i
-invariant-loop-i l = l.i ≤ l.n
-
-abbrev pub decreases-loop-i : goal.decreases-loop-i
-decreases-loop-i l = l.n - l.i
