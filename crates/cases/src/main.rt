@@ -16,19 +16,24 @@ mod space; // space.rt: the answer buffer, filled before each case
 
 ghost use Rattle.std.specs.Prelude.{◌≤◌};
 
+use case_io::Output;
 use layout::Case;
-use std::io;
-use std::io::{Read, Result, Write};
+use std::io::Result;
 
-fn main(rt: HostRuntime) -> Result<()> {
-    let mut input = Vec::new(rt.alloc());
-    rt.stdin().take(65536).read_to_end(&mut input)?;
-    let mut rest = input.as_slice();
+fn main() {
+    let mut buffer = [0u8; 65536];
+    let n = case_io::read(&mut buffer);
+    let _ = run_all(&Output, &buffer[..n]);
+}
+
+// One case after another, to the end of the input or to bytes that are none.
+fn run_all(rt: &impl Print, input: &[u8]) -> Result<()> {
+    let mut rest = input;
     while !rest.is_empty() {
         let Some(case) = layout::next(&mut rest) else {
             return println!(rt; "bad input");
         };
-        run(&rt, &case)?;
+        run(rt, &case)?;
     }
     Ok(())
 }
@@ -37,7 +42,7 @@ fn main(rt: HostRuntime) -> Result<()> {
 fn run(rt: &impl Print, case: &Case<'_>) -> Result<()>
     requires { case.now.room ≤ 1024 }
 {
-    io::writer(rt).write_all(case.name)?;
+    rt.write_all(case.name)?;
     let mut buffer = space::filled();
     let answer = &mut buffer[..case.room];
     match stack_check::check(case.sheet, answer) {

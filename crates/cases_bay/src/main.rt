@@ -10,7 +10,8 @@
 ghost use Rattle.std.specs.Prelude.{◌<◌, ◌≤◌, length, OnSome, IfSome};
 
 use arith::bytes;
-use std::io::{Read, Result};
+use case_io::Output;
+use std::io::Result;
 
 // No question asks for a longer report buffer.
 const LONGEST: usize = 20073;
@@ -24,15 +25,20 @@ struct Question<'a> {
     bay: &'a [u8],
 }
 
-fn main(rt: HostRuntime) -> Result<()> {
-    let mut input = Vec::new(rt.alloc());
-    rt.stdin().take(65536).read_to_end(&mut input)?;
-    let mut rest = input.as_slice();
+fn main() {
+    let mut buffer = [0u8; 65536];
+    let n = case_io::read(&mut buffer);
+    let _ = ask_all(&Output, &buffer[..n]);
+}
+
+// One question after another, to the end of the input or to bytes that are none.
+fn ask_all(rt: &impl Print, input: &[u8]) -> Result<()> {
+    let mut rest = input;
     while !rest.is_empty() {
         let Some(question) = next(&mut rest) else {
             return println!(rt; "bad input");
         };
-        ask(&rt, &question)?;
+        ask(rt, &question)?;
     }
     Ok(())
 }

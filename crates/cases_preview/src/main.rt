@@ -10,7 +10,8 @@
 ghost use Rattle.std.specs.Prelude.{◌≤◌, length, IfSome};
 
 use arith::bytes;
-use std::io::{Read, Result};
+use case_io::Output;
+use std::io::Result;
 
 // No move asks for a longer answer buffer.
 const LONGEST: usize = 1024;
@@ -25,14 +26,19 @@ struct Move<'a> {
     copy: &'a [u8],
 }
 
-fn main(rt: HostRuntime) -> Result<()> {
-    let mut input = Vec::new(rt.alloc());
-    rt.stdin().take(65536).read_to_end(&mut input)?;
+fn main() {
+    let mut buffer = [0u8; 65536];
+    let n = case_io::read(&mut buffer);
+    let _ = preview_all(&Output, &buffer[..n]);
+}
+
+// One move after another, to the end of the input or to bytes that are none.
+fn preview_all(rt: &impl Print, input: &[u8]) -> Result<()> {
     for bytes in input.chunks(512) {
         let Some(moved) = move_in(bytes) else {
             return println!(rt; "bad input");
         };
-        preview(&rt, &moved)?;
+        preview(rt, &moved)?;
     }
     Ok(())
 }

@@ -8,17 +8,23 @@
 ghost use Rattle.std.specs.Prelude.{◌+◌, ◌≤◌, length};
 
 use arith::bytes;
+use case_io::Output;
 use roll::Condition;
-use std::io::{Read, Result};
+use std::io::Result;
 
-fn main(rt: HostRuntime) -> Result<()> {
-    let mut input = Vec::new(rt.alloc());
-    rt.stdin().take(65536).read_to_end(&mut input)?;
+fn main() {
+    let mut buffer = [0u8; 65536];
+    let n = case_io::read(&mut buffer);
+    let _ = roll_all(&Output, &buffer[..n]);
+}
+
+// One condition after another, to the end of the input or to bytes that are none.
+fn roll_all(rt: &impl Print, input: &[u8]) -> Result<()> {
     for bytes in input.chunks(40) {
         let Some(condition) = condition_in(bytes) else {
             return println!(rt; "bad input");
         };
-        tell(&rt, condition)?;
+        tell(rt, condition)?;
     }
     Ok(())
 }

@@ -11,10 +11,11 @@ ghost use Rattle.std.specs.Prelude.{true, ◌≡◌, ◌+◌, ◌*◌, ◌≤◌
 ghost use Rattle.cases_springs.specs.Inner.Within.{Within};
 
 use arith::bytes;
+use case_io::Output;
 use springs::SpringChain;
 use springs_eliminate::eliminate;
 use springs_solve::solve;
-use std::io::{Read, Result};
+use std::io::Result;
 
 // Its count of tiers n, and five times n numbers.
 #[derive(Drop)]
@@ -23,15 +24,20 @@ struct Chain<'a> {
     numbers: &'a [u8],
 }
 
-fn main(rt: HostRuntime) -> Result<()> {
-    let mut input = Vec::new(rt.alloc());
-    rt.stdin().take(65536).read_to_end(&mut input)?;
-    let mut rest = input.as_slice();
+fn main() {
+    let mut buffer = [0u8; 65536];
+    let n = case_io::read(&mut buffer);
+    let _ = run_all(&Output, &buffer[..n]);
+}
+
+// One chain after another, to the end of the input or to bytes that are none.
+fn run_all(rt: &impl Print, input: &[u8]) -> Result<()> {
+    let mut rest = input;
     while !rest.is_empty() {
         let Some(chain) = next(&mut rest) else {
             return println!(rt; "bad input");
         };
-        run(&rt, &chain)?;
+        run(rt, &chain)?;
     }
     Ok(())
 }

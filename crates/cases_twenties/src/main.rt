@@ -9,8 +9,9 @@
 ghost use Rattle.std.specs.Prelude.{◌+◌, ◌≤◌, length, IfSome};
 
 use arith::bytes;
+use case_io::Output;
 use std::array;
-use std::io::{Read, Result};
+use std::io::Result;
 
 // A table, an acceleration and masses, of which the first `count` count.
 #[derive(Drop)]
@@ -21,14 +22,19 @@ struct Question {
     masses: [u32; 13],
 }
 
-fn main(rt: HostRuntime) -> Result<()> {
-    let mut input = Vec::new(rt.alloc());
-    rt.stdin().take(65536).read_to_end(&mut input)?;
+fn main() {
+    let mut buffer = [0u8; 65536];
+    let n = case_io::read(&mut buffer);
+    let _ = judge_all(&Output, &buffer[..n]);
+}
+
+// One question after another, to the end of the input or to bytes that are none.
+fn judge_all(rt: &impl Print, input: &[u8]) -> Result<()> {
     for bytes in input.chunks(64) {
         let Some(question) = question_in(bytes) else {
             return println!(rt; "bad input");
         };
-        judge(&rt, &question)?;
+        judge(rt, &question)?;
     }
     Ok(())
 }

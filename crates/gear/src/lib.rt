@@ -19,7 +19,10 @@ pub struct Gear {
 fn test_gear(n: u64, gear: &[u8]) -> Result<(), Refusal>
     ensures { result ≡ first (gear_rows n gear.now) }
 {
-    sheet_decode::refusals::test_end(n, gear, 0)?;
+    // Not by `?`, so that an edit can change what is handed up (must-fail/lash_offsets_from_first_lash).
+    if let Err(refusal) = sheet_decode::refusals::test_end(n, gear, 0) {
+        return Err(refusal);
+    }
     let spare = 1 + 20 * (sheet_fields::byte_at(gear, 0) as usize);
     if spare < gear.len() {
         return Err(Refusal {

@@ -66,7 +66,10 @@ pub fn check(sheet: &[u8], answer: &mut [u8]) -> Result<usize, Refusal>
     ensures named { (result ≡ returned sheet.now (length answer.old))
         × (answer.new ≡ written sheet.now answer.old) }
 {
-    sheet_decode::refusals::test_sheet(sheet)?;
+    // Not by `?`, so that an edit can change what is handed up (must-fail/refusal_without_second).
+    if let Err(refusal) = sheet_decode::refusals::test_sheet(sheet) {
+        return Err(refusal);
+    }
     let rule = load_rules::rule_of(sheet_fields::head_of(sheet));
     answer_with(sheet, sheet_fields::own_tiers(sheet), rule, answer)
 }

@@ -5,7 +5,7 @@
 mod tables; // tables.rt: the two tables
 
 ghost use Rattle.std.specs.Prelude.{◌≡◌, ◌<◌, ◌≤◌, ◌^◌, length};
-ghost use Rattle.twenties.specs.Judgements.{permitted, total, all_fit, judgement};
+ghost use Rattle.twenties.specs.Judgements.{permitted, sum, all_fit, judgement};
 
 use sheet::Refusal;
 
@@ -38,7 +38,7 @@ pub fn judge(table: u32, acceleration: u32, masses: &[u32]) -> Result<Verdict, R
             second: 0,
         });
     }
-    let total = total_above(masses);
+    let total = total_of(&masses[1..]);
     let permitted = permitted_at(table, acceleration, tiers);
     Ok(Verdict {
         yes: total <= permitted,
@@ -54,12 +54,12 @@ fn all_fit(masses: &[u32]) -> bool
     masses.iter().all(|mass| 1 <= *mass && *mass <= 30480)
 }
 
-// The total of all tiers but the lowest.
-fn total_above(masses: &[u32]) -> u64
+// The total of these boxes.
+fn total_of(masses: &[u32]) -> u64
     requires { length masses.now ≤ 11 }
-    ensures { result ≡ total masses.now }
+    ensures { result ≡ sum masses.now }
 {
-    masses.iter().skip(1).map(|mass| wide(*mass)).sum()
+    masses.iter().map(|mass| wide(*mass)).sum()
 }
 
 fn wide(x: u32) -> u64
